@@ -1,0 +1,13 @@
+pub mod Unique
+pub mod Tests
+pub mod Keep
+pub mod Some
+pub mod Apart
+pub mod Slices
+pub mod Fill
+pub mod Search
+pub mod Filter
+pub mod Copy
+pub mod Places
+pub mod Chains
+pub mod Parts

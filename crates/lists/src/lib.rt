@@ -1,0 +1,1 @@
+// Laws over lists of anything: no code.

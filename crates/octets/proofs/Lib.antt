@@ -1,0 +1,12 @@
+pub mod Packed
+pub mod Chain
+pub mod Got
+pub mod Stood
+pub mod Writing
+pub mod OneFound
+pub mod Determined
+pub mod Back
+pub mod Again
+pub mod Different
+pub mod ManyLaws
+pub mod ExamplesHold

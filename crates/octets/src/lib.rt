@@ -1,0 +1,398 @@
+// The fields of aligned PER, read and written. Knows nothing of M3AP.
+// A reader takes the octets of what encloses it, from the front of the message, and a place; so places are absolute.
+// A packed field begins b bits behind the first bit of the octet at a place; b counts within that octet, so 8 is 0 again.
+ghost use mathlib.Core.Path.{_≡_};
+ghost use mathlib.Core.List.{_∷_, []};
+ghost use Prim.Native.Nat.{min, _<_, _%_, _^_};
+ghost use lib.ListN.{length};
+ghost use lib.Bits.{bitOr};
+ghost use lib.Seq.{slice};
+ghost use Rattle.octets.specs.Read.{cutShort, noMeaning, leftOver, extended};
+ghost use Rattle.octets.specs.Found.{foundGate, foundFlag, foundOctet, foundTwo, foundThree, foundLength, foundOpen};
+ghost use Rattle.octets.specs.Field.{bitsOf, flagAt, plainAt, choiceAt, padAt, numberAt, stringAt, sameAt, lengthAt, longLengthAt, openAt, endsAt};
+ghost use Rattle.octets.specs.Write.{placed, numberOctets, lengthOctets, Wrote};
+
+// Where a field at fault begins, counted from the first octet handed in.
+pub struct Place {
+    pub octet: usize,
+}
+
+// Why reading stops: octets that are no encoding, or an extension; and where.
+pub enum Stop {
+    Fault(Place),
+    Extension(Place),
+}
+
+// What a reader answers: what it read, or why and where it stopped.
+pub enum Gate {
+    Pass,
+    Stop(Stop),
+}
+
+pub enum Flag {
+    Is(bool),
+    Stop(Stop),
+}
+
+pub enum Octet {
+    Is(u8),
+    Stop(Stop),
+}
+
+pub enum Two {
+    Is(u16),
+    Stop(Stop),
+}
+
+pub struct Octets3(pub u8, pub u8, pub u8);
+
+pub enum Three {
+    Is(Octets3),
+    Stop(Stop),
+}
+
+// A number, and the place behind the octets that say it.
+pub struct Counted {
+    pub count: usize,
+    pub next: usize,
+}
+
+pub enum Length {
+    Is(Counted),
+    Stop(Stop),
+}
+
+// Where octets begin and end.
+pub struct Span {
+    pub from: usize,
+    pub to: usize,
+}
+
+pub enum Open {
+    Is(Span),
+    Stop(Stop),
+}
+
+// The places of faults are decided by these four and nowhere else.
+
+// The octets end inside the field that begins here.
+fn cut_short(at: usize) -> Stop
+    ensures { λ r. ⌜ r ≡ cutShort at ⌝ }
+{
+    Stop::Fault(Place { octet: at })
+}
+
+// What the field that begins here holds has no meaning.
+fn no_meaning(at: usize) -> Stop
+    ensures { λ r. ⌜ r ≡ noMeaning at ⌝ }
+{
+    Stop::Fault(Place { octet: at })
+}
+
+// Octets are left over from here on.
+fn left_over(at: usize) -> Stop
+    ensures { λ r. ⌜ r ≡ leftOver at ⌝ }
+{
+    Stop::Fault(Place { octet: at })
+}
+
+// An extension, or one that is said to be present, at the field that begins here.
+fn extended_here(at: usize) -> Stop
+    ensures { λ r. ⌜ r ≡ extended at ⌝ }
+{
+    Stop::Extension(Place { octet: at })
+}
+
+fn wide(x: u8) -> usize
+    ensures { λ r. ⌜ r ≡ x ⌝ }
+{
+    x as usize
+}
+
+fn wide16(x: u8) -> u16
+    ensures { λ r. ⌜ r ≡ x ⌝ }
+{
+    x as u16
+}
+
+// The w bits of an octet behind its first b, for any b and w.
+pub fn bits(x: u8, b: u8, w: u8) -> u8
+    ensures { λ r. ⌜ r ≡ bitsOf x b w ⌝ }
+{
+    let k = b % 8;
+    if w == 0 {
+        return 0;
+    }
+    if 8 - k <= w {
+        return low(x, w);
+    }
+    (x >> (8 - (k + w))) & (255 >> (8 - w))
+}
+
+// The lowest w bits.
+fn low(x: u8, w: u8) -> u8
+    requires { ⌜ 0 < w ⌝ }
+    ensures { λ r. ⌜ r ≡ x % 2 ^ w ⌝ }
+{
+    if 8 <= w {
+        return x;
+    }
+    x & (255 >> (8 - w))
+}
+
+// v in the w bits of an octet behind its first b.
+fn place_bits(b: u8, w: u8, v: u8) -> u8
+    ensures { λ r. ⌜ r ≡ placed b w v ⌝ }
+{
+    let k = b % 8;
+    if w == 0 {
+        return 0;
+    }
+    if 8 - k <= w {
+        return low(v, w);
+    }
+    low(v, w) << (8 - (k + w))
+}
+
+// An octet with v put in behind its first b bits, where it has none set.
+pub fn with_bits(x: u8, b: u8, w: u8, v: u8) -> u8
+    ensures { λ r. ⌜ r ≡ bitOr x (placed b w v) ⌝ }
+{
+    x | place_bits(b, w, v)
+}
+
+// A bit that says yes or no.
+pub fn flag_at(s: &[u8], at: usize, b: u8) -> Flag
+    ensures { λ r. ⌜ foundFlag r ≡ flagAt (now (s .entry)) at b ⌝ }
+{
+    if s.len() <= at {
+        return Flag::Stop(cut_short(at));
+    }
+    Flag::Is(bits(s[at], b, 1) == 1)
+}
+
+// An extension bit, or one that says that extensions are present.
+pub fn plain_at(s: &[u8], at: usize, b: u8) -> Gate
+    ensures { λ r. ⌜ foundGate r ≡ plainAt (now (s .entry)) at b ⌝ }
+{
+    if s.len() <= at {
+        return Gate::Stop(cut_short(at));
+    }
+    if bits(s[at], b, 1) == 0 {
+        return Gate::Pass;
+    }
+    Gate::Stop(extended_here(at))
+}
+
+// A number of w bits with n meanings.
+pub fn choice_at(n: u8, w: u8, s: &[u8], at: usize, b: u8) -> Octet
+    ensures { λ r. ⌜ foundOctet r ≡ choiceAt n w (now (s .entry)) at b ⌝ }
+{
+    if s.len() <= at {
+        return Octet::Stop(cut_short(at));
+    }
+    let v = bits(s[at], b, w);
+    if v < n {
+        return Octet::Is(v);
+    }
+    Octet::Stop(no_meaning(at))
+}
+
+// The bits of an octet behind its first b are pad; there are none where b is at an octet's begin.
+pub fn pad_at(s: &[u8], at: usize, b: u8) -> Gate
+    ensures { λ r. ⌜ foundGate r ≡ padAt (now (s .entry)) at b ⌝ }
+{
+    if b % 8 == 0 {
+        return Gate::Pass;
+    }
+    if s.len() <= at {
+        return Gate::Stop(cut_short(at));
+    }
+    if bits(s[at], b, 8 - b % 8) == 0 {
+        return Gate::Pass;
+    }
+    Gate::Stop(no_meaning(at))
+}
+
+// A number of one octet.
+pub fn octet_at(s: &[u8], at: usize) -> Octet
+    ensures { λ r. ⌜ foundOctet r ≡ numberAt 1 (now (s .entry)) at ⌝ }
+{
+    if s.len() <= at {
+        return Octet::Stop(cut_short(at));
+    }
+    Octet::Is(s[at])
+}
+
+// A number of two octets, the high one first.
+pub fn two_at(s: &[u8], at: usize) -> Two
+    ensures { λ r. ⌜ foundTwo r ≡ numberAt 2 (now (s .entry)) at ⌝ }
+{
+    if s.len() <= at {
+        return Two::Stop(cut_short(at));
+    }
+    if s.len() - at < 2 {
+        return Two::Stop(cut_short(at));
+    }
+    Two::Is((wide16(s[at]) << 8) | wide16(s[at + 1]))
+}
+
+// Three octets as they are.
+pub fn three_at(s: &[u8], at: usize) -> Three
+    ensures { λ r. ⌜ foundThree r ≡ stringAt 3 (now (s .entry)) at ⌝ }
+{
+    if s.len() <= at {
+        return Three::Stop(cut_short(at));
+    }
+    if s.len() - at < 3 {
+        return Three::Stop(cut_short(at));
+    }
+    Three::Is(Octets3(s[at], s[at + 1], s[at + 2]))
+}
+
+// Two octets that have to say v.
+pub fn same_at(v: u16, s: &[u8], at: usize) -> Gate
+    ensures { λ r. ⌜ foundGate r ≡ sameAt v (now (s .entry)) at ⌝ }
+{
+    match two_at(s, at) {
+        Two::Is(k) => {
+            if k == v {
+                return Gate::Pass;
+            }
+            Gate::Stop(no_meaning(at))
+        }
+        Two::Stop(x) => Gate::Stop(x),
+    }
+}
+
+// A length in two octets, whose first has top bits 10.
+fn long_at(s: &[u8], at: usize) -> Length
+    requires { ⌜ at < length (now s) ⌝ }
+    ensures { λ r. ⌜ foundLength r ≡ longLengthAt (now (s .entry)) at ⌝ }
+{
+    if s.len() - at < 2 {
+        return Length::Stop(cut_short(at));
+    }
+    let count = (wide(bits(s[at], 2, 6)) << 8) | wide(s[at + 1]);
+    if count < 128 {
+        return Length::Stop(no_meaning(at));
+    }
+    Length::Is(Counted {
+        count: count,
+        next: at + 2,
+    })
+}
+
+// A length of 0 to 16,383, in the shortest form.
+pub fn length_at(s: &[u8], at: usize) -> Length
+    ensures { λ r. ⌜ foundLength r ≡ lengthAt (now (s .entry)) at ⌝ }
+{
+    if s.len() <= at {
+        return Length::Stop(cut_short(at));
+    }
+    let x = s[at];
+    if bits(x, 0, 1) == 0 {
+        return Length::Is(Counted {
+            count: wide(x),
+            next: at + 1,
+        });
+    }
+    if bits(x, 0, 2) == 3 {
+        return Length::Stop(no_meaning(at));
+    }
+    long_at(s, at)
+}
+
+// A length, and the octets that it counts: at least one, and none past the end.
+pub fn open_at(s: &[u8], at: usize) -> Open
+    ensures { λ r. ⌜ foundOpen r ≡ openAt (now (s .entry)) at ⌝ }
+{
+    match length_at(s, at) {
+        Length::Is(n) => {
+            let count = n.count;
+            let from = n.next;
+            if count == 0 {
+                return Open::Stop(no_meaning(at));
+            }
+            if s.len() - from < count {
+                return Open::Stop(no_meaning(at));
+            }
+            Open::Is(Span {
+                from: from,
+                to: from + count,
+            })
+        }
+        Length::Stop(x) => Open::Stop(x),
+    }
+}
+
+// A value ends here: octets left over are a fault at their first.
+pub fn ends_at(s: &[u8], at: usize) -> Gate
+    ensures { λ r. ⌜ foundGate r ≡ endsAt (now (s .entry)) at ⌝ }
+{
+    if at < s.len() {
+        return Gate::Stop(left_over(at));
+    }
+    Gate::Pass
+}
+
+// Writers put octets into lent room from a place on, as far as it goes, and hand back the place behind them.
+
+pub fn put_octet(room: &mut [u8], at: usize, v: u8) -> usize
+    ensures { λ r. ⌜ Wrote (now (room .entry)) at (v ∷ []) (now (room .exit)) r ⌝ }
+{
+    if at < room.len() {
+        room[at] = v;
+        return at + 1;
+    }
+    room.len()
+}
+
+// A place, or the room's end where that comes before it.
+fn place_in(at: usize, room: usize) -> usize
+    ensures { λ r. ⌜ r ≡ min at room ⌝ }
+{
+    if at < room {
+        return at;
+    }
+    room
+}
+
+// A number in two octets, the high one first.
+pub fn put_two(room: &mut [u8], at: usize, v: u16) -> usize
+    ensures { λ r. ⌜ Wrote (now (room .entry)) at (numberOctets 2 v) (now (room .exit)) r ⌝ }
+{
+    let next = put_octet(room, at, (v / 256) as u8);
+    put_octet(room, next, (v % 256) as u8)
+}
+
+// A length, in the shortest form; nothing for one over 16,383.
+pub fn put_length(room: &mut [u8], at: usize, n: usize) -> usize
+    ensures { λ r. ⌜ Wrote (now (room .entry)) at (lengthOctets n) (now (room .exit)) r ⌝ }
+{
+    if n < 128 {
+        return put_octet(room, at, n as u8);
+    }
+    if 16384 <= n {
+        return place_in(at, room.len());
+    }
+    let top = with_bits(with_bits(0, 0, 2, 2), 2, 6, (n / 256) as u8);
+    let next = put_octet(room, at, top);
+    put_octet(room, next, (n % 256) as u8)
+}
+
+// The octets of s from a place up to another.
+pub fn put_part(room: &mut [u8], at: usize, s: &[u8], from: usize, to: usize) -> usize
+    ensures { λ r. ⌜ Wrote (now (room .entry)) at (slice from to (now (s .entry))) (now (room .exit)) r ⌝ }
+{
+    let mut next = place_in(at, room.len());
+    let mut i = from;
+    while i < to {
+        if s.len() <= i {
+            return next;
+        }
+        next = put_octet(room, next, s[i]);
+        i += 1;
+    }
+    next
+}
