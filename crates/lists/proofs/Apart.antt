@@ -1,5 +1,5 @@
 -- No two elements alike.
-use mathlib.Core.Path.{_≡_, refl, ap, sym, _∙_}
+use mathlib.Core.Path.{_≡_, refl}
 use mathlib.Core.Bool.{Bool, true, false, not, _&&_, _||_, and-false}
 use mathlib.Core.List.{List, [], _∷_, _++_, map}
 use Rattle.lists.specs.Lists.{pick, keep, some, apart}

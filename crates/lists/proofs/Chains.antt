@@ -7,7 +7,7 @@ use native.Mathlib.Numerals.{add-one}
 use native.Mathlib.Omega.{arith}
 use borrow.Author.Tests.{eqb-true, eqb-false, ne-eqb}
 use lib.Dec.{eqb}
-use lib.ListN.{length, length-set, length-replicate, getD, getD-replicate, set, replicate}
+use lib.ListN.{length-set, length-replicate, getD, getD-replicate, set, replicate}
 use lib.Seq.{getD-set-same, getD-set-other}
 use Rattle.lists.specs.Lists.{pick, upto}
 use Rattle.lists.specs.Chains.{lastIn, Chained}
@@ -34,7 +34,7 @@ module _ (slot : ℕ → ℕ) (h : ℕ) where
 
   -- behind it, nothing passes
   last-some : (p : ℕ → Bool) → ((j : ℕ) → p j ≡ true → slot j ≡ h) → (i : ℕ) → upto p (lastIn slot h i) ≡ upto p i
-  unfolding lastIn
+  unfolding lastIn upto
   last-some p only zero = refl
   last-some p only (suc i) = step (eqb (slot i) h) refl (p i) refl (last-some p only i)
     where
@@ -108,6 +108,7 @@ module _ {slot : ℕ → ℕ} {s m : ℕ} {head next : List ℕ} {n : ℕ} (g : 
 
   module _ {k : ℕ} (w : Walk slot p h n k) where
     pub walk-all : k ≤ 0 → upto p n ≡ false
+    unfolding upto
     walk-all z = let e : k ≡ 0 = omega arith in sym (w .rest) ∙ ap (upto p) e
 
     module _ (c : 0 < k) where
@@ -119,12 +120,14 @@ module _ {slot : ℕ → ℕ} {s m : ℕ} {head next : List ℕ} {n : ℕ} (g : 
       walk-at = last-in slot h (w .from) (k - 1) (sym (w .at) ∙ back)
 
       pub walk-found : p (k - 1) ≡ true → upto p n ≡ true
+      unfolding upto
       walk-found e = sym (w .rest) ∙ ap (upto p) back ∙ rw e
 
       before : getD next (k - 1) 0 ≡ lastIn slot h (k - 1)
       before = g .link (k - 1) (omega (arith, w .within)) (rw walk-at b) ∙ ap (λ (x : ℕ). lastIn slot x (k - 1)) walk-at
 
       pub walk-more : p (k - 1) ≡ false → Walk slot p h n (getD next (k - 1) 0)
+      unfolding upto
       walk-more e = record {
         from = k - 1;
         at = before;

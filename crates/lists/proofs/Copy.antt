@@ -4,7 +4,7 @@ use mathlib.Core.List.{List, [], _∷_, _++_, map}
 use Prim.Native.Nat.{ℕ, _+_, _≤_, _<_}
 use native.Mathlib.Omega.{arith}
 use lib.ListN.{length, length-map, take, getD, set}
-use lib.Seq.{length-take-le}
+use lib.Seq.{length-take-le, take-at}
 use Rattle.lists.specs.Lists.{fill}
 use Rattle.lists.proofs.Slices.{take-next}
 use Rattle.lists.proofs.Fill.{fill-more}
@@ -33,3 +33,8 @@ module _ {A B : Type 0} {f : A → B} {d : B} {m : ℕ} {l : List A} {n : ℕ} w
 
     pub copied-all : n ≤ i → out ≡ fill d m (map f (take n l))
     copied-all h = let e : n ≡ i = omega (arith, s .within) in rw e (s .array)
+
+    pub copied-front : n ≤ i → n ≤ length l → take n out ≡ map f (take n l)
+    copied-front h b =
+        let k : length (map f (take n l)) ≡ n = length-map (take n l) f ∙ length-take-le n l b in
+        rw (copied-all h) (take-at (map f (take n l)) _ n k)

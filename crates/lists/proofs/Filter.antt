@@ -1,10 +1,10 @@
 -- A filter into a fresh array of m: of the first i elements, of those up to n, what passes stands in its first k places, and d behind.
-use mathlib.Core.Path.{_≡_, refl, ap, sym, _∙_}
+use mathlib.Core.Path.{_≡_, refl, _∙_}
 use mathlib.Core.Bool.{Bool, true, false}
 use mathlib.Core.List.{List, [], _∷_, _++_, append-nil}
-use Prim.Native.Nat.{ℕ, suc, _+_, _≤_, _<_}
+use Prim.Native.Nat.{ℕ, _+_, _≤_, _<_}
 use native.Mathlib.Omega.{arith}
-use lib.ListN.{length, length-append, take, getD, set, replicate}
+use lib.ListN.{length, length-append, take, getD, set}
 use Rattle.lists.specs.Lists.{pick, keep, fill}
 use Rattle.lists.proofs.Keep.{keep-append}
 use Rattle.lists.proofs.Slices.{take-next}

@@ -1,6 +1,5 @@
 -- Places in slots, chained: each names the one before it in the same slot. A place is named by one more than itself, and 0 names none.
 use mathlib.Core.Path.{_≡_}
-use mathlib.Core.Bool.{Bool}
 use mathlib.Core.List.{List}
 use Prim.Native.Nat.{ℕ, zero, suc, _<_}
 use lib.Dec.{eqb}

@@ -30,6 +30,6 @@ module _ {A : Type 0} where
   fill d n l = l ++ replicate (n - length l) d
 
 -- some number below n passes the test
-abbrev pub upto : (ℕ → Bool) → ℕ → Bool
+unfoldable pub upto : (ℕ → Bool) → ℕ → Bool
 upto p zero = false
 upto p (suc n) = p n || upto p n

@@ -1,0 +1,12 @@
+pub mod Bounds
+pub mod ByGate
+pub mod Determined
+pub mod ExamplesHold
+pub mod Fields
+pub mod HeadBack
+pub mod HeadAgain
+pub mod EntriesBack
+pub mod EntriesAgain
+pub mod Back
+pub mod Again
+pub mod Different

@@ -1,0 +1,4 @@
+pub mod Diagnostics
+pub mod Found
+pub mod Written
+pub mod Examples

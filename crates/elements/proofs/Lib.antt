@@ -1,0 +1,4 @@
+pub mod TableLaws
+pub mod NoteLaws
+pub mod WalkLaws
+pub mod Determined

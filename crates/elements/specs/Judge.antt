@@ -1,0 +1,93 @@
+-- Judging elements, over any table.
+use Prim.Native.Nat.{ℕ, _+_}
+use mathlib.Core.Bool.{Bool, true, false, not, _&&_}
+use mathlib.Core.List.{List, [], _∷_, _++_}
+use lib.Dec.{ltb, eqb}
+use lib.ListN.{length, set, take, replicate}
+use Rattle.lists.specs.Lists.{pick, some, fill}
+use Rattle.octets.specs.Read.{Read, got, stop, _>>=_, _>>_}
+use Rattle.octets.specs.declared.Gate.the-variants as gate
+use Rattle.octets.specs.declared.Span.{Span}
+use Rattle.diagnostics.specs.declared.Entry.{Entry}
+use Rattle.diagnostics.specs.Diagnostics.{emptyEntry}
+use Rattle.elements.specs.declared.Row.{Row}
+use Rattle.elements.specs.declared.Head.{Head}
+use Rattle.elements.specs.declared.Noted.{Noted}
+use Rattle.elements.specs.declared.Judged.{Judged}
+use Rattle.elements.specs.Table.{find, known}
+use Rattle.elements.specs.Envelope.{scanAt, headsAt}
+
+-- The elements before the first known one that is out of order or repeated; row is the first row that may still come.
+unfoldable pub front : List Row → ℕ → List Head → List Head
+front t row [] = []
+front t row (h ∷ hs) =
+    pick (known t (h .id))
+    (pick (ltb (find (h .id) t) row) [] (h ∷ front t (find (h .id) t + 1) hs))
+    (h ∷ front t row hs)
+
+abbrev pub noSpan : Span
+noSpan = record { from = 0; to = 0 }
+
+-- the value of each known element, at its row; an unknown one has no row, and is stored behind the last, which is nowhere
+unfoldable pub readInto : List Row → List Span → List Head → List Span
+readInto t l [] = l
+readInto t l (h ∷ hs) = readInto t (set l (find (h .id) t) (h .value)) hs
+
+abbrev pub readOf : List Row → List Head → List Span
+readOf t hs = readInto t (replicate (length t) noSpan) hs
+
+-- criticality ignore is never listed
+abbrev pub ignored : ℕ → Bool
+ignored crit = eqb crit 1
+
+-- an unknown element of reject or notify is listed as not understood
+abbrev pub unknownEntry : List Row → Head → List Entry
+unknownEntry t h = pick (known t (h .id)) [] (pick (ignored (h .crit)) [] (record { crit = h .crit; id = h .id; error = 0 } ∷ []))
+
+unfoldable pub unknownOf : List Row → List Head → List Entry
+unknownOf t [] = []
+unknownOf t (h ∷ hs) = unknownEntry t h ++ unknownOf t hs
+
+-- a value was read for the row
+abbrev pub present : Span → Bool
+present v = ltb 0 (v .to)
+
+-- a mandatory row of reject or notify without a value is listed as missing
+abbrev pub missingEntry : Row → Span → List Entry
+missingEntry r v = pick (present v) [] (pick (r .mandatory) (pick (ignored (r .crit)) [] (record { crit = r .crit; id = r .id; error = 1 } ∷ [])) [])
+
+unfoldable pub missingOf : List Row → List Span → List Entry
+missingOf [] l = []
+missingOf (r ∷ t) [] = []
+missingOf (r ∷ t) (v ∷ l) = missingEntry r v ++ missingOf t l
+
+-- the first 256 are listed; criticality reject anywhere rejects
+unfoldable pub noted : List Entry → Noted
+noted es = record { rows = fill emptyEntry 256 (take 256 es); count = length (take 256 es); reject = some (λ (e : Entry). eqb (e .crit) 0) es }
+
+-- what the judging finds
+pub record Found : Type 0 where
+  pub place : ℕ
+  pub spans : List Span
+  pub listed : List Entry
+
+-- Only what stands before the place counts as read or as unknown; nothing counts as missing where that is not all.
+unfoldable pub judgedOf : List Row → ℕ → List Head → Found
+judgedOf t n hs =
+    let f : List Head = front t 0 hs in
+    record {
+      place = length f;
+      spans = readOf t f;
+      listed = unknownOf t f ++ pick (eqb (length f) n) (missingOf t (readOf t f)) [];
+    }
+
+-- n elements: faults anywhere come before the judging
+unfoldable pub elementsAt : List Row → List ℕ → ℕ → ℕ → Read Found
+elementsAt t s n at = do
+  scanAt t s n at
+  got (judgedOf t n (headsAt s n at))
+
+-- as the code answers: spans in an array of 12, the list noted
+abbrev pub judgedBy : Read Found → Judged
+judgedBy (got f) = record { gate = gate.Pass; place = f .place; spans = fill noSpan 12 (f .spans); noted = noted (f .listed) }
+judgedBy (stop x) = record { gate = gate.Stop x; place = 0; spans = fill noSpan 12 []; noted = noted [] }

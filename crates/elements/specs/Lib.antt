@@ -1,0 +1,4 @@
+pub mod Table
+pub mod Envelope
+pub mod Judge
+pub mod Steps

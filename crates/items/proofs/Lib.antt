@@ -1,0 +1,4 @@
+pub mod Inside
+pub mod Gathered
+pub mod Answers
+pub mod Determined

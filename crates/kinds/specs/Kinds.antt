@@ -1,0 +1,20 @@
+-- A value by its kind: it can be read, or why not. What is carried is not read.
+use Prim.Native.Nat.{ℕ}
+use mathlib.Core.List.{List}
+use Rattle.octets.specs.Read.{Read, got, _>>_}
+use Rattle.values.specs.Values.{mmeAt, mceAt, tmgiAt, sessionAt, causeAt}
+use Rattle.items.specs.Items.{itemsAt, resetAt}
+use Rattle.diagnostics.specs.Diagnostics.{diagnosticsAt}
+use Rattle.kinds.specs.declared.Kind.{Kind}
+use Rattle.kinds.specs.declared.Kind.the-variants.{Carried, Mme, Mce, Tmgi, Session, Cause, ResetType, Acknowledged, Diagnostics}
+
+unfoldable pub valueAt : Kind → List ℕ → ℕ → Read Unit
+valueAt Carried s at = got tt
+valueAt Mme s at = mmeAt s at >> got tt
+valueAt Mce s at = mceAt s at >> got tt
+valueAt Tmgi s at = tmgiAt s at >> got tt
+valueAt Session s at = sessionAt s at >> got tt
+valueAt Cause s at = causeAt s at >> got tt
+valueAt ResetType s at = resetAt s at >> got tt
+valueAt Acknowledged s at = itemsAt s at >> got tt
+valueAt Diagnostics s at = diagnosticsAt s at >> got tt

@@ -1,0 +1,66 @@
+-- How the items of a reset are chained by identity, so that each association meets few of them. What a reset means is `without`.
+use mathlib.Core.Bool.{Bool, _&&_, _||_}
+use mathlib.Core.List.{List, map}
+use Prim.Native.Nat.{ℕ, _+_, _%_}
+use lib.Dec.{eqb}
+use lib.ListN.{getD}
+use Rattle.lists.specs.Lists.{pick, fill, upto}
+use Rattle.lists.specs.Chains.{Chained}
+use Rattle.identity.specs.declared.Mme.{Mme}
+use Rattle.identity.specs.declared.Mme.the-variants as mme
+use Rattle.identity.specs.declared.Mce.{Mce}
+use Rattle.identity.specs.declared.Mce.the-variants as mce
+use Rattle.identity.specs.declared.Item.{Item}
+use Rattle.table.specs.declared.Association.{Association}
+
+-- an identity as a number: one more than its figure, 0 where it is absent
+abbrev pub mmeNumber : Mme → ℕ
+mmeNumber (mme.Is m) = m .0 + 1
+mmeNumber mme.Absent = 0
+
+abbrev pub mceNumber : Mce → ℕ
+mceNumber (mce.Is c) = c .0 + 1
+mceNumber mce.Absent = 0
+
+-- the two numbers of an item
+abbrev pub mmeOf : Item → ℕ
+mmeOf i = mmeNumber (i .mme)
+
+abbrev pub mceOf : Item → ℕ
+mceOf i = mceNumber (i .mce)
+
+-- the array of the numbers of one series
+abbrev pub numbersOf : (Item → ℕ) → List Item → List ℕ
+numbersOf number is = fill 0 256 (map number is)
+
+-- an item is chained by its MME identity, else by its MCE identity; 2,048 is no slot
+unfoldable pub slotOf : ℕ → ℕ → ℕ
+slotOf m c = pick (eqb m 0) (pick (eqb c 0) 2048 (1024 + c % 1024)) (m % 1024)
+
+-- the slot of the numbers at a place
+abbrev pub slotAt : List ℕ → List ℕ → ℕ → ℕ
+slotAt ms cs j = slotOf (getD ms j 0) (getD cs j 0)
+
+-- an absent identity agrees with any
+abbrev pub agree : ℕ → ℕ → Bool
+agree x y = eqb x 0 || eqb x y
+
+-- an item with the numbers x and y is in the slot, and agrees with the two identities of an association
+abbrev pub meets : ℕ → ℕ → ℕ → ℕ → ℕ → Bool
+meets h m c x y = eqb (slotOf x y) h && (agree x m && agree y c)
+
+-- an association looks in the slots of both
+abbrev pub meetsEither : ℕ → ℕ → ℕ → ℕ → Bool
+meetsEither m c x y = meets (slotOf m 0) m c x y || meets (slotOf 0 c) m c x y
+
+-- the numbers at some of the 256 places do so
+abbrev pub met : (ℕ → ℕ → Bool) → List ℕ → List ℕ → Bool
+met test ms cs = upto (λ (j : ℕ). test (getD ms j 0) (getD cs j 0)) 256
+
+-- some item names the association, told by numbers
+abbrev pub namedAmong : List ℕ → List ℕ → Association → Bool
+namedAmong ms cs a = met (meetsEither (a .mme .0 + 1) (a .mce .0 + 1)) ms cs
+
+-- all 256 places are chained
+pub record Slotted (ms cs head next : List ℕ) : Type 0 where
+  pub chained : Chained (slotAt ms cs) 2048 256 head next 256

@@ -1,0 +1,93 @@
+-- A filter into the empty table: of the rows passed, those that the item does not name stand in its front.
+use mathlib.Core.Path.{_≡_, ap, sym, _∙_}
+use mathlib.Core.Bool.{not}
+use Prim.Native.Nat.{_-_}
+use native.Mathlib.Omega.{arith}
+use borrow.Author.Needs.{needs}
+use lib.ListN.{length}
+use Rattle.lists.proofs.Slices.{length-of}
+use Rattle.lists.proofs.Filter.{Kept, kept-none, kept-one, kept-not}
+use Rattle.table.specs.Table.{emptyAssociation, names}
+use Rattle.table.specs.declared.Association.{Association}
+use Rattle.table.proofs.Rows.{table-kept}
+use Rattle.table.proofs.without_one.Statement.{statement}
+use Rattle.table.proofs.without_one.Tie as tie
+
+abbrev Inv-loop : tie.InvT-loop
+Inv-loop item t n out₀ k₀ i₀ out k i = Kept emptyAssociation 256 (λ (a : Association). not (names item a)) (t .rows) n (out .rows) k i
+
+abbrev μ-loop : tie.MeasureT-loop
+μ-loop item t n out₀ k₀ i₀ out k i = n - i
+
+within-requires : tie.Need-within-requires Inv-loop μ-loop
+within-requires c κs = search needs
+
+empty-requires : tie.Need-empty-requires Inv-loop μ-loop
+empty-requires c κs = search needs
+
+loop-holds : tie.Need-loop-holds Inv-loop μ-loop
+loop-holds c = rw (c .empty .ensures) kept-none
+
+mul-a : tie.Need-mul-a Inv-loop μ-loop
+mul-a c = search needs
+
+element-copy-out-a : tie.Need-element-copy-out-a Inv-loop μ-loop
+element-copy-out-a c = search needs
+
+add-i : tie.Need-add-i Inv-loop μ-loop
+add-i c = search needs
+
+names-requires : tie.Need-names-requires Inv-loop μ-loop
+names-requires c κs = search needs
+
+mul-a-2 : tie.Need-mul-a-2 Inv-loop μ-loop
+mul-a-2 c = omega arith
+
+element-set-from-a : tie.Need-element-set-from-a Inv-loop μ-loop
+element-set-from-a c = omega arith
+
+add-k : tie.Need-add-k Inv-loop μ-loop
+add-k c = omega arith
+
+loop-less : tie.Need-loop-less Inv-loop μ-loop
+loop-less c = search needs
+
+loop-again : tie.Need-loop-again Inv-loop μ-loop
+loop-again c =
+    let b : length (c .before .before .before .before .before .before .before .args .t1 .rows) ≡ 256 = search (needs, length-of) in
+    kept-one (c .before .before .before .before .loop .inv) (omega arith) (omega arith) _ (omega arith) (ap not (sym (c .before .names .ensures)) ∙ c .if1 .taken)
+
+loop-less-2 : tie.Need-loop-less-2 Inv-loop μ-loop
+loop-less-2 c = search needs
+
+loop-again-2 : tie.Need-loop-again-2 Inv-loop μ-loop
+loop-again-2 c =
+    let b : length (c .before .before .before .before .before .before .before .args .t1 .rows) ≡ 256 = search (needs, length-of) in
+    kept-not (c .before .before .before .before .loop .inv) (omega arith) (omega arith) _ (ap not (sym (c .before .names .ensures)) ∙ c .if1 .left)
+
+returns : tie.Need-returns Inv-loop μ-loop
+returns c =
+    let b : length (c .before .before .before .before .args .t1 .rows) ≡ 256 = search (needs, length-of) in
+    table-kept (c .before .before .before .before .args .t1) b (c .before .before .before .within .ensures) (c .before .loop .inv) (c .loop-test .left)
+
+pub without-one-spec : {M : Type 1} → statement M
+without-one-spec =
+    tie.close
+    (tie.spec
+    Inv-loop
+    μ-loop
+    within-requires
+    empty-requires
+    loop-holds
+    mul-a
+    element-copy-out-a
+    add-i
+    names-requires
+    mul-a-2
+    element-set-from-a
+    add-k
+    loop-less
+    loop-again
+    loop-less-2
+    loop-again-2
+    returns)

@@ -1,0 +1,14 @@
+-- For each public function: any two results that its statement allows are equal.
+-- Assumes nothing.
+use mathlib.Core.Path.{_≡_, refl}
+use Rattle.lists.proofs.Unique.{Determined, _same_, _&_}
+use Rattle.tables.proofs.rows_of.Kinds as rows-of'
+use Rattle.tables.proofs.rows_of.Reads as rows-of
+use Rattle.tables.proofs.message_of.Kinds as message-of'
+use Rattle.tables.proofs.message_of.Reads as message-of
+
+pub rows-of-is : Determined rows-of'.ps rows-of'.r rows-of.Asked rows-of.Learnt
+rows-of-is κs a p x y e f = (e same f) & refl
+
+pub message-of-is : Determined message-of'.ps message-of'.r message-of.Asked message-of.Learnt
+message-of-is κs a p x y e f = (e same f) & refl

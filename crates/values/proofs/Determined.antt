@@ -1,0 +1,30 @@
+-- For each public function: any two results that its statement allows are equal.
+-- Assumes nothing.
+use mathlib.Core.Path.{refl}
+use Rattle.lists.proofs.Unique.{Determined, _same_, _&_}
+use Rattle.values.proofs.OneFound.{one-mme, one-mce, one-session, one-tmgi, one-cause}
+use Rattle.values.proofs.mme_at.Kinds as mme-at'
+use Rattle.values.proofs.mme_at.Reads as mme-at
+use Rattle.values.proofs.mce_at.Kinds as mce-at'
+use Rattle.values.proofs.mce_at.Reads as mce-at
+use Rattle.values.proofs.session_at.Kinds as session-at'
+use Rattle.values.proofs.session_at.Reads as session-at
+use Rattle.values.proofs.tmgi_at.Kinds as tmgi-at'
+use Rattle.values.proofs.tmgi_at.Reads as tmgi-at
+use Rattle.values.proofs.cause_at.Kinds as cause-at'
+use Rattle.values.proofs.cause_at.Reads as cause-at
+
+pub mme-at-is : Determined mme-at'.ps mme-at'.r mme-at.Asked mme-at.Learnt
+mme-at-is κs a p x y e f = one-mme (e same f) & refl
+
+pub mce-at-is : Determined mce-at'.ps mce-at'.r mce-at.Asked mce-at.Learnt
+mce-at-is κs a p x y e f = one-mce (e same f) & refl
+
+pub session-at-is : Determined session-at'.ps session-at'.r session-at.Asked session-at.Learnt
+session-at-is κs a p x y e f = one-session (e same f) & refl
+
+pub tmgi-at-is : Determined tmgi-at'.ps tmgi-at'.r tmgi-at.Asked tmgi-at.Learnt
+tmgi-at-is κs a p x y e f = one-tmgi (e same f) & refl
+
+pub cause-at-is : Determined cause-at'.ps cause-at'.r cause-at.Asked cause-at.Learnt
+cause-at-is κs a p x y e f = one-cause (e same f) & refl

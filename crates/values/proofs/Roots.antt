@@ -1,0 +1,14 @@
+-- The root values of the groups of causes.
+-- Assumes nothing.
+use Prim.Native.Nat.{ℕ, zero, suc, _^_, _≤_}
+use native.Mathlib.Omega.{arith}
+use Rattle.values.specs.Values.{rootOf, bitsOfRoot}
+
+-- their numbers have three bits at most, and those are enough
+pub root-width : (g : ℕ) → (bitsOfRoot g ≤ 3) × (rootOf g ≤ 2 ^ bitsOfRoot g)
+root-width zero = (omega arith, omega arith)
+root-width (suc zero) = (omega arith, omega arith)
+root-width (suc (suc zero)) = (omega arith, omega arith)
+root-width (suc (suc (suc zero))) = (omega arith, omega arith)
+root-width (suc (suc (suc (suc zero)))) = (omega arith, omega arith)
+root-width (suc (suc (suc (suc (suc g))))) = (omega arith, omega arith)

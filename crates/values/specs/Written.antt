@@ -1,0 +1,31 @@
+-- The octets of the values, as 9.3.5 and X.691 lay them out; and which values have octets.
+use Prim.Native.Nat.{ℕ, _<_}
+use mathlib.Core.Bool.{false}
+use mathlib.Core.List.{List, [], _∷_}
+use Rattle.octets.specs.Write.{_bits_, bit, packed, numberOctets}
+use Rattle.identity.specs.declared.MmeId.{MmeId}
+use Rattle.identity.specs.declared.MceId.{MceId}
+use Rattle.identity.specs.declared.Tmgi.{Tmgi}
+use Rattle.values.specs.declared.Cause.{Cause}
+use Rattle.values.specs.Values.{rootOf, bitsOfRoot}
+
+abbrev pub mmeOctets : MmeId → List ℕ
+mmeOctets v = numberOctets 2 (v .0)
+
+abbrev pub mceOctets : MceId → List ℕ
+mceOctets v = numberOctets 2 (v .0)
+
+abbrev pub sessionOctets : ℕ → List ℕ
+sessionOctets v = numberOctets 1 v
+
+-- no extensions present; PLMN; service
+unfoldable pub tmgiOctets : Tmgi → List ℕ
+tmgiOctets t = packed (bit false ∷ []) ∷ t .plmn .0 ∷ t .plmn .1 ∷ t .plmn .2 ∷ t .service .0 ∷ t .service .1 ∷ t .service .2 ∷ []
+
+-- no extension; the group; no extension; the number in the group's root
+unfoldable pub causeOctets : Cause → List ℕ
+causeOctets c = packed (bit false ∷ 3 bits (c .group) ∷ bit false ∷ bitsOfRoot (c .group) bits (c .value) ∷ []) ∷ []
+
+-- a cause inside its root
+abbrev pub GoodCause : Cause → Type 0
+GoodCause c = (c .group < 5) × (c .value < rootOf (c .group))

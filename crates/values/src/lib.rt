@@ -1,0 +1,199 @@
+// The values that are read in full, each from the begin of its octets to the end of what encloses it:
+// identities, TMGI, Session Identity, Cause.
+ghost use mathlib.Core.Path.{_≡_};
+ghost use Prim.Native.Nat.{_<_};
+ghost use Rattle.octets.specs.Found.{foundTwo};
+ghost use Rattle.values.specs.Found.{foundMme, foundMce, foundSession, foundTmgi, foundCause};
+ghost use Rattle.values.specs.Values.{wholeAt, mmeAt, mceAt, sessionAt, tmgiAt, rootOf, bitsOfRoot, causeAt};
+use identity::MceId;
+use identity::MmeId;
+use identity::Plmn;
+use identity::Service;
+use identity::Tmgi;
+use octets::Gate;
+use octets::Octet;
+use octets::Stop;
+use octets::Three;
+use octets::Two;
+
+pub struct Cause {
+    pub group: u8,
+    pub value: u8,
+}
+
+// What the readers answer.
+pub enum MmeRead {
+    Is(MmeId),
+    Stop(Stop),
+}
+
+pub enum MceRead {
+    Is(MceId),
+    Stop(Stop),
+}
+
+pub enum SessionRead {
+    Is(u8),
+    Stop(Stop),
+}
+
+pub enum TmgiRead {
+    Is(Tmgi),
+    Stop(Stop),
+}
+
+pub enum CauseRead {
+    Is(Cause),
+    Stop(Stop),
+}
+
+// A number of two octets and nothing behind it.
+fn whole_two_at(s: &[u8], at: usize) -> Two
+    ensures { λ r. ⌜ foundTwo r ≡ wholeAt 2 (now (s .entry)) at ⌝ }
+{
+    let v = match octets::two_at(s, at) {
+        Two::Is(v) => v,
+        Two::Stop(x) => {
+            return Two::Stop(x);
+        }
+    };
+    match octets::ends_at(s, at + 2) {
+        Gate::Pass => Two::Is(v),
+        Gate::Stop(x) => Two::Stop(x),
+    }
+}
+
+pub fn mme_at(s: &[u8], at: usize) -> MmeRead
+    ensures { λ r. ⌜ foundMme r ≡ mmeAt (now (s .entry)) at ⌝ }
+{
+    match whole_two_at(s, at) {
+        Two::Is(v) => MmeRead::Is(MmeId(v)),
+        Two::Stop(x) => MmeRead::Stop(x),
+    }
+}
+
+pub fn mce_at(s: &[u8], at: usize) -> MceRead
+    ensures { λ r. ⌜ foundMce r ≡ mceAt (now (s .entry)) at ⌝ }
+{
+    match whole_two_at(s, at) {
+        Two::Is(v) => MceRead::Is(MceId(v)),
+        Two::Stop(x) => MceRead::Stop(x),
+    }
+}
+
+pub fn session_at(s: &[u8], at: usize) -> SessionRead
+    ensures { λ r. ⌜ foundSession r ≡ sessionAt (now (s .entry)) at ⌝ }
+{
+    let v = match octets::octet_at(s, at) {
+        Octet::Is(v) => v,
+        Octet::Stop(x) => {
+            return SessionRead::Stop(x);
+        }
+    };
+    match octets::ends_at(s, at + 1) {
+        Gate::Pass => SessionRead::Is(v),
+        Gate::Stop(x) => SessionRead::Stop(x),
+    }
+}
+
+// A TMGI: no extensions, three octets of PLMN, three of service.
+pub fn tmgi_at(s: &[u8], at: usize) -> TmgiRead
+    ensures { λ r. ⌜ foundTmgi r ≡ tmgiAt (now (s .entry)) at ⌝ }
+{
+    let extensions = octets::plain_at(s, at, 0);
+    match extensions {
+        Gate::Pass => {}
+        Gate::Stop(x) => {
+            return TmgiRead::Stop(x);
+        }
+    }
+    match octets::pad_at(s, at, 1) {
+        Gate::Pass => {}
+        Gate::Stop(x) => {
+            return TmgiRead::Stop(x);
+        }
+    }
+    let p = match octets::three_at(s, at + 1) {
+        Three::Is(v) => v,
+        Three::Stop(x) => {
+            return TmgiRead::Stop(x);
+        }
+    };
+    let v = match octets::three_at(s, at + 4) {
+        Three::Is(v) => v,
+        Three::Stop(x) => {
+            return TmgiRead::Stop(x);
+        }
+    };
+    match octets::ends_at(s, at + 7) {
+        Gate::Pass => TmgiRead::Is(Tmgi {
+            plmn: Plmn(p.0, p.1, p.2),
+            service: Service(v.0, v.1, v.2),
+        }),
+        Gate::Stop(x) => TmgiRead::Stop(x),
+    }
+}
+
+// The groups of causes, radio network, transport, NAS, protocol, miscellaneous: how many root values each has, and the bits of their numbers.
+const ROOTS: [u8; 5] = [8, 2, 1, 7, 5];
+
+const WIDTHS: [u8; 5] = [3, 1, 0, 3, 3];
+
+fn root_of(group: u8) -> u8
+    requires { ⌜ group < 5 ⌝ }
+    ensures { λ r. ⌜ r ≡ rootOf group ⌝ }
+{
+    ROOTS[group as usize]
+}
+
+fn width_of(group: u8) -> u8
+    requires { ⌜ group < 5 ⌝ }
+    ensures { λ r. ⌜ r ≡ bitsOfRoot group ⌝ }
+{
+    WIDTHS[group as usize]
+}
+
+// A cause: its group, and its number among the group's root values.
+pub fn cause_at(s: &[u8], at: usize) -> CauseRead
+    ensures { λ r. ⌜ foundCause r ≡ causeAt (now (s .entry)) at ⌝ }
+{
+    match octets::plain_at(s, at, 0) {
+        Gate::Pass => {}
+        Gate::Stop(x) => {
+            return CauseRead::Stop(x);
+        }
+    }
+    let group = match octets::choice_at(5, 3, s, at, 1) {
+        Octet::Is(v) => v,
+        Octet::Stop(x) => {
+            return CauseRead::Stop(x);
+        }
+    };
+    match octets::plain_at(s, at, 4) {
+        Gate::Pass => {}
+        Gate::Stop(x) => {
+            return CauseRead::Stop(x);
+        }
+    }
+    let root = root_of(group);
+    let width = width_of(group);
+    let value = match octets::choice_at(root, width, s, at, 5) {
+        Octet::Is(v) => v,
+        Octet::Stop(x) => {
+            return CauseRead::Stop(x);
+        }
+    };
+    match octets::pad_at(s, at, 5 + width) {
+        Gate::Pass => {}
+        Gate::Stop(x) => {
+            return CauseRead::Stop(x);
+        }
+    }
+    match octets::ends_at(s, at + 1) {
+        Gate::Pass => CauseRead::Is(Cause {
+            group: group,
+            value: value,
+        }),
+        Gate::Stop(x) => CauseRead::Stop(x),
+    }
+}
