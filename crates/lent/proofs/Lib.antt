@@ -1,0 +1,7 @@
+pub mod Zeros
+pub mod Rows
+pub mod Reading
+pub mod Writing
+pub mod OneForm
+pub mod Examples
+pub mod Determined

@@ -1,0 +1,228 @@
+// The table as 3,074 octets that the link process lends: a count of two octets, the high one first, then 256 rows of 12.
+// A row: MME identity (2), MCE identity (2), PLMN (3), service (3), 1 for a Session Identity or 0, and the Session Identity or 0.
+// Rows past the count are zero, so a table has one form.
+ghost use mathlib.Core.Path.{_≡_};
+ghost use Prim.Native.Nat.{_+_, _*_, _-_, _/_, _%_, _≤_};
+ghost use lib.ListN.{length, getD, drop, replicate};
+ghost use Rattle.lists.specs.Lists.{pick};
+ghost use Rattle.octets.specs.Write.{Wrote};
+ghost use Rattle.table.specs.Table.{held};
+ghost use Rattle.lent.specs.Lent.{Held, NoTable, sessionOf, rowOf, rowsOf, flagOf, valueOf, rowOctets, readTable, tableIn, room, tableOut};
+ghost use Rattle.lent.specs.Tests.{sessionGood, rowsGood, zeros};
+use identity::MceId;
+use identity::MmeId;
+use identity::Plmn;
+use identity::Service;
+use identity::Session;
+use identity::Tmgi;
+use table::Association;
+use table::Table;
+
+// The table that octets are; where they are none, the empty one.
+pub struct TableIn {
+    pub ok: bool,
+    pub table: Table,
+}
+
+// A number of two octets, the high one first.
+fn number(high: u8, low: u8) -> u16
+    ensures { λ r. ⌜ r ≡ high * 256 + low ⌝ }
+{
+    (high as u16) * 256 + (low as u16)
+}
+
+fn session_of(flag: u8, v: u8) -> Session
+    ensures { λ r. ⌜ r ≡ sessionOf flag v ⌝ }
+{
+    if flag == 0 {
+        return Session::Absent;
+    }
+    Session::Is(v)
+}
+
+// The row that 12 octets say.
+fn row_of(p: &[u8]) -> Association
+    requires { ⌜ 12 ≤ length (now p) ⌝ }
+    ensures { λ r. ⌜ r ≡ rowOf (now (p .entry)) ⌝ }
+{
+    let mme = number(p[0], p[1]);
+    let mce = number(p[2], p[3]);
+    let session = session_of(p[10], p[11]);
+    Association {
+        mme: MmeId(mme),
+        mce: MceId(mce),
+        tmgi: Tmgi {
+            plmn: Plmn(p[4], p[5], p[6]),
+            service: Service(p[7], p[8], p[9]),
+        },
+        session: session,
+    }
+}
+
+// 1 and any octet, or 0 and 0.
+fn session_good(p: &[u8]) -> bool
+    requires { ⌜ 12 ≤ length (now p) ⌝ }
+    ensures { λ r. ⌜ r ≡ sessionGood (getD (now (p .entry)) 10 0) (getD (now (p .entry)) 11 0) ⌝ }
+{
+    let flag = p[10];
+    if flag == 1 {
+        return true;
+    }
+    if flag == 0 {
+        return p[11] == 0;
+    }
+    false
+}
+
+// All octets from a place on are zero. The loop has no exit, so that the compiler takes many octets at a time.
+fn zeros_from(s: &[u8], at: usize) -> bool
+    requires { ⌜ at ≤ length (now s) ⌝ }
+    ensures { λ r. ⌜ r ≡ zeros (drop at (now (s .entry))) ⌝ }
+{
+    let mut all: u8 = 0;
+    let mut i = at;
+    while i < s.len() {
+        all = all | s[i];
+        i += 1;
+    }
+    all == 0
+}
+
+fn no_table() -> TableIn
+    ensures { λ r. ⌜ r ≡ tableIn NoTable ⌝ }
+{
+    let t = table::empty();
+    TableIn {
+        ok: false,
+        table: t,
+    }
+}
+
+// The first n rows, if their octets for the Session Identity are good.
+fn rows_in(s: &[u8], n: usize) -> TableIn
+    requires { ⌜ (n ≤ 256) × (2 + 12 * n ≤ length (now s)) ⌝ }
+    ensures { λ r. ⌜ r ≡ tableIn (pick (rowsGood n (drop 2 (now (s .entry)))) (Held (rowsOf n (drop 2 (now (s .entry))))) NoTable) ⌝ }
+{
+    let mut t = table::empty();
+    let mut i = 0;
+    let mut at = 2;
+    while i < n {
+        if !session_good(&s[at..]) {
+            return no_table();
+        }
+        let a = row_of(&s[at..]);
+        t.rows[i] = a;
+        i += 1;
+        at += 12;
+    }
+    t.count = n;
+    TableIn { ok: true, table: t }
+}
+
+// The table that the octets are.
+pub fn table_in(s: &[u8]) -> TableIn
+    ensures { λ r. ⌜ r ≡ tableIn (readTable (now (s .entry))) ⌝ }
+{
+    if s.len() != 3074 {
+        return no_table();
+    }
+    let n = number(s[0], s[1]) as usize;
+    if 256 < n {
+        return no_table();
+    }
+    if !zeros_from(s, 2 + 12 * n) {
+        return no_table();
+    }
+    let r = rows_in(s, n);
+    if !r.ok {
+        return no_table();
+    }
+    let t = r.table;
+    if !table::identities_apart(t) {
+        return no_table();
+    }
+    r
+}
+
+fn high(x: u16) -> u8
+    ensures { λ r. ⌜ r ≡ x / 256 ⌝ }
+{
+    (x / 256) as u8
+}
+
+fn low(x: u16) -> u8
+    ensures { λ r. ⌜ r ≡ x % 256 ⌝ }
+{
+    (x % 256) as u8
+}
+
+fn flag(s: Session) -> u8
+    ensures { λ r. ⌜ r ≡ flagOf s ⌝ }
+{
+    match s {
+        Session::Is(_) => 1,
+        Session::Absent => 0,
+    }
+}
+
+fn value(s: Session) -> u8
+    ensures { λ r. ⌜ r ≡ valueOf s ⌝ }
+{
+    match s {
+        Session::Is(v) => v,
+        Session::Absent => 0,
+    }
+}
+
+// A row into the 12 octets that are its own.
+fn put_row(d: &mut [u8], a: Association)
+    requires { ⌜ length (now d) ≡ 12 ⌝ }
+    ensures { λ _. ⌜ now (d .exit) ≡ rowOctets a ⌝ }
+{
+    let session = a.session;
+    d[0] = high(a.mme.0);
+    d[1] = low(a.mme.0);
+    d[2] = high(a.mce.0);
+    d[3] = low(a.mce.0);
+    d[4] = a.tmgi.plmn.0;
+    d[5] = a.tmgi.plmn.1;
+    d[6] = a.tmgi.plmn.2;
+    d[7] = a.tmgi.service.0;
+    d[8] = a.tmgi.service.1;
+    d[9] = a.tmgi.service.2;
+    d[10] = flag(session);
+    d[11] = value(session);
+}
+
+// Zeros from a place on.
+fn clear_from(d: &mut [u8], at: usize)
+    requires { ⌜ at ≤ length (now d) ⌝ }
+    ensures { λ _. ⌜ Wrote (now (d .entry)) at (replicate (length (now (d .entry)) - at) 0) (now (d .exit)) (length (now (d .entry))) ⌝ }
+{
+    let mut i = at;
+    while i < d.len() {
+        d[i] = 0;
+        i += 1;
+    }
+}
+
+// The table's octets into what is lent, if that is as long as a table; it says whether it is.
+pub fn table_out(t: Table, d: &mut [u8]) -> bool
+    ensures { λ r. ⌜ (r ≡ room (now (d .entry))) × (now (d .exit) ≡ tableOut (held t) (now (d .entry))) ⌝ }
+{
+    if d.len() != 3074 {
+        return false;
+    }
+    let n = table::within(t.count);
+    let mut at = octets::put_two(d, 0, n as u16);
+    let mut i = 0;
+    while i < n {
+        let a = t.rows[i];
+        let e = at + 12;
+        put_row(&mut d[at..e], a);
+        i += 1;
+        at = e;
+    }
+    clear_from(d, at);
+    true
+}
