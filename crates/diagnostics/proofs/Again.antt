@@ -1,9 +1,9 @@
 -- What was read, written again, is the same octets, up to their end; and it is good.
 -- Assumes nothing.
-use mathlib.Core.Path.{_≡_, _∙_, refl, sym, ap, subst}
+use mathlib.Core.Path.{_≡_, refl, sym, subst}
 use mathlib.Core.Bool.{Bool, true, false}
-use mathlib.Core.List.{List, [], _∷_, _++_}
-use Prim.Native.Nat.{ℕ, _+_, _*_, _-_, _<_, _≤_}
+use mathlib.Core.List.{List, []}
+use Prim.Native.Nat.{ℕ, _+_, _-_, _≤_}
 use native.Mathlib.Omega.{arith}
 use borrow.Author.Tests.{lt-ltb}
 use lib.Dec.{ltb}
@@ -19,7 +19,7 @@ use Rattle.octets.proofs.Back.{length-number}
 use Rattle.octets.proofs.Again.{number-again, value-below}
 use Rattle.diagnostics.specs.declared.Entry.{Entry}
 use Rattle.diagnostics.specs.declared.Head.{Head}
-use Rattle.diagnostics.specs.Diagnostics.{Diagnostics, entriesAt, listAt, maybeListAt, headAt, diagnosticsAt}
+use Rattle.diagnostics.specs.Diagnostics.{Diagnostics, listAt, maybeListAt, headAt, diagnosticsAt}
 use Rattle.diagnostics.specs.Written.{headOctets, entriesOctets, listOctets, diagnosticsOctets, GoodEntries, GoodHead, Good}
 use Rattle.diagnostics.proofs.HeadAgain.{head-again}
 use Rattle.diagnostics.proofs.EntriesBack.{entries-length}

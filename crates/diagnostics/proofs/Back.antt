@@ -1,9 +1,9 @@
 -- Reading what was written gives the value, where the octets end behind it.
 -- Assumes nothing.
-use mathlib.Core.Path.{_≡_, _∙_, refl, sym, ap, subst}
+use mathlib.Core.Path.{_≡_, refl, sym, ap}
 use mathlib.Core.Bool.{Bool, true, false}
-use mathlib.Core.List.{List, [], _∷_, _++_}
-use Prim.Native.Nat.{ℕ, _+_, _*_, _-_, _<_, _≤_}
+use mathlib.Core.List.{List, []}
+use Prim.Native.Nat.{ℕ, _+_, _-_, _≤_}
 use native.Mathlib.Omega.{arith}
 use borrow.Author.Tests.{ltb-true, ltb-false}
 use lib.Dec.{ltb}
@@ -15,7 +15,7 @@ use Rattle.octets.proofs.Chain.{past}
 use Rattle.octets.proofs.Stood.{stands-split}
 use Rattle.octets.proofs.Back.{number-back, ends-back, length-number}
 use Rattle.diagnostics.specs.declared.Entry.{Entry}
-use Rattle.diagnostics.specs.Diagnostics.{Diagnostics, entriesAt, listAt, maybeListAt, diagnosticsAt}
+use Rattle.diagnostics.specs.Diagnostics.{Diagnostics, listAt, maybeListAt, diagnosticsAt}
 use Rattle.diagnostics.specs.Written.{headOctets, entriesOctets, listOctets, diagnosticsOctets, GoodEntries, Good}
 use Rattle.diagnostics.proofs.HeadBack.{head-back}
 use Rattle.diagnostics.proofs.EntriesBack.{entries-length, entries-back}

@@ -2,9 +2,8 @@
 -- Assumes nothing.
 use mathlib.Core.Path.{_≡_, _∙_, sym, ap}
 use mathlib.Core.List.{List}
-use Prim.Native.Nat.{ℕ, _+_}
+use Prim.Native.Nat.{ℕ}
 use native.Mathlib.Nat.{zero-add}
-use lib.ListN.{length}
 use Rattle.octets.specs.Read.{got}
 use Rattle.octets.specs.Stands.{StaysDifferent}
 use Rattle.octets.proofs.Chain.{same-got}

@@ -1,16 +1,16 @@
 -- Entries that were read, written again, are the same octets; and they are good.
 -- Assumes nothing.
 use mathlib.Core.Path.{_≡_, _∙_, refl, sym, ap, subst}
-use mathlib.Core.Bool.{Bool, true, false}
+use mathlib.Core.Bool.{false}
 use mathlib.Core.List.{List, [], _∷_, _++_}
-use Prim.Native.Nat.{ℕ, zero, suc, _+_, _*_, _-_, _%_, _^_, _<_, _≤_}
+use Prim.Native.Nat.{ℕ, zero, suc, _+_, _*_, _-_, _%_, _<_, _≤_}
 use native.Mathlib.Omega.{arith}
-use native.Mathlib.Nat.{add-zero, zero-add, mod-eq-of-lt}
+use native.Mathlib.Nat.{add-zero, mod-eq-of-lt}
 use borrow.Author.Tests.{eq-eqb, ne-eqb}
 use lib.Dec.{eqb}
 use lib.ListN.{length, getD}
 use Rattle.octets.specs.Read.{got}
-use Rattle.octets.specs.Field.{bitsOf, plainAt, choiceAt, padAt, numberAt, endsAt}
+use Rattle.octets.specs.Field.{bitsOf, padAt, endsAt}
 use Rattle.octets.specs.Write.{Field, _bits_, bit, widths, packed, numberOctets}
 use Rattle.octets.specs.Stands.{Stands, Octets}
 use Rattle.octets.specs.Many.{Part, many}

@@ -2,8 +2,8 @@
 --     entries-length   how many octets they take
 --     entries-back     what is read there, and that pad stands behind
 -- Assumes nothing.
-use mathlib.Core.Path.{_≡_, _∙_, refl, sym, ap}
-use mathlib.Core.Bool.{Bool, true, false}
+use mathlib.Core.Path.{_≡_, refl}
+use mathlib.Core.Bool.{false}
 use mathlib.Core.List.{List, [], _∷_, _++_, append-nil, append-assoc}
 use Prim.Native.Nat.{ℕ, suc, _+_, _*_, _-_, _%_, _<_, _≤_}
 use native.Mathlib.Omega.{arith}
@@ -11,11 +11,11 @@ use native.Mathlib.Nat.{add-zero, mod-eq-of-lt, mod-lt}
 use borrow.Author.Tests.{eq-eqb, ne-eqb}
 use lib.Dec.{eqb}
 use lib.ListN.{length, length-append}
-use Rattle.octets.specs.Read.{Read, got}
+use Rattle.octets.specs.Read.{got}
 use Rattle.octets.specs.Field.{padAt}
 use Rattle.octets.specs.Write.{Field, _bits_, bit, widths, packed, Fit, numberOctets}
 use Rattle.octets.specs.Stands.{Stands}
-use Rattle.octets.specs.Many.{Part, many}
+use Rattle.octets.specs.Many.{many}
 use Rattle.octets.proofs.Chain.{past}
 use Rattle.octets.proofs.Stood.{stands-split}
 use Rattle.octets.proofs.Back.{number-back, ends-back, length-number}

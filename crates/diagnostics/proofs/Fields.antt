@@ -16,7 +16,7 @@ use lib.Dec.{eqb}
 use lib.ListN.{length, getD}
 use lib.Pow.{pow-pos}
 use Rattle.octets.specs.Read.{got}
-use Rattle.octets.specs.Field.{bitsOf, bitsAt, flagAt, plainAt, choiceAt, padAt}
+use Rattle.octets.specs.Field.{bitsOf, flagAt, plainAt, choiceAt, padAt}
 use Rattle.octets.specs.Write.{Field, _bits_, bit, widths, packed, Fit}
 use Rattle.octets.specs.Stands.{Stands, Octets}
 use Rattle.octets.proofs.Packed.{fieldsOf, bits-low}

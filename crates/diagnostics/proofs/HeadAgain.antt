@@ -3,13 +3,12 @@
 use mathlib.Core.Path.{_≡_, _∙_, refl, sym, ap, subst}
 use mathlib.Core.Bool.{Bool, true, false}
 use mathlib.Core.List.{List, [], _∷_, _++_, map, append-nil}
-use Prim.Native.Nat.{ℕ, _+_, _*_, _-_, _/_, _%_, _^_, _<_, _≤_}
+use Prim.Native.Nat.{ℕ, _+_, _-_, _/_, _%_, _<_, _≤_}
 use native.Mathlib.Omega.{arith}
-use native.Mathlib.Nat.{add-zero, zero-add, mod-eq-of-lt, mod-one}
+use native.Mathlib.Nat.{add-zero, mod-eq-of-lt, mod-one}
 use borrow.Author.Tests.{ltb-true, ltb-false, eqb-true, eqb-false}
 use lib.Dec.{ltb, eqb}
 use lib.ListN.{length, getD, drop-of-length-le}
-use Rattle.lists.specs.Lists.{pick}
 use Rattle.octets.specs.Read.{got}
 use Rattle.octets.specs.Field.{bitsOf, choiceAt, padAt, numberAt}
 use Rattle.octets.specs.Write.{Field, _bits_, bit, widths, packed, numberOctets}
@@ -22,7 +21,6 @@ use Rattle.octets.proofs.Stood.{stands-none, stands-join}
 use Rattle.octets.proofs.Back.{length-number}
 use Rattle.octets.proofs.Again.{number-again, value-below}
 use Rattle.diagnostics.specs.declared.Number.{Number}
-use Rattle.diagnostics.specs.declared.Number.the-variants.{Is, Absent}
 use Rattle.diagnostics.specs.declared.Head.{Head}
 use Rattle.diagnostics.specs.declared.Marks.{Marks}
 use Rattle.diagnostics.specs.Diagnostics.{after, behindCode, behindTrigger, behindCrit, marksAt, codeAt, maybeAt, headAt}

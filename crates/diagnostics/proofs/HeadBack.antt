@@ -2,21 +2,20 @@
 --     pairs-length, head-length   how many octets they take
 --     marks-back, head-back       what is read there
 -- Assumes nothing.
-use mathlib.Core.Path.{_≡_, _∙_, refl, sym, ap, subst}
+use mathlib.Core.Path.{_≡_, _∙_, refl, sym, ap}
 use mathlib.Core.Bool.{Bool, true, false}
 use mathlib.Core.List.{List, [], _∷_, _++_, map, append-nil, append-assoc}
-use Prim.Native.Nat.{ℕ, _+_, _*_, _-_, _/_, _%_, _<_, _≤_}
+use Prim.Native.Nat.{ℕ, _+_, _*_, _-_, _/_, _%_, _<_}
 use native.Mathlib.Omega.{arith}
 use native.Mathlib.Nat.{add-zero, mod-eq-of-lt, mod-lt}
-use borrow.Author.Tests.{ltb-true, ltb-false, eqb-true, eqb-false}
+use borrow.Author.Tests.{ltb-true, ltb-false, eqb-false}
 use lib.Dec.{ltb, eqb}
 use lib.ListN.{length, length-append}
 use Rattle.lists.specs.Lists.{pick}
-use Rattle.octets.specs.Read.{Read, got, _>>=_}
+use Rattle.octets.specs.Read.{got}
 use Rattle.octets.specs.Field.{padAt}
 use Rattle.octets.specs.Write.{Field, _bits_, bit, widths, packed, Fit, numberOctets}
 use Rattle.octets.specs.Stands.{Stands}
-use Rattle.octets.specs.Many.{Part}
 use Rattle.octets.proofs.Chain.{past}
 use Rattle.octets.proofs.Stood.{stands-split}
 use Rattle.octets.proofs.Back.{number-back, length-number}
@@ -24,7 +23,7 @@ use Rattle.diagnostics.specs.declared.Number.{Number}
 use Rattle.diagnostics.specs.declared.Number.the-variants.{Is, Absent}
 use Rattle.diagnostics.specs.declared.Head.{Head}
 use Rattle.diagnostics.specs.declared.Marks.{Marks}
-use Rattle.diagnostics.specs.Diagnostics.{after, behindCode, behindTrigger, behindCrit, marksAt, codeAt, maybeAt, headAt}
+use Rattle.diagnostics.specs.Diagnostics.{after, behindCrit, marksAt, codeAt, maybeAt, headAt}
 use Rattle.diagnostics.specs.Written.{isThere, marksOf, marks, numbers, octetOf, pairs, withCode, headOctets, Under, GoodHead}
 use Rattle.diagnostics.proofs.Fields.{bits-width, bits-fit, widths-join, fit-join, flag-in, plain-in, choice-in, pad-in}
 

@@ -1,9 +1,9 @@
 -- Criticality Diagnostics, as 9.3.5 and X.691 lay them out: fields of bits follow each other, numbers of whole octets are aligned,
 -- and entries are not aligned to each other.
-use Prim.Native.Nat.{ℕ, _+_, _-_, _/_}
+use Prim.Native.Nat.{ℕ, _+_, _/_}
 use mathlib.Core.Bool.{Bool, true, false}
-use mathlib.Core.List.{List, [], _++_}
-use lib.ListN.{length, take, replicate}
+use mathlib.Core.List.{List, []}
+use lib.ListN.{length, take}
 use lib.Dec.{eqb}
 use Rattle.lists.specs.Lists.{pick, fill}
 use Rattle.octets.specs.Read.{Read, got, _>>=_, _>>_}

@@ -3,11 +3,9 @@ use Prim.Native.Nat.{ℕ}
 use mathlib.Core.Bool.{true, false}
 use mathlib.Core.Path.{_≡_}
 use mathlib.Core.List.{List, [], _∷_, map}
-use Rattle.octets.specs.Read.{Read, got, stop, cutShort, noMeaning, extended}
+use Rattle.octets.specs.Read.{got, stop, cutShort, noMeaning, extended}
 use Rattle.octets.specs.declared.Stop.{Stop}
-use Rattle.diagnostics.specs.declared.Entry.{Entry}
 use Rattle.diagnostics.specs.declared.Number.the-variants.{Is, Absent}
-use Rattle.diagnostics.specs.declared.Head.{Head}
 use Rattle.diagnostics.specs.Diagnostics.{Diagnostics, emptyHead, diagnosticsAt}
 use Rattle.diagnostics.specs.Written.{diagnosticsOctets}
 

@@ -1,5 +1,4 @@
 -- The readers' answers, as readings; and those with an array, from the readings.
-use Prim.Native.Nat.{ℕ}
 use mathlib.Core.List.{List, []}
 use Rattle.octets.specs.Read.{Read, got, stop}
 use Rattle.octets.specs.Many.{Part}

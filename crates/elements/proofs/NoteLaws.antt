@@ -9,7 +9,7 @@ use lib.Dec.{eqb}
 use native.Mathlib.Numerals.{add-one}
 use lib.ListN.{length, take, set, getD, length-append, length-take}
 use lib.Seq.{take-all, take-length, take-append-le}
-use Rattle.lists.specs.Lists.{some, fill}
+use Rattle.lists.specs.Lists.{some}
 use Rattle.lists.proofs.Some.{some-append}
 use Rattle.lists.proofs.Fill.{fill-more}
 use Rattle.diagnostics.specs.declared.Entry.{Entry}

@@ -7,31 +7,29 @@
 --     judged-front, judged-all   what was found is the judging
 -- Assumes nothing.
 use mathlib.Core.Path.{_≡_, _∙_, refl, sym, ap, subst}
-use mathlib.Core.Bool.{Bool, true, false}
 use mathlib.Core.List.{List, [], _∷_, _++_, append-assoc, append-nil}
-use Prim.Native.Nat.{ℕ, zero, suc, _+_, _-_, _<_, _≤_}
+use Prim.Native.Nat.{ℕ, suc, _+_, _-_, _<_, _≤_}
 use native.Mathlib.Omega.{arith}
 use borrow.Author.Tests.{lt-ltb, le-ltb, eq-eqb, ne-eqb}
-use lib.Dec.{ltb, eqb}
-use lib.ListN.{length, getD, take, set, replicate, length-append, length-set, length-replicate, replicate-append-replicate}
+use lib.Dec.{eqb}
+use lib.ListN.{length, take, set, replicate, length-append, length-set, length-replicate, replicate-append-replicate}
 use lib.Seq.{set-out}
 use Rattle.lists.specs.Lists.{pick, fill}
 use Rattle.lists.proofs.Fill.{fill-set, take-fill}
-use Rattle.octets.specs.Read.{Read, got, stop, _>>=_, _>>_}
+use Rattle.octets.specs.Read.{got, stop, _>>=_, _>>_}
 use Rattle.octets.specs.Field.{numberAt, openAt, endsAt}
 use Rattle.octets.specs.declared.Stop.{Stop}
 use Rattle.octets.specs.declared.Span.{Span}
 use Rattle.octets.specs.declared.Gate.the-variants as gate
 use Rattle.octets.proofs.Chain.{past, halt, got-stop, then-got, same-got}
 use Rattle.octets.proofs.Got.{open-in}
-use Rattle.diagnostics.specs.declared.Entry.{Entry}
 use Rattle.kinds.specs.Kinds.{valueAt}
 use Rattle.kinds.proofs.Laws.{carried}
 use Rattle.elements.specs.declared.Row.{Row}
 use Rattle.elements.specs.declared.Head.{Head}
 use Rattle.elements.specs.declared.Noted.{Noted}
 use Rattle.elements.specs.declared.Walked.{Walked}
-use Rattle.elements.specs.Table.{find, noRow, known, kindOf}
+use Rattle.elements.specs.Table.{find, kindOf}
 use Rattle.elements.specs.Envelope.{criticalityAt, envelopeAt, scanAt, headsAt}
 use Rattle.elements.specs.Judge.{front, readInto, readOf, noSpan, ignored, unknownEntry, unknownOf, missingOf, noted, judgedOf, judgedBy}
 use Rattle.elements.specs.Steps.{Seen, WalkedTo, MissingIn}

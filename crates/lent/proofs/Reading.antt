@@ -60,7 +60,7 @@ module _ (s : List ℕ) where
       let o : same (tableOctets (said s)) s ≡ true = ap (λ (x : List ℕ). same x s) (t .octets) ∙ same-self s in
       rw (le-leb (length (said s)) 256 (t .few), t .apart, o)
 
-  no-table : (Formed s → ⊥) → readTable s ≡ NoTable
+  pub no-table : (Formed s → ⊥) → readTable s ≡ NoTable
   unfolding readTable
   no-table n = by test refl
     where
@@ -77,7 +77,7 @@ module _ (s : List ℕ) where
       by false e q = absurd (let z : _≡_ {A = ℕ} 0 1 = cc in omega arith)
 
 -- ---- what the tests say
-length-front : (l : State) → length (numberOctets 2 (length l) ++ rowsOctets l) ≡ 2 + 12 * length l
+pub length-front : (l : State) → length (numberOctets 2 (length l) ++ rowsOctets l) ≡ 2 + 12 * length l
 length-front l = rw (length-append, length-number, length-octets)
 
 pub length-table : (l : State) → length l ≤ 256 → length (tableOctets l) ≡ 3074
@@ -85,7 +85,7 @@ length-table l h = length-fill 0 3074 (numberOctets 2 (length l) ++ rowsOctets l
 
 module _ (s : List ℕ) where
   -- all tests pass: the octets are those that are written for what they say
-  tests-pass : Octets s → length s ≡ 3074 → valueAt 2 s 0 ≤ 256 → zeros (drop (2 + 12 * valueAt 2 s 0) s) ≡ true → rowsGood (valueAt 2 s 0) (drop 2 s) ≡ true →
+  pub tests-pass : Octets s → length s ≡ 3074 → valueAt 2 s 0 ≤ 256 → zeros (drop (2 + 12 * valueAt 2 s 0) s) ≡ true → rowsGood (valueAt 2 s 0) (drop 2 s) ≡ true →
       tableOctets (said s) ≡ s
   tests-pass o w h z g =
       let n = length-rows (valueAt 2 s 0) (drop 2 s) in
@@ -96,25 +96,25 @@ module _ (s : List ℕ) where
       let e : s ≡ getD s 0 0 ∷ getD s 1 0 ∷ drop 2 s = drop-cons s 0 0 (omega arith) ∙ rw (drop-cons s 1 0 (omega arith)) in
       rw (f, d, ← zeros-are (drop (2 + 12 * valueAt 2 s 0) s) z, ← drop-drop (12 * valueAt 2 s 0) 2 s, n, value-again s 0 o, r) (sym e)
 
-  count : length (said s) ≡ valueAt 2 s 0
-  count = length-rows (valueAt 2 s 0) (drop 2 s)
-
   -- the octets are a table: each test passes
   module _ (t : Formed s) where
-    table-count : valueAt 2 s 0 ≤ 256
+    count : length (said s) ≡ valueAt 2 s 0
+    count = length-rows (valueAt 2 s 0) (drop 2 s)
+
+    pub table-count : valueAt 2 s 0 ≤ 256
     table-count = rw (← count) (t .few)
 
-    table-long : length s ≡ 3074
+    pub table-long : length s ≡ 3074
     table-long = sym (ap length (t .octets)) ∙ length-table (said s) (t .few)
 
-    table-good : rowsGood (valueAt 2 s 0) (drop 2 s) ≡ true
+    pub table-good : rowsGood (valueAt 2 s 0) (drop 2 s) ≡ true
     unfolding numberOctets
     table-good = by (said s) (t .octets) count
       where
         by : (l : State) → tableOctets l ≡ s → length l ≡ valueAt 2 s 0 → rowsGood (valueAt 2 s 0) (drop 2 s) ≡ true
         by l e c = rw (← c, ← e) (good-back (replicate (3074 - length (numberOctets 2 (length l) ++ rowsOctets l)) 0) l)
 
-    table-zeros : zeros (drop (2 + 12 * valueAt 2 s 0) s) ≡ true
+    pub table-zeros : zeros (drop (2 + 12 * valueAt 2 s 0) s) ≡ true
     table-zeros = by (said s) (t .octets) count
       where
         by : (l : State) → tableOctets l ≡ s → length l ≡ valueAt 2 s 0 → zeros (drop (2 + 12 * valueAt 2 s 0) s) ≡ true

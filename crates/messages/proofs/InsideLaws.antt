@@ -6,8 +6,8 @@ use mathlib.Core.List.{List}
 use native.Mathlib.Omega.{arith}
 use lib.ListN.{length}
 use Rattle.lists.proofs.Fill.{take-fill, getD-fill}
-use Rattle.octets.specs.Read.{Read, got, stop, _>>=_, _>>_}
-use Rattle.octets.specs.Field.{plainAt, padAt, numberAt}
+use Rattle.octets.specs.Read.{Read, got, stop}
+use Rattle.octets.specs.Field.{plainAt, padAt}
 use Rattle.octets.specs.declared.Stop.{Stop}
 use Rattle.octets.specs.declared.Span.{Span}
 use Rattle.octets.specs.declared.Gate.the-variants as gate

@@ -6,7 +6,6 @@ use lib.Dec.{ltb, eqb}
 use lib.ListN.{length, take}
 use Rattle.lists.specs.Lists.{pick, some}
 use Rattle.octets.specs.Read.{Read, got, stop, _>>=_}
-use Rattle.octets.specs.declared.Stop.{Stop}
 use Rattle.diagnostics.specs.declared.Entry.{Entry}
 use Rattle.diagnostics.specs.Diagnostics.{entriesOf}
 use Rattle.elements.specs.Judge.{Found, elementsAt}

@@ -1,26 +1,24 @@
 -- What was read, written again, is the same octets.
 -- Assumes nothing.
-use mathlib.Core.Path.{_≡_, _∙_, refl, sym, ap, subst}
-use mathlib.Core.Bool.{Bool, true, false}
+use mathlib.Core.Path.{_≡_, _∙_, refl, sym, ap}
 use mathlib.Core.List.{List, [], _∷_, _++_}
 use Prim.Native.Nat.{ℕ, zero, suc, _+_, _*_, _-_, _/_, _%_, _^_, _<_, _≤_}
 use native.Mathlib.Omega.{arith}
-use native.Mathlib.Nat.{mod-eq-of-lt, add-zero, zero-add, zero-mul, add-assoc, add-mul, mul-comm, mul-assoc, mul-le-mul-right, pow-suc}
-use lib.Dec.{eqb}
-use lib.ListN.{length, getD, take, drop, length-append}
+use native.Mathlib.Nat.{add-zero, zero-add, zero-mul, add-assoc, add-mul, mul-comm, mul-assoc, mul-le-mul-right, pow-suc}
+use lib.ListN.{length, getD, take, drop}
 use lib.Seq.{slice, length-slice}
 use lib.Pow.{high}
 use Rattle.lists.proofs.Parts.{take-drop}
-use Rattle.octets.specs.Read.{Read, got}
+use Rattle.octets.specs.Read.{got}
 use Rattle.octets.specs.Field.{bitsOf, bitsAt, valueAt, numberAt, stringAt, longAt, lengthAt, openAt}
-use Rattle.octets.specs.Write.{Field, _bits_, bit, widths, packed, packedIn, numberOctets, lengthOctets}
+use Rattle.octets.specs.Write.{_bits_, widths, packed, packedIn, numberOctets, lengthOctets}
 use Rattle.octets.specs.Stands.{Stands, Octets}
 use Rattle.octets.specs.declared.Counted.{Counted}
 use Rattle.octets.specs.declared.Span.{Span}
 use Rattle.octets.proofs.Packed.{fieldsOf, repacked}
-use Rattle.octets.proofs.Got.{number-got, string-got, length-got, Sized, short, long, open-got, Inside}
+use Rattle.octets.proofs.Got.{number-got, string-got, length-got, Sized, short, long, open-got}
 use Rattle.octets.proofs.Stood.{stands-one, stands-more, stands-none, stands-join}
-use Rattle.octets.proofs.Back.{octets-pow, length-number}
+use Rattle.octets.proofs.Back.{octets-pow}
 use Rattle.octets.proofs.Writing.{length-short, length-long}
 
 -- fields that were read, with zero behind them

@@ -5,16 +5,15 @@ use mathlib.Core.Bool.{Bool, true, false}
 use mathlib.Core.List.{List, [], _∷_, _++_}
 use Prim.Native.Nat.{ℕ, zero, suc, _+_, _*_, _-_, _/_, _%_, _^_, _<_, _≤_}
 use native.Mathlib.Omega.{arith}
-use native.Mathlib.Nat.{mod-eq-of-lt, add-zero, pow-suc, mod-one}
+use native.Mathlib.Nat.{mod-eq-of-lt, pow-suc, mod-one}
 use borrow.Author.Tests.{lt-ltb, le-ltb, eq-eqb, ne-eqb, ltb-true, ltb-false}
 use lib.Dec.{ltb, eqb}
-use lib.ListN.{length, getD, length-append}
-use lib.Seq.{slice}
+use lib.ListN.{length, getD}
 use lib.Pow.{mod-pow-add, pow-add}
 use Rattle.lists.proofs.Parts.{take-drop}
-use Rattle.octets.specs.Read.{Read, got, stop, _>>=_}
+use Rattle.octets.specs.Read.{got}
 use Rattle.octets.specs.Field.{bitsOf, flagAt, plainAt, choiceAt, padAt, valueAt, numberAt, stringAt, sameAt, longAt, longLengthAt, lengthAt, openAt, endsAt}
-use Rattle.octets.specs.Write.{Field, _bits_, bit, widths, packed, packedIn, Fit, numberOctets, lengthOctets}
+use Rattle.octets.specs.Write.{Field, _bits_, bit, widths, packed, Fit, numberOctets, lengthOctets}
 use Rattle.octets.specs.Stands.{Stands}
 use Rattle.octets.proofs.Packed.{apart, pad-apart}
 use Rattle.octets.proofs.Chain.{past}

@@ -1,6 +1,6 @@
 -- For each public function: any two results that its statement allows are equal, with what is left behind each `&mut`.
 -- Assumes nothing.
-use mathlib.Core.Path.{_≡_, refl}
+use mathlib.Core.Path.{refl}
 use Rattle.lists.proofs.Unique.{Determined, _same_, _&_}
 use Rattle.octets.proofs.OneFound.{one-gate, one-flag, one-octet, one-two, one-three, one-length, one-open}
 use Rattle.octets.proofs.bits.Kinds as bits'

@@ -4,13 +4,13 @@
 -- Assumes nothing.
 use mathlib.Core.Path.{_≡_, _∙_, refl, sym, ap, subst}
 use mathlib.Core.List.{List, [], _∷_, _++_, map}
-use Prim.Native.Nat.{ℕ, _+_, _*_, _-_, _/_, _%_, _^_, _<_, _≤_}
+use Prim.Native.Nat.{ℕ, _+_, _*_, _-_, _/_, _%_, _^_, _<_}
 use lib.ListN.{length, drop}
 use lib.Seq.{drop-append-seam}
 use lib.Pow.{high, low}
 use Rattle.octets.specs.Read.{Read, got, _>>=_}
 use Rattle.octets.specs.Field.{numberAt, lengthAt}
-use Rattle.octets.specs.Write.{Field, packedIn, packed, Fit, numberOctets, lengthOctets}
+use Rattle.octets.specs.Write.{Field, packedIn, Fit, numberOctets, lengthOctets}
 use Rattle.octets.specs.Stands.{Stands, StaysDifferent}
 use Rattle.octets.specs.declared.Counted.{Counted}
 use Rattle.octets.proofs.Packed.{packed-below}

@@ -10,7 +10,7 @@ use lib.Dec.{ltb, eqb}
 use lib.ListN.{length, getD}
 use lib.Seq.{slice}
 use Rattle.lists.specs.Lists.{pick}
-use Rattle.octets.specs.Read.{Read, got, stop, cutShort, noMeaning, extended, _>>=_}
+use Rattle.octets.specs.Read.{Read, got, stop, noMeaning}
 use Rattle.octets.specs.Field.{bitsAt, there, flagAt, plainAt, choiceAt, padAt, valueAt, numberAt, stringAt, sameAt, longAt, longLengthAt, lengthAt, openAt, endsAt}
 use Rattle.octets.specs.declared.Stop.{Stop}
 use Rattle.octets.specs.declared.Counted.{Counted}

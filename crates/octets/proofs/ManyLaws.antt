@@ -5,7 +5,7 @@
 -- Assumes nothing.
 use mathlib.Core.Path.{_≡_, _∙_, refl, sym, ap, subst}
 use mathlib.Core.List.{List, [], _∷_, _++_, append-assoc, append-nil}
-use Prim.Native.Nat.{ℕ, zero, suc, _+_, _-_, _<_, _≤_}
+use Prim.Native.Nat.{ℕ, zero, suc, _+_, _-_, _≤_}
 use native.Mathlib.Omega.{arith}
 use native.Mathlib.Nat.{add-zero}
 use lib.ListN.{length, length-append}
@@ -13,7 +13,7 @@ use Rattle.octets.specs.Read.{Read, got, stop, _>>=_, _>>_}
 use Rattle.octets.specs.Many.{Part, many}
 use Rattle.octets.specs.Stands.{Stands}
 use Rattle.octets.specs.declared.Stop.{Stop}
-use Rattle.octets.proofs.Chain.{past, halt, then-got, same-got}
+use Rattle.octets.proofs.Chain.{past, then-got, same-got}
 use Rattle.octets.proofs.Stood.{stands-none, stands-join, stands-split}
 
 -- ys before what is read

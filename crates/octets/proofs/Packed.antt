@@ -4,7 +4,7 @@
 --     together   a field is put behind others by an or
 --     repacked   the fields of an octet, packed again, are the octet but for what stands behind them
 -- Assumes nothing.
-use mathlib.Core.Path.{_≡_, _∙_, refl, sym, ap}
+use mathlib.Core.Path.{_≡_, _∙_, sym, ap}
 use mathlib.Core.List.{List, [], _∷_, _++_}
 use Prim.Native.Nat.{ℕ, zero, suc, _+_, _*_, _-_, _/_, _%_, _^_, _<_, _≤_}
 use native.Mathlib.Nat.{mod-eq-of-lt, lt-of-lt-of-le, zero-add, add-zero, add-comm, zero-mul, mul-assoc, add-mul, add-assoc, mul-le-mul-right, add-mul-mod-self-right, sub-zero, mod-lt}

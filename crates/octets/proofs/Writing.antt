@@ -3,17 +3,16 @@
 --     sets-out      behind the end nothing is put in
 --     wrote-then    a run of writers writes the octets of all
 -- Assumes nothing.
-use mathlib.Core.Path.{_≡_, _∙_, refl, sym, ap, subst}
-use mathlib.Core.List.{List, [], _∷_, _++_, append-assoc, append-nil}
+use mathlib.Core.Path.{_≡_, _∙_, refl, sym, ap}
+use mathlib.Core.List.{List, [], _∷_, _++_}
 use mathlib.Core.Bool.{Bool, true, false}
-use Prim.Native.Nat.{ℕ, zero, suc, min, _+_, _*_, _-_, _/_, _%_, _<_, _≤_}
+use Prim.Native.Nat.{ℕ, suc, min, _+_, _-_, _/_, _%_, _<_, _≤_}
 use native.Mathlib.Omega.{arith}
-use native.Mathlib.Nat.{add-zero, min-eq-left, min-eq-right}
+use native.Mathlib.Nat.{add-zero}
 use borrow.Author.Tests.{ltb-true, ltb-false, lt-ltb, le-ltb}
 use lib.Dec.{ltb}
-use lib.ListN.{length, set, take, drop, getD, length-append}
+use lib.ListN.{length, set, drop, length-append}
 use lib.Seq.{sets, sets-eq, set-out, length-sets}
-use Rattle.lists.specs.Lists.{pick}
 use Rattle.octets.specs.Write.{Wrote, numberOctets, lengthOctets, packed, _bits_}
 
 module _ {A : Type 0} where

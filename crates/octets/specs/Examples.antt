@@ -3,10 +3,9 @@ use Prim.Native.Nat.{ℕ}
 use mathlib.Core.List.{List, [], _∷_, map}
 use mathlib.Core.Path.{_≡_}
 use lib.ListN.{length}
-use Rattle.octets.specs.Read.{Read, got, stop, noMeaning}
+use Rattle.octets.specs.Read.{got, stop, noMeaning}
 use Rattle.octets.specs.Field.{lengthAt}
 use Rattle.octets.specs.Write.{lengthOctets}
-use Rattle.octets.specs.declared.Counted.{Counted}
 
 pub record Example : Type 0 where
   pub number : ℕ

@@ -1,8 +1,8 @@
 -- A value by where it stands, as its reader gives it.
 -- Assumes nothing.
-use Prim.Native.Nat.{ℕ, min, _≤_}
+use Prim.Native.Nat.{ℕ, min}
 use mathlib.Core.Path.{_≡_, _∙_, refl, ap, sym}
-use mathlib.Core.List.{List, []}
+use mathlib.Core.List.{List}
 use lib.ListN.{length, take}
 use Rattle.lists.proofs.Slices.{take-within}
 use Rattle.octets.specs.Read.{Read, got, stop}

@@ -10,7 +10,6 @@ use Rattle.diagnostics.specs.Diagnostics.{entriesOf}
 use Rattle.elements.specs.Judge.{noSpan}
 use Rattle.tables.specs.declared.Message.{Message}
 use Rattle.tables.specs.declared.Message.the-variants as message
-use Rattle.records.specs.declared.Body.{Body}
 use Rattle.records.specs.declared.Body.the-variants as body
 use Rattle.records.specs.declared.Record.{Record}
 use Rattle.records.specs.declared.StartCarried.{StartCarried}

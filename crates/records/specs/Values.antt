@@ -1,15 +1,11 @@
 -- What a row's value says, by where it stands; one that is not there says nothing.
 use Prim.Native.Nat.{ℕ}
-use mathlib.Core.Bool.{Bool, true, false}
+use mathlib.Core.Bool.{true, false}
 use mathlib.Core.List.{List, []}
-use lib.Dec.{ltb}
 use lib.ListN.{take}
 use Rattle.lists.specs.Lists.{pick}
 use Rattle.octets.specs.Read.{Read, got, stop}
 use Rattle.octets.specs.declared.Span.{Span}
-use Rattle.identity.specs.declared.MmeId.{MmeId}
-use Rattle.identity.specs.declared.MceId.{MceId}
-use Rattle.identity.specs.declared.Tmgi.{Tmgi}
 use Rattle.identity.specs.declared.Item.{Item}
 use Rattle.identity.specs.declared.Mme.{Mme}
 use Rattle.identity.specs.declared.Mme.the-variants as mme
@@ -18,7 +14,6 @@ use Rattle.identity.specs.declared.Mce.the-variants as mce
 use Rattle.identity.specs.declared.Session.{Session}
 use Rattle.identity.specs.declared.Session.the-variants as session
 use Rattle.identity.specs.Items.{itemsOf}
-use Rattle.values.specs.declared.Cause.{Cause}
 use Rattle.values.specs.Values.{mmeAt, mceAt, tmgiAt, sessionAt, causeAt}
 use Rattle.items.specs.Items.{ResetType, whole, part, itemsAt, resetAt}
 use Rattle.diagnostics.specs.Diagnostics.{Diagnostics, entriesOf, diagnosticsAt}
@@ -27,9 +22,7 @@ use Rattle.records.specs.declared.MaybeTmgi.{MaybeTmgi}
 use Rattle.records.specs.declared.MaybeTmgi.the-variants as tmgi
 use Rattle.records.specs.declared.MaybeCause.{MaybeCause}
 use Rattle.records.specs.declared.MaybeCause.the-variants as cause
-use Rattle.records.specs.declared.MaybeReset.{MaybeReset}
 use Rattle.records.specs.declared.MaybeReset.the-variants as reset
-use Rattle.records.specs.declared.MaybeDiagnostics.{MaybeDiagnostics}
 use Rattle.records.specs.declared.MaybeDiagnostics.the-variants as diagnosed
 use Rattle.records.specs.declared.Carried.{Carried}
 use Rattle.records.specs.declared.Carried.the-variants as carried

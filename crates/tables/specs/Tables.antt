@@ -1,6 +1,6 @@
 -- The eight messages, and the table of elements of each, as 9.3.4 has it: id, criticality, how the value is read, presence.
 use Prim.Native.Nat.{ℕ}
-use mathlib.Core.Bool.{Bool, true, false}
+use mathlib.Core.Bool.{true, false}
 use mathlib.Core.List.{List, [], _∷_}
 use lib.Dec.{eqb}
 use lib.ListN.{length}

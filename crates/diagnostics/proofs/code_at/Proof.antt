@@ -1,3 +1,4 @@
+-- `diagnostics::code_at` meets its contract. Each return is the chain of the readings on the way to it. Assumes nothing.
 use Rattle.octets.proofs.Chain.{past, halt, told}
 use mathlib.Core.Path.{refl}
 use borrow.Author.Tests.{not-true, not-false}
@@ -6,54 +7,40 @@ use Rattle.diagnostics.specs.Diagnostics.{codeAt}
 use borrow.Author.Needs.{needs}
 use Rattle.diagnostics.proofs.code_at.Statement.{statement}
 use Rattle.diagnostics.proofs.code_at.Tie as tie
-use Rattle.diagnostics.proofs.code_at.Reads as reads
-use Rattle.diagnostics.proofs.code_at.Lts as lts
-use Rattle.octets.proofs.octet_at.Reads as octet-at-reads
-use Rattle.octets.proofs.pad_at.Reads as pad-at-reads
 
--- src/lib.rt:135:9
 returns : tie.Need-returns
 unfolding codeAt
 returns c = rw (not-true (c .before .before .args .there) (c .if1 .taken))
 
--- src/lib.rt:137:11
 pad-at-requires : tie.Need-pad-at-requires
 pad-at-requires c κs = search needs
 
 enum-told : tie.Need-enum-told
 enum-told c = search needs
 
--- src/lib.rt:139:20
 enum-known-x : tie.Need-enum-known-x
 enum-known-x c = search needs
 
--- src/lib.rt:140:13
 returns-2 : tie.Need-returns-2
 unfolding codeAt
 returns-2 c = rw (not-false (c .before .before .before .before .before .before .args .there) (c .before .before .before .before .if1 .left)) (halt _ (told foundGate (c .before .x .given .1) (c .before .before .before .pad-at .ensures)))
 
--- src/lib.rt:143:31
 add-octet-at : tie.Need-add-octet-at
 add-octet-at c = search needs
 
--- src/lib.rt:143:11
 octet-at-requires : tie.Need-octet-at-requires
 octet-at-requires c κs = search needs
 
--- src/lib.rt:144:19
 enum-known-v : tie.Need-enum-known-v
 enum-known-v c = search needs
 
--- src/lib.rt:145:21
 enum-known-x-2 : tie.Need-enum-known-x-2
 enum-known-x-2 c = search needs
 
--- src/lib.rt:130:1
 returns-3 : tie.Need-returns-3
 unfolding codeAt
 returns-3 c = rw (not-false (c .before .before .before .before .before .before .before .before .before .args .there) (c .before .before .before .before .before .before .before .if1 .left)) (past _ _ (told foundGate (c .before .before .before .before .enum-told .given .1) (c .before .before .before .before .before .before .pad-at .ensures)) (past _ _ (told foundOctet (c .before .v .given .1) (c .before .before .before .octet-at .ensures)) (refl)))
 
--- src/lib.rt:130:1
 returns-4 : tie.Need-returns-4
 unfolding codeAt
 returns-4 c = rw (not-false (c .before .before .before .before .before .before .before .before .before .args .there) (c .before .before .before .before .before .before .before .if1 .left)) (past _ _ (told foundGate (c .before .before .before .before .enum-told .given .1) (c .before .before .before .before .before .before .pad-at .ensures)) (halt _ (told foundOctet (c .before .x2 .given .1) (c .before .before .before .octet-at .ensures))))

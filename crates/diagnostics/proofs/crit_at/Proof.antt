@@ -1,3 +1,4 @@
+-- `diagnostics::crit_at` meets its contract. Each return is the chain of the readings on the way to it. Assumes nothing.
 use Rattle.octets.proofs.Chain.{past, halt, told}
 use mathlib.Core.Path.{refl}
 use Rattle.octets.specs.Found.{foundGate, foundOctet}
@@ -5,91 +6,68 @@ use Rattle.diagnostics.specs.Diagnostics.{critAt}
 use borrow.Author.Needs.{needs}
 use Rattle.diagnostics.proofs.crit_at.Statement.{statement}
 use Rattle.diagnostics.proofs.crit_at.Tie as tie
-use Rattle.diagnostics.proofs.crit_at.Reads as reads
-use Rattle.diagnostics.proofs.crit_at.Lts as lts
-use Rattle.octets.proofs.choice_at.Reads as choice-at-reads
-use Rattle.octets.proofs.pad_at.Reads as pad-at-reads
-use Rattle.octets.proofs.plain_at.Reads as plain-at-reads
 
--- src/lib.rt:228:11
 plain-at-requires : tie.Need-plain-at-requires
 plain-at-requires c κs = search needs
 
 enum-told : tie.Need-enum-told
 enum-told c = search needs
 
--- src/lib.rt:230:20
 enum-known-x : tie.Need-enum-known-x
 enum-known-x c = search needs
 
--- src/lib.rt:231:13
 returns : tie.Need-returns
 unfolding critAt
 returns c = halt _ (told foundGate (c .before .x .given .1) (c .before .before .before .plain-at .ensures))
 
--- src/lib.rt:234:35
 add-plain-at : tie.Need-add-plain-at
 add-plain-at c = search needs
 
--- src/lib.rt:234:11
 plain-at-requires-2 : tie.Need-plain-at-requires-2
 plain-at-requires-2 c κs = search needs
 
 enum-told-2 : tie.Need-enum-told-2
 enum-told-2 c = search needs
 
--- src/lib.rt:236:20
 enum-known-x-2 : tie.Need-enum-known-x-2
 enum-known-x-2 c = search needs
 
--- src/lib.rt:237:13
 returns-2 : tie.Need-returns-2
 unfolding critAt
 returns-2 c = past _ _ (told foundGate (c .before .before .before .before .enum-told .given .1) (c .before .before .before .before .before .before .plain-at .ensures)) (halt _ (told foundGate (c .before .x2 .given .1) (c .before .before .before .plain-at2 .ensures)))
 
--- src/lib.rt:240:53
 add-choice-at : tie.Need-add-choice-at
 add-choice-at c = search needs
 
--- src/lib.rt:240:22
 choice-at-requires : tie.Need-choice-at-requires
 choice-at-requires c κs = search needs
 
--- src/lib.rt:241:19
 enum-known-v : tie.Need-enum-known-v
 enum-known-v c = search needs
 
--- src/lib.rt:242:21
 enum-known-x-3 : tie.Need-enum-known-x-3
 enum-known-x-3 c = search needs
 
--- src/lib.rt:243:13
 returns-3 : tie.Need-returns-3
 unfolding critAt
 returns-3 c = past _ _ (told foundGate (c .before .before .before .before .before .before .before .enum-told .given .1) (c .before .before .before .before .before .before .before .before .before .plain-at .ensures)) (past _ _ (told foundGate (c .before .before .before .before .enum-told2 .given .1) (c .before .before .before .before .before .before .plain-at2 .ensures)) (halt _ (told foundOctet (c .before .x3 .given .1) (c .before .before .before .choice-at .ensures))))
 
--- src/lib.rt:246:33
 add-pad-at : tie.Need-add-pad-at
 add-pad-at c = search needs
 
--- src/lib.rt:246:11
 pad-at-requires : tie.Need-pad-at-requires
 pad-at-requires c κs = search needs
 
--- src/lib.rt:247:23
 enum-told-3 : tie.Need-enum-told-3
 enum-told-3 c = search needs
 
--- src/lib.rt:248:20
 enum-known-x-4 : tie.Need-enum-known-x-4
 enum-known-x-4 c = search needs
 
--- src/lib.rt:224:1
 returns-4 : tie.Need-returns-4
 unfolding critAt
 returns-4 c = past _ _ (told foundGate (c .before .before .before .before .before .before .before .before .before .before .enum-told .given .1) (c .before .before .before .before .before .before .before .before .before .before .before .before .plain-at .ensures)) (past _ _ (told foundGate (c .before .before .before .before .before .before .before .enum-told2 .given .1) (c .before .before .before .before .before .before .before .before .before .plain-at2 .ensures)) (past _ _ (told foundOctet (c .before .before .before .before .v .given .1) (c .before .before .before .before .before .before .choice-at .ensures)) (past _ _ (told foundGate (c .enum-told3 .given .1) (c .before .before .pad-at .ensures)) (refl))))
 
--- src/lib.rt:224:1
 returns-5 : tie.Need-returns-5
 unfolding critAt
 returns-5 c = past _ _ (told foundGate (c .before .before .before .before .before .before .before .before .before .before .before .enum-told .given .1) (c .before .before .before .before .before .before .before .before .before .before .before .before .before .plain-at .ensures)) (past _ _ (told foundGate (c .before .before .before .before .before .before .before .before .enum-told2 .given .1) (c .before .before .before .before .before .before .before .before .before .before .plain-at2 .ensures)) (past _ _ (told foundOctet (c .before .before .before .before .before .v .given .1) (c .before .before .before .before .before .before .before .choice-at .ensures)) (halt _ (told foundGate (c .before .x4 .given .1) (c .before .before .before .pad-at .ensures)))))

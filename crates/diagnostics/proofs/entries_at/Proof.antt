@@ -1,3 +1,4 @@
+-- `diagnostics::entries_at` meets its contract. Each return is the chain of the readings on the way to it. Assumes nothing.
 use borrow.Author.Needs.{needs}
 use Rattle.octets.proofs.Chain.{past, halt, told}
 use native.Mathlib.Omega.{arith}
@@ -19,12 +20,6 @@ use Rattle.diagnostics.specs.Diagnostics.{emptyEntry, entryAt, entriesAt
 use Rattle.diagnostics.specs.Found.{foundEntry, listRead}
 use Rattle.diagnostics.proofs.entries_at.Statement.{statement}
 use Rattle.diagnostics.proofs.entries_at.Tie as tie
-use Rattle.diagnostics.proofs.entries_at.Reads as reads
-use Rattle.diagnostics.proofs.entries_at.Lts as lts
-use Rattle.diagnostics.proofs.entry_at.Reads as entry-at-reads
-use Rattle.diagnostics.proofs.no_list.Reads as no-list-reads
-use Rattle.octets.proofs.ends_at.Reads as ends-at-reads
-use Rattle.octets.proofs.pad_at.Reads as pad-at-reads
 
 abbrev Inv-loop : tie.InvT-loop
 Inv-loop n s from rows₀ i₀ at₀ rows i at = (i ≤ n) × (ys : List Entry) × (i ≡ length ys) × (rows ≡ fill emptyEntry 256 ys) × (before ys (many (entryAt s from) (n - i) at) ≡ many (entryAt s from) n from)
@@ -32,49 +27,38 @@ Inv-loop n s from rows₀ i₀ at₀ rows i at = (i ≤ n) × (ys : List Entry) 
 abbrev μ-loop : tie.MeasureT-loop
 μ-loop n s from rows₀ i₀ at₀ rows i at = n - i
 
--- src/lib.rt:317:5
 loop-holds : tie.Need-loop-holds Inv-loop μ-loop
 loop-holds c = (omega arith, [], refl, refl, rw sub-zero (before-none _))
 
--- src/lib.rt:318:15
 entry-at-requires : tie.Need-entry-at-requires Inv-loop μ-loop
 entry-at-requires c κs = search needs
 
--- src/lib.rt:319:27
 enum-known-v : tie.Need-enum-known-v Inv-loop μ-loop
 enum-known-v c = search needs
 
--- src/lib.rt:320:17
 mul-rows : tie.Need-mul-rows Inv-loop μ-loop
 mul-rows c = omega arith
 
--- src/lib.rt:320:17
 array-set-from-rows : tie.Need-array-set-from-rows Inv-loop μ-loop
 array-set-from-rows c = omega arith
 
--- src/lib.rt:323:29
 enum-known-x : tie.Need-enum-known-x Inv-loop μ-loop
 enum-known-x c = search needs
 
--- src/lib.rt:324:17
 no-list-requires : tie.Need-no-list-requires Inv-loop μ-loop
 no-list-requires c κs = search needs
 
--- src/lib.rt:324:17
 returns : tie.Need-returns Inv-loop μ-loop
 unfolding entriesAt
 returns c = let b = c .before .before .before .before .before .before .loop in
     c .no-list .ensures ∙ ap listRead (halt _ (many-stop _ (b .inv .1) (c .before .before .before .before .before .before .before .before .args .n - b .i) _ (omega arith) _ (told foundEntry (c .before .before .x .given .1) (c .before .before .before .before .entry-at .ensures)) ∙ b .inv .4))
 
--- src/lib.rt:327:9
 add-i : tie.Need-add-i Inv-loop μ-loop
 add-i c = omega arith
 
--- src/lib.rt:317:5
 loop-less : tie.Need-loop-less Inv-loop μ-loop
 loop-less c = omega arith
 
--- src/lib.rt:317:5
 loop-again : tie.Need-loop-again Inv-loop μ-loop
 loop-again c = let b = c .before .before .before .before .before .loop in let a = c .before .before .before .before .before .before .before .args in
     let q : a .n - (b .i + 1) ≡ a .n - b .i - 1 = omega arith in (
@@ -85,55 +69,44 @@ loop-again c = let b = c .before .before .before .before .before .loop in let a 
       rw q (many-one _ (b .inv .1) (a .n - b .i) _ (omega arith) _ (told foundEntry (c .before .v .given .1) (c .before .before .before .entry-at .ensures)) ∙ b .inv .4),
     )
 
--- src/lib.rt:329:11
 pad-at-requires : tie.Need-pad-at-requires Inv-loop μ-loop
 pad-at-requires c κs = search needs
 
 enum-told : tie.Need-enum-told Inv-loop μ-loop
 enum-told c = search needs
 
--- src/lib.rt:331:20
 enum-known-x-2 : tie.Need-enum-known-x-2 Inv-loop μ-loop
 enum-known-x-2 c = search needs
 
--- src/lib.rt:332:13
 no-list-requires-2 : tie.Need-no-list-requires-2 Inv-loop μ-loop
 no-list-requires-2 c κs = search needs
 
--- src/lib.rt:332:13
 returns-2 : tie.Need-returns-2 Inv-loop μ-loop
 unfolding entriesAt
 returns-2 c = let b = c .before .before .before .before .before .before .loop in
     c .no-list2 .ensures ∙ ap listRead (past _ _ (many-none _ (b .inv .1) (c .before .before .before .before .before .before .before .before .args .n - b .i) _ (omega arith) ∙ b .inv .4) (halt _ (told foundGate (c .before .before .x2 .given .1) (c .before .before .before .before .pad-at .ensures))))
 
--- src/lib.rt:335:30
 add-ends-at : tie.Need-add-ends-at Inv-loop μ-loop
 add-ends-at c = omega (arith, pad-got (now (c .before .before .before .before .before .before .args .s)) (c .before .before .before .before .loop .at) 2 (λ q. omega arith) (told foundGate (c .enum-told .given .1) (c .before .before .pad-at .ensures)) .0)
 
--- src/lib.rt:335:11
 ends-at-requires : tie.Need-ends-at-requires Inv-loop μ-loop
 ends-at-requires c κs = search needs
 
--- src/lib.rt:337:19
 enum-told-2 : tie.Need-enum-told-2 Inv-loop μ-loop
 enum-told-2 c = search needs
 
--- src/lib.rt:343:20
 enum-known-x-3 : tie.Need-enum-known-x-3 Inv-loop μ-loop
 enum-known-x-3 c = search needs
 
--- src/lib.rt:343:26
 no-list-requires-3 : tie.Need-no-list-requires-3 Inv-loop μ-loop
 no-list-requires-3 c κs = search needs
 
--- src/lib.rt:305:1
 returns-3 : tie.Need-returns-3 Inv-loop μ-loop
 unfolding entriesAt
 returns-3 c = let b = c .before .before .before .before .before .before .before .loop in
     (λ j. record { gate = gate.Pass; entries = record { rows = b .inv .3 j; count = b .inv .2 j } })
     ∙ ap listRead (past _ _ (many-none _ (b .inv .1) (c .before .before .before .before .before .before .before .before .before .args .n - b .i) _ (omega arith) ∙ b .inv .4) (past _ _ (told foundGate (c .before .before .before .enum-told .given .1) (c .before .before .before .before .before .pad-at .ensures)) (past _ _ (told foundGate (c .enum-told2 .given .1) (c .before .before .ends-at .ensures)) refl)))
 
--- src/lib.rt:305:1
 returns-4 : tie.Need-returns-4 Inv-loop μ-loop
 unfolding entriesAt
 returns-4 c = let b = c .before .before .before .before .before .before .before .before .before .loop in

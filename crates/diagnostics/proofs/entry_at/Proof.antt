@@ -1,3 +1,4 @@
+-- `diagnostics::entry_at` meets its contract. Each return is the chain of the readings on the way to it. Assumes nothing.
 use Rattle.octets.proofs.Chain.{past, halt, told}
 use native.Mathlib.Omega.{arith}
 use mathlib.Core.Path.{refl}
@@ -10,109 +11,78 @@ use Rattle.diagnostics.proofs.Bounds.{begins-le, crit-in}
 use borrow.Author.Needs.{needs}
 use Rattle.diagnostics.proofs.entry_at.Statement.{statement}
 use Rattle.diagnostics.proofs.entry_at.Tie as tie
-use Rattle.diagnostics.proofs.entry_at.Reads as reads
-use Rattle.diagnostics.proofs.entry_at.Lts as lts
-use Rattle.diagnostics.proofs.begin_of.Reads as begin-of-reads
-use Rattle.diagnostics.proofs.crit_at.Reads as crit-at-reads
-use Rattle.octets.proofs.choice_at.Reads as choice-at-reads
-use Rattle.octets.proofs.plain_at.Reads as plain-at-reads
-use Rattle.octets.proofs.two_at.Reads as two-at-reads
 
--- LEM
 -- the entry begins inside
 begun : (c : tie.After-known-told) → c .before .before .before .before .before .before .args .at < length (now (c .before .before .before .before .before .before .args .s))
 begun c = crit-in _ _ (c .before .before .before .before .begin-of .result) (told foundOctet (c .before .v .given .1) (c .before .before .before .crit-at .ensures))
 
--- /LEM
-
--- src/lib.rt:256:37
 begin-of-requires : tie.Need-begin-of-requires
 begin-of-requires c κs = search needs
 
--- src/lib.rt:256:22
 crit-at-requires : tie.Need-crit-at-requires
 crit-at-requires c κs = omega (arith, begins-le (c .before .before .args .from) (c .before .before .args .at))
 
--- src/lib.rt:257:19
 enum-known-v : tie.Need-enum-known-v
 enum-known-v c = search needs
 
--- src/lib.rt:258:21
 enum-known-x : tie.Need-enum-known-x
 enum-known-x c = search needs
 
--- src/lib.rt:259:13
 returns : tie.Need-returns
 unfolding entryAt
 returns c = halt _ (told foundOctet (c .before .x .given .1) (rw (c .before .before .before .before .begin-of .ensures) at (c .before .before .before .crit-at .ensures)))
 
--- src/lib.rt:262:38
 add-two-at : tie.Need-add-two-at
 add-two-at c = omega (arith, begun c)
 
--- src/lib.rt:262:20
 two-at-requires : tie.Need-two-at-requires
 two-at-requires c κs = search needs
 
--- src/lib.rt:263:17
 enum-known-v-2 : tie.Need-enum-known-v-2
 enum-known-v-2 c = search needs
 
--- src/lib.rt:264:19
 enum-known-x-2 : tie.Need-enum-known-x-2
 enum-known-x-2 c = search needs
 
--- src/lib.rt:265:13
 returns-2 : tie.Need-returns-2
 unfolding entryAt
 returns-2 c = past _ _ (told foundOctet (c .before .before .before .before .before .v .given .1) (rw (c .before .before .before .before .before .before .before .before .begin-of .ensures) at (c .before .before .before .before .before .before .before .crit-at .ensures))) (halt _ (told foundTwo (c .before .x2 .given .1) (c .before .before .before .two-at .ensures)))
 
--- src/lib.rt:268:31
 add-plain-at : tie.Need-add-plain-at
 add-plain-at c = omega (arith, begun (c .before .before .before .before))
 
--- src/lib.rt:268:11
 plain-at-requires : tie.Need-plain-at-requires
 plain-at-requires c κs = search needs
 
 enum-told : tie.Need-enum-told
 enum-told c = search needs
 
--- src/lib.rt:270:20
 enum-known-x-3 : tie.Need-enum-known-x-3
 enum-known-x-3 c = search needs
 
--- src/lib.rt:271:13
 returns-3 : tie.Need-returns-3
 unfolding entryAt
 returns-3 c = past _ _ (told foundOctet (c .before .before .before .before .before .before .before .before .before .v .given .1) (rw (c .before .before .before .before .before .before .before .before .before .before .before .before .begin-of .ensures) at (c .before .before .before .before .before .before .before .before .before .before .before .crit-at .ensures))) (past _ _ (told foundTwo (c .before .before .before .before .before .v2 .given .1) (c .before .before .before .before .before .before .before .two-at .ensures)) (halt _ (told foundGate (c .before .x3 .given .1) (c .before .before .before .plain-at .ensures))))
 
--- src/lib.rt:274:38
 add-choice-at : tie.Need-add-choice-at
 add-choice-at c = omega (arith, begun (c .before .before .before .before .before .before .before))
 
--- src/lib.rt:274:11
 choice-at-requires : tie.Need-choice-at-requires
 choice-at-requires c κs = search needs
 
--- src/lib.rt:275:19
 enum-known-v-3 : tie.Need-enum-known-v-3
 enum-known-v-3 c = search needs
 
--- src/lib.rt:281:13
 add-t23 : tie.Need-add-t23
 add-t23 c = omega (arith, begun (c .before .before .before .before .before .before .before .before .before .before .before), c .before .before .before .before .before .before .before .before .before .before .before .before .before .before .before .before .before .good .0 .1)
 
--- src/lib.rt:283:21
 enum-known-x-4 : tie.Need-enum-known-x-4
 enum-known-x-4 c = search needs
 
--- src/lib.rt:253:1
 returns-4 : tie.Need-returns-4
 unfolding entryAt
 returns-4 c = past _ _ (told foundOctet (c .before .before .before .before .before .before .before .before .before .before .before .before .v .given .1) (rw (c .before .before .before .before .before .before .before .before .before .before .before .before .before .before .before .begin-of .ensures) at (c .before .before .before .before .before .before .before .before .before .before .before .before .before .before .crit-at .ensures))) (past _ _ (told foundTwo (c .before .before .before .before .before .before .before .before .v2 .given .1) (c .before .before .before .before .before .before .before .before .before .before .two-at .ensures)) (past _ _ (told foundGate (c .before .before .before .before .enum-told .given .1) (c .before .before .before .before .before .before .plain-at .ensures)) (past _ _ (told foundOctet (c .before .v3 .given .1) (c .before .before .before .choice-at .ensures)) (refl))))
 
--- src/lib.rt:253:1
 returns-5 : tie.Need-returns-5
 unfolding entryAt
 returns-5 c = past _ _ (told foundOctet (c .before .before .before .before .before .before .before .before .before .before .before .before .v .given .1) (rw (c .before .before .before .before .before .before .before .before .before .before .before .before .before .before .before .begin-of .ensures) at (c .before .before .before .before .before .before .before .before .before .before .before .before .before .before .crit-at .ensures))) (past _ _ (told foundTwo (c .before .before .before .before .before .before .before .before .v2 .given .1) (c .before .before .before .before .before .before .before .before .before .before .two-at .ensures)) (past _ _ (told foundGate (c .before .before .before .before .enum-told .given .1) (c .before .before .before .before .before .before .plain-at .ensures)) (halt _ (told foundOctet (c .before .x4 .given .1) (c .before .before .before .choice-at .ensures)))))

@@ -1,6 +1,7 @@
+-- `diagnostics::head_at` meets its contract. Each return is the chain of the readings on the way to it. Assumes nothing.
 use native.Mathlib.Omega.{arith}
-use mathlib.Core.Path.{_≡_, _∙_, refl, ap}
-use Prim.Native.Nat.{ℕ, _+_, _/_, _<_}
+use mathlib.Core.Path.{_≡_, _∙_, ap}
+use Prim.Native.Nat.{_+_, _/_, _<_}
 use lib.ListN.{length}
 use denote.Ref.{now}
 use Rattle.octets.specs.Read.{got}
@@ -13,16 +14,7 @@ use Rattle.diagnostics.proofs.Bounds.{after-le, marks-in}
 use borrow.Author.Needs.{needs}
 use Rattle.diagnostics.proofs.head_at.Statement.{statement}
 use Rattle.diagnostics.proofs.head_at.Tie as tie
-use Rattle.diagnostics.proofs.head_at.Reads as reads
-use Rattle.diagnostics.proofs.head_at.Lts as lts
-use Rattle.diagnostics.proofs.after_bits.Reads as after-bits-reads
-use Rattle.diagnostics.proofs.code_at.Reads as code-at-reads
-use Rattle.diagnostics.proofs.marks_at.Reads as marks-at-reads
-use Rattle.diagnostics.proofs.maybe_at.Reads as maybe-at-reads
-use Rattle.diagnostics.proofs.wide.Reads as wide-reads
-use Rattle.octets.proofs.pad_at.Reads as pad-at-reads
 
--- LEM
 -- what was read, place by place
 marks : (c : tie.After-known-told) → got (c .before .v .given .0 .0) ≡ marksAt (now (c .before .before .before .before .before .args .s)) (c .before .before .before .before .before .args .at)
 marks c = told foundMarks (c .before .v .given .1) (c .before .before .before .marks-at .ensures)
@@ -50,126 +42,95 @@ pad c = rw (← third (c .before .before .before .before .before .before .before
 begun : (c : tie.After-known-told) → c .before .before .before .before .before .args .at < length (now (c .before .before .before .before .before .args .s))
 begun c = marks-in _ _ (marks c)
 
--- /LEM
-
--- src/lib.rt:179:19
 marks-at-requires : tie.Need-marks-at-requires
 marks-at-requires c κs = search needs
 
--- src/lib.rt:180:23
 enum-known-v : tie.Need-enum-known-v
 enum-known-v c = search needs
 
--- src/lib.rt:181:25
 enum-known-x : tie.Need-enum-known-x
 enum-known-x c = search needs
 
--- src/lib.rt:182:13
 returns : tie.Need-returns
 unfolding headAt
 returns c = halt _ (told foundMarks (c .before .x .given .1) (c .before .before .before .marks-at .ensures))
 
--- src/lib.rt:185:9
 after-bits-requires : tie.Need-after-bits-requires
 after-bits-requires c κs = search needs
 
--- src/lib.rt:186:9
 after-bits-requires-2 : tie.Need-after-bits-requires-2
 after-bits-requires-2 c κs = omega (arith, after-le (c .before .before .v .given .0 .0 .code) 10 6)
 
--- src/lib.rt:187:9
 after-bits-requires-3 : tie.Need-after-bits-requires-3
 after-bits-requires-3 c κs = omega (arith, after-le (c .before .before .before .v .given .0 .0 .code) 10 6, after-le (c .before .before .before .v .given .0 .0 .trigger) 2 (c .before .after-bits .result))
 
--- src/lib.rt:188:22
 code-at-requires : tie.Need-code-at-requires
 code-at-requires c κs = begun (c .before .before .before)
 
--- src/lib.rt:189:24
 enum-known-v-2 : tie.Need-enum-known-v-2
 enum-known-v-2 c = search needs
 
--- src/lib.rt:190:26
 enum-known-x-2 : tie.Need-enum-known-x-2
 enum-known-x-2 c = search needs
 
--- src/lib.rt:191:13
 returns-2 : tie.Need-returns-2
 unfolding headAt
 returns-2 c = past _ _ (marks (c .before .before .before .before .before .before .before)) (halt _ (told foundNumber (c .before .x2 .given .1) (c .before .before .before .code-at .ensures)))
 
--- src/lib.rt:194:25
 maybe-at-requires : tie.Need-maybe-at-requires
 maybe-at-requires c κs = begun (c .before .before .before .before .before .before .before)
 
--- src/lib.rt:195:24
 enum-known-v-3 : tie.Need-enum-known-v-3
 enum-known-v-3 c = search needs
 
--- src/lib.rt:196:26
 enum-known-x-3 : tie.Need-enum-known-x-3
 enum-known-x-3 c = search needs
 
--- src/lib.rt:197:13
 returns-3 : tie.Need-returns-3
 unfolding headAt
 returns-3 c = past _ _ (marks (c .before .before .before .before .before .before .before .before .before .before .before)) (past _ _ (code (c .before .before .before .before)) (halt _ (told foundNumber (c .before .x3 .given .1) (c .before .before .before .maybe-at .ensures ∙ ap (maybeAt _ _ _) (c .before .before .before .before .before .before .before .before .before .before .after-bits .ensures)))))
 
--- src/lib.rt:200:22
 maybe-at-requires-2 : tie.Need-maybe-at-requires-2
 maybe-at-requires-2 c κs = begun (c .before .before .before .before .before .before .before .before .before .before .before)
 
--- src/lib.rt:201:24
 enum-known-v-4 : tie.Need-enum-known-v-4
 enum-known-v-4 c = search needs
 
--- src/lib.rt:202:26
 enum-known-x-4 : tie.Need-enum-known-x-4
 enum-known-x-4 c = search needs
 
--- src/lib.rt:203:13
 returns-4 : tie.Need-returns-4
 unfolding headAt
 returns-4 c = past _ _ (marks (c .before .before .before .before .before .before .before .before .before .before .before .before .before .before .before)) (past _ _ (code (c .before .before .before .before .before .before .before .before)) (past _ _ (trigger (c .before .before .before .before)) (halt _ (told foundNumber (c .before .x4 .given .1) (c .before .before .before .maybe-at2 .ensures ∙ ap (maybeAt _ _ _) (second (c .before .before .before .before .before .before .before .before .before .before .before .before .before)))))))
 
--- src/lib.rt:206:34
 wide-requires : tie.Need-wide-requires
 wide-requires c κs = search needs
 
--- src/lib.rt:206:29
 add-pad-at : tie.Need-add-pad-at
 add-pad-at c = omega (arith, begun (c .before .before .before .before .before .before .before .before .before .before .before .before .before .before .before .before), c .before .before .before .before .before .before .before .before .before .before .before .before .before .before .before .before .before .before .before .before .before .good .0 .1)
 
--- src/lib.rt:206:11
 pad-at-requires : tie.Need-pad-at-requires
 pad-at-requires c κs = search needs
 
--- src/lib.rt:208:13
 enum-told : tie.Need-enum-told
 enum-told c = search needs
 
--- src/lib.rt:214:24
 add-wide : tie.Need-add-wide
 add-wide c = omega (arith, after-le (c .before .before .before .before .before .before .before .before .before .before .before .before .before .before .before .before .before .before .before .before .v .given .0 .0 .code) 10 6, after-le (c .before .before .before .before .before .before .before .before .before .before .before .before .before .before .before .before .before .before .before .before .v .given .0 .0 .trigger) 2 (c .before .before .before .before .before .before .before .before .before .before .before .before .before .before .before .before .before .before .after-bits .result), after-le (c .before .before .before .before .before .before .before .before .before .before .before .before .before .before .before .before .before .before .before .before .v .given .0 .0 .crit) 2 (c .before .before .before .before .before .before .before .before .before .before .before .before .before .before .before .before .before .after-bits2 .result))
 
--- src/lib.rt:214:18
 wide-requires-2 : tie.Need-wide-requires-2
 wide-requires-2 c κs = search needs
 
--- src/lib.rt:214:13
 add-t36 : tie.Need-add-t36
 add-t36 c = omega (arith, begun (c .before .before .before .before .before .before .before .before .before .before .before .before .before .before .before .before .before .before .before .before), c .before .before .before .before .before .before .before .before .before .before .before .before .before .before .before .before .before .before .before .before .before .before .before .before .before .good .0 .1)
 
--- src/lib.rt:216:20
 enum-known-x-5 : tie.Need-enum-known-x-5
 enum-known-x-5 c = search needs
 
--- src/lib.rt:176:1
 returns-5 : tie.Need-returns-5
 unfolding headAt
 returns-5 c = past _ _ (marks (c .before .before .before .before .before .before .before .before .before .before .before .before .before .before .before .before .before .before .before .before)) (past _ _ (code (c .before .before .before .before .before .before .before .before .before .before .before .before .before)) (past _ _ (trigger (c .before .before .before .before .before .before .before .before .before)) (past _ _ (crit (c .before .before .before .before .before)) (past _ _ (told foundGate (c .before .enum-told .given .1) (pad (c .before .before .before))) (rw (c .wide2 .ensures, third (c .before .before .before .before .before .before .before .before .before .before .before .before .before .before .before .before .before)))))))
 
--- src/lib.rt:176:1
 returns-6 : tie.Need-returns-6
 unfolding headAt
 returns-6 c = past _ _ (marks (c .before .before .before .before .before .before .before .before .before .before .before .before .before .before .before .before .before .before .before .before)) (past _ _ (code (c .before .before .before .before .before .before .before .before .before .before .before .before .before)) (past _ _ (trigger (c .before .before .before .before .before .before .before .before .before)) (past _ _ (crit (c .before .before .before .before .before)) (halt _ (told foundGate (c .before .x5 .given .1) (pad (c .before .before .before)))))))

@@ -1,3 +1,4 @@
+-- `diagnostics::marks_at` meets its contract. Each return is the chain of the readings on the way to it. Assumes nothing.
 use Rattle.octets.proofs.Chain.{past, halt, told}
 use mathlib.Core.Path.{refl}
 use Rattle.octets.specs.Found.{foundGate, foundFlag}
@@ -5,113 +6,85 @@ use Rattle.diagnostics.specs.Diagnostics.{marksAt}
 use borrow.Author.Needs.{needs}
 use Rattle.diagnostics.proofs.marks_at.Statement.{statement}
 use Rattle.diagnostics.proofs.marks_at.Tie as tie
-use Rattle.diagnostics.proofs.marks_at.Reads as reads
-use Rattle.diagnostics.proofs.marks_at.Lts as lts
-use Rattle.octets.proofs.flag_at.Reads as flag-at-reads
-use Rattle.octets.proofs.plain_at.Reads as plain-at-reads
 
--- src/lib.rt:88:11
 plain-at-requires : tie.Need-plain-at-requires
 plain-at-requires c κs = search needs
 
 enum-told : tie.Need-enum-told
 enum-told c = search needs
 
--- src/lib.rt:90:20
 enum-known-x : tie.Need-enum-known-x
 enum-known-x c = search needs
 
--- src/lib.rt:91:13
 returns : tie.Need-returns
 unfolding marksAt
 returns c = halt _ (told foundGate (c .before .x .given .1) (c .before .before .before .plain-at .ensures))
 
--- src/lib.rt:94:22
 flag-at-requires : tie.Need-flag-at-requires
 flag-at-requires c κs = search needs
 
--- src/lib.rt:95:18
 enum-known-v : tie.Need-enum-known-v
 enum-known-v c = search needs
 
--- src/lib.rt:96:20
 enum-known-x-2 : tie.Need-enum-known-x-2
 enum-known-x-2 c = search needs
 
--- src/lib.rt:97:13
 returns-2 : tie.Need-returns-2
 unfolding marksAt
 returns-2 c = past _ _ (told foundGate (c .before .before .before .before .enum-told .given .1) (c .before .before .before .before .before .before .plain-at .ensures)) (halt _ (told foundFlag (c .before .x2 .given .1) (c .before .before .before .flag-at .ensures)))
 
--- src/lib.rt:100:25
 flag-at-requires-2 : tie.Need-flag-at-requires-2
 flag-at-requires-2 c κs = search needs
 
--- src/lib.rt:101:18
 enum-known-v-2 : tie.Need-enum-known-v-2
 enum-known-v-2 c = search needs
 
--- src/lib.rt:102:20
 enum-known-x-3 : tie.Need-enum-known-x-3
 enum-known-x-3 c = search needs
 
--- src/lib.rt:103:13
 returns-3 : tie.Need-returns-3
 unfolding marksAt
 returns-3 c = past _ _ (told foundGate (c .before .before .before .before .before .before .before .before .enum-told .given .1) (c .before .before .before .before .before .before .before .before .before .before .plain-at .ensures)) (past _ _ (told foundFlag (c .before .before .before .before .before .v .given .1) (c .before .before .before .before .before .before .before .flag-at .ensures)) (halt _ (told foundFlag (c .before .x3 .given .1) (c .before .before .before .flag-at2 .ensures))))
 
--- src/lib.rt:106:22
 flag-at-requires-3 : tie.Need-flag-at-requires-3
 flag-at-requires-3 c κs = search needs
 
--- src/lib.rt:107:18
 enum-known-v-3 : tie.Need-enum-known-v-3
 enum-known-v-3 c = search needs
 
--- src/lib.rt:108:20
 enum-known-x-4 : tie.Need-enum-known-x-4
 enum-known-x-4 c = search needs
 
--- src/lib.rt:109:13
 returns-4 : tie.Need-returns-4
 unfolding marksAt
 returns-4 c = past _ _ (told foundGate (c .before .before .before .before .before .before .before .before .before .before .before .before .enum-told .given .1) (c .before .before .before .before .before .before .before .before .before .before .before .before .before .before .plain-at .ensures)) (past _ _ (told foundFlag (c .before .before .before .before .before .before .before .before .before .v .given .1) (c .before .before .before .before .before .before .before .before .before .before .before .flag-at .ensures)) (past _ _ (told foundFlag (c .before .before .before .before .before .v2 .given .1) (c .before .before .before .before .before .before .before .flag-at2 .ensures)) (halt _ (told foundFlag (c .before .x4 .given .1) (c .before .before .before .flag-at3 .ensures)))))
 
--- src/lib.rt:112:24
 flag-at-requires-4 : tie.Need-flag-at-requires-4
 flag-at-requires-4 c κs = search needs
 
--- src/lib.rt:113:18
 enum-known-v-4 : tie.Need-enum-known-v-4
 enum-known-v-4 c = search needs
 
--- src/lib.rt:114:20
 enum-known-x-5 : tie.Need-enum-known-x-5
 enum-known-x-5 c = search needs
 
--- src/lib.rt:115:13
 returns-5 : tie.Need-returns-5
 unfolding marksAt
 returns-5 c = past _ _ (told foundGate (c .before .before .before .before .before .before .before .before .before .before .before .before .before .before .before .before .enum-told .given .1) (c .before .before .before .before .before .before .before .before .before .before .before .before .before .before .before .before .before .before .plain-at .ensures)) (past _ _ (told foundFlag (c .before .before .before .before .before .before .before .before .before .before .before .before .before .v .given .1) (c .before .before .before .before .before .before .before .before .before .before .before .before .before .before .before .flag-at .ensures)) (past _ _ (told foundFlag (c .before .before .before .before .before .before .before .before .before .v2 .given .1) (c .before .before .before .before .before .before .before .before .before .before .before .flag-at2 .ensures)) (past _ _ (told foundFlag (c .before .before .before .before .before .v3 .given .1) (c .before .before .before .before .before .before .before .flag-at3 .ensures)) (halt _ (told foundFlag (c .before .x5 .given .1) (c .before .before .before .flag-at4 .ensures))))))
 
--- src/lib.rt:118:11
 plain-at-requires-2 : tie.Need-plain-at-requires-2
 plain-at-requires-2 c κs = search needs
 
--- src/lib.rt:119:37
 enum-told-2 : tie.Need-enum-told-2
 enum-told-2 c = search needs
 
--- src/lib.rt:125:20
 enum-known-x-6 : tie.Need-enum-known-x-6
 enum-known-x-6 c = search needs
 
--- src/lib.rt:85:1
 returns-6 : tie.Need-returns-6
 unfolding marksAt
 returns-6 c = past _ _ (told foundGate (c .before .before .before .before .before .before .before .before .before .before .before .before .before .before .before .before .before .before .before .enum-told .given .1) (c .before .before .before .before .before .before .before .before .before .before .before .before .before .before .before .before .before .before .before .before .before .plain-at .ensures)) (past _ _ (told foundFlag (c .before .before .before .before .before .before .before .before .before .before .before .before .before .before .before .before .v .given .1) (c .before .before .before .before .before .before .before .before .before .before .before .before .before .before .before .before .before .before .flag-at .ensures)) (past _ _ (told foundFlag (c .before .before .before .before .before .before .before .before .before .before .before .before .v2 .given .1) (c .before .before .before .before .before .before .before .before .before .before .before .before .before .before .flag-at2 .ensures)) (past _ _ (told foundFlag (c .before .before .before .before .before .before .before .before .v3 .given .1) (c .before .before .before .before .before .before .before .before .before .before .flag-at3 .ensures)) (past _ _ (told foundFlag (c .before .before .before .before .v4 .given .1) (c .before .before .before .before .before .before .flag-at4 .ensures)) (past _ _ (told foundGate (c .enum-told2 .given .1) (c .before .before .plain-at2 .ensures)) (refl))))))
 
--- src/lib.rt:85:1
 returns-7 : tie.Need-returns-7
 unfolding marksAt
 returns-7 c = past _ _ (told foundGate (c .before .before .before .before .before .before .before .before .before .before .before .before .before .before .before .before .before .before .before .before .enum-told .given .1) (c .before .before .before .before .before .before .before .before .before .before .before .before .before .before .before .before .before .before .before .before .before .before .plain-at .ensures)) (past _ _ (told foundFlag (c .before .before .before .before .before .before .before .before .before .before .before .before .before .before .before .before .before .v .given .1) (c .before .before .before .before .before .before .before .before .before .before .before .before .before .before .before .before .before .before .before .flag-at .ensures)) (past _ _ (told foundFlag (c .before .before .before .before .before .before .before .before .before .before .before .before .before .v2 .given .1) (c .before .before .before .before .before .before .before .before .before .before .before .before .before .before .before .flag-at2 .ensures)) (past _ _ (told foundFlag (c .before .before .before .before .before .before .before .before .before .v3 .given .1) (c .before .before .before .before .before .before .before .before .before .before .before .flag-at3 .ensures)) (past _ _ (told foundFlag (c .before .before .before .before .before .v4 .given .1) (c .before .before .before .before .before .before .before .flag-at4 .ensures)) (halt _ (told foundGate (c .before .x6 .given .1) (c .before .before .before .plain-at2 .ensures)))))))

@@ -1,3 +1,4 @@
+-- `diagnostics::maybe_list_at` meets its contract. Each return is the chain of the readings on the way to it. Assumes nothing.
 use Rattle.octets.proofs.Chain.{past, halt, told}
 use native.Mathlib.Omega.{arith}
 use mathlib.Core.Path.{_∙_, refl, ap}
@@ -11,64 +12,44 @@ use Rattle.diagnostics.proofs.ByGate.{list-none}
 use borrow.Author.Needs.{needs}
 use Rattle.diagnostics.proofs.maybe_list_at.Statement.{statement}
 use Rattle.diagnostics.proofs.maybe_list_at.Tie as tie
-use Rattle.diagnostics.proofs.maybe_list_at.Reads as reads
-use Rattle.diagnostics.proofs.maybe_list_at.Lts as lts
-use Rattle.diagnostics.proofs.entries_at.Reads as entries-at-reads
-use Rattle.diagnostics.proofs.no_list.Reads as no-list-reads
-use Rattle.diagnostics.proofs.wide.Reads as wide-reads
-use Rattle.octets.proofs.ends_at.Reads as ends-at-reads
-use Rattle.octets.proofs.octet_at.Reads as octet-at-reads
 
--- src/lib.rt:352:24
 ends-at-requires : tie.Need-ends-at-requires
 ends-at-requires c κs = search needs
 
--- src/lib.rt:352:9
 no-list-requires : tie.Need-no-list-requires
 no-list-requires c κs = search needs
 
--- src/lib.rt:352:9
 returns : tie.Need-returns
 returns c = rw (not-true (c .before .before .before .before .args .there) (c .before .before .if1 .taken), ← c .before .ends-at .ensures) (c .no-list .ensures ∙ list-none _)
 
--- src/lib.rt:354:11
 octet-at-requires : tie.Need-octet-at-requires
 octet-at-requires c κs = search needs
 
--- src/lib.rt:355:19
 enum-known-n : tie.Need-enum-known-n
 enum-known-n c = search needs
 
--- src/lib.rt:355:36
 wide-requires : tie.Need-wide-requires
 wide-requires c κs = search needs
 
--- src/lib.rt:355:36
 add-entries-at : tie.Need-add-entries-at
 add-entries-at c = search needs
 
--- src/lib.rt:355:52
 add-entries-at-2 : tie.Need-add-entries-at-2
 add-entries-at-2 c = omega (arith, number-got (now (c .before .before .before .before .before .before .before .args .s)) (c .before .before .before .before .before .before .before .args .at) 1 (told foundOctet (c .before .before .n .given .1) (c .before .before .before .before .octet-at .ensures)) .0)
 
--- src/lib.rt:355:25
 entries-at-requires : tie.Need-entries-at-requires
 entries-at-requires c κs = search needs
 
--- src/lib.rt:356:21
 enum-known-x : tie.Need-enum-known-x
 enum-known-x c = search needs
 
--- src/lib.rt:356:27
 no-list-requires-2 : tie.Need-no-list-requires-2
 no-list-requires-2 c κs = search needs
 
--- src/lib.rt:348:1
 returns-2 : tie.Need-returns-2
 unfolding listAt
 returns-2 c = rw (not-false (c .before .before .before .before .before .before .before .before .args .there) (c .before .before .before .before .before .before .if1 .left)) (rw (c .before .wide .ensures) at (c .entries-at .ensures) ∙ ap listRead (past _ _ (told foundOctet (c .before .before .before .n .given .1) (c .before .before .before .before .before .octet-at .ensures)) refl))
 
--- src/lib.rt:348:1
 returns-3 : tie.Need-returns-3
 unfolding listAt
 returns-3 c = rw (not-false (c .before .before .before .before .before .before .before .args .there) (c .before .before .before .before .before .if1 .left)) (c .no-list2 .ensures ∙ ap listRead (halt _ (told foundOctet (c .before .before .x .given .1) (c .before .before .before .before .octet-at .ensures))))

@@ -1,14 +1,11 @@
+-- `elements::also` meets its contract. It follows from what was called, and by computing. Assumes nothing.
 use borrow.Author.Needs.{needs}
 use Rattle.elements.proofs.also.Statement.{statement}
 use Rattle.elements.proofs.also.Tie as tie
-use Rattle.elements.proofs.also.Reads as reads
-use Rattle.elements.proofs.also.Lts as lts
 
--- src/lib.rt:177:9
 returns : tie.Need-returns
 returns c = search needs
 
--- src/lib.rt:173:1
 returns-2 : tie.Need-returns-2
 returns-2 c = rw (c .if1 .left)
 

@@ -1,3 +1,4 @@
+-- `elements::criticality_at` meets its contract. Each return is the chain of the readings on the way to it. Assumes nothing.
 use mathlib.Core.Path.{refl}
 use Rattle.octets.specs.Found.{foundOctet, foundGate}
 use Rattle.octets.proofs.Chain.{past, halt, told}
@@ -5,46 +6,33 @@ use Rattle.elements.specs.Envelope.{criticalityAt}
 use borrow.Author.Needs.{needs}
 use Rattle.elements.proofs.criticality_at.Statement.{statement}
 use Rattle.elements.proofs.criticality_at.Tie as tie
-use Rattle.elements.proofs.criticality_at.Reads as reads
-use Rattle.elements.proofs.criticality_at.Lts as lts
-use Rattle.octets.proofs.choice_at.Reads as choice-at-reads
-use Rattle.octets.proofs.pad_at.Reads as pad-at-reads
 
--- src/lib.rt:74:22
 choice-at-requires : tie.Need-choice-at-requires
 choice-at-requires c κs = search needs
 
--- src/lib.rt:75:19
 enum-known-v : tie.Need-enum-known-v
 enum-known-v c = search needs
 
--- src/lib.rt:76:21
 enum-known-x : tie.Need-enum-known-x
 enum-known-x c = search needs
 
--- src/lib.rt:77:13
 returns : tie.Need-returns
 unfolding criticalityAt
 returns c = halt _ (told foundOctet (c .before .x .given .1) (c .before .before .before .choice-at .ensures))
 
--- src/lib.rt:80:11
 pad-at-requires : tie.Need-pad-at-requires
 pad-at-requires c κs = search needs
 
--- src/lib.rt:81:23
 enum-told : tie.Need-enum-told
 enum-told c = search needs
 
--- src/lib.rt:82:20
 enum-known-x-2 : tie.Need-enum-known-x-2
 enum-known-x-2 c = search needs
 
--- src/lib.rt:71:1
 returns-2 : tie.Need-returns-2
 unfolding criticalityAt
 returns-2 c = past _ _ (told foundOctet (c .before .before .before .before .v .given .1) (c .before .before .before .before .before .before .choice-at .ensures)) (past _ _ (told foundGate (c .enum-told .given .1) (c .before .before .pad-at .ensures)) (refl))
 
--- src/lib.rt:71:1
 returns-3 : tie.Need-returns-3
 unfolding criticalityAt
 returns-3 c = past _ _ (told foundOctet (c .before .before .before .before .before .v .given .1) (c .before .before .before .before .before .before .before .choice-at .ensures)) (halt _ (told foundGate (c .before .x2 .given .1) (c .before .before .before .pad-at .ensures)))

@@ -1,5 +1,5 @@
-use mathlib.Core.Path.{_≡_, sym, _∙_, ap, refl}
-use native.Mathlib.Omega.{arith}
+-- `elements::elements_at` meets its contract. Where the rest is without fault, what the walk saw is the judging. Assumes nothing.
+use mathlib.Core.Path.{_∙_, ap, refl}
 use denote.Ref.{now}
 use Rattle.octets.specs.Found.{foundGate}
 use Rattle.octets.proofs.Chain.{past, halt, told}
@@ -10,30 +10,19 @@ use Rattle.elements.proofs.WalkLaws.{judged-front, judged-all}
 use borrow.Author.Needs.{needs}
 use Rattle.elements.proofs.elements_at.Statement.{statement}
 use Rattle.elements.proofs.elements_at.Tie as tie
-use Rattle.elements.proofs.elements_at.Reads as reads
-use Rattle.elements.proofs.elements_at.Lts as lts
-use Rattle.elements.proofs.not_judged.Reads as not-judged-reads
-use Rattle.elements.proofs.scan.Reads as scan-reads
-use Rattle.elements.proofs.walk.Reads as walk-reads
-use Rattle.elements.proofs.with_missing.Reads as with-missing-reads
 
--- src/lib.rt:310:9
 walk-requires : tie.Need-walk-requires
 walk-requires c κs = search needs
 
--- src/lib.rt:311:11
 scan-requires : tie.Need-scan-requires
 scan-requires c κs = search needs
 
--- src/lib.rt:312:20
 enum-known-x : tie.Need-enum-known-x
 enum-known-x c = search needs
 
--- src/lib.rt:313:13
 not-judged-requires : tie.Need-not-judged-requires
 not-judged-requires c κs = search needs
 
--- src/lib.rt:313:13
 returns : tie.Need-returns
 unfolding elementsAt
 returns c = c .not-judged .ensures ∙ ap judgedBy (halt _ (told foundGate (c .before .before .x .given .1) (c .before .before .before .before .scan .ensures) ∙ c .before .before .before .before .before .walk .ensures .faults))
@@ -41,18 +30,15 @@ returns c = c .not-judged .ensures ∙ ap judgedBy (halt _ (told foundGate (c .b
 enum-told : tie.Need-enum-told
 enum-told c = search needs
 
--- src/lib.rt:321:9
 returns-2 : tie.Need-returns-2
 unfolding elementsAt
 returns-2 c = let a = c .before .before .before .before .before .before .before .before .args in let q = told foundGate (c .before .before .before .enum-told .given .1) (c .before .before .before .before .before .scan .ensures) in
     judged-front (rowsIn (a .t)) (a .n) (headsAt (now (a .s)) (a .n) (a .from)) (c .before .before .before .before .before .before .walk .result) (c .before .before .before .before .before .before .walk .ensures .seen q) (c .if1 .taken)
     ∙ ap judgedBy (past _ _ (q ∙ c .before .before .before .before .before .before .walk .ensures .faults) refl)
 
--- src/lib.rt:332:16
 with-missing-requires : tie.Need-with-missing-requires
 with-missing-requires c κs = search needs
 
--- src/lib.rt:307:1
 returns-3 : tie.Need-returns-3
 unfolding elementsAt
 returns-3 c = let a = c .before .before .before .before .before .before .before .before .before .args in let q = told foundGate (c .before .before .before .before .enum-told .given .1) (c .before .before .before .before .before .before .scan .ensures) in

@@ -1,15 +1,11 @@
+-- `elements::not_judged` meets its contract. It follows from what was called, and by computing. Assumes nothing.
 use borrow.Author.Needs.{needs}
 use Rattle.elements.proofs.not_judged.Statement.{statement}
 use Rattle.elements.proofs.not_judged.Tie as tie
-use Rattle.elements.proofs.not_judged.Reads as reads
-use Rattle.elements.proofs.not_judged.Lts as lts
-use Rattle.elements.proofs.no_notes.Reads as no-notes-reads
 
--- src/lib.rt:301:16
 no-notes-requires : tie.Need-no-notes-requires
 no-notes-requires c κs = search needs
 
--- src/lib.rt:293:1
 returns : tie.Need-returns
 returns c = rw (c .no-notes .ensures)
 

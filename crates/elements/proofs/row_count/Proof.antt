@@ -1,19 +1,15 @@
+-- `elements::row_count` meets its contract. It follows from what was called, and by computing. Assumes nothing.
 use borrow.Author.Needs.{needs}
-use lib.ListN.{take}
-use mathlib.Core.Path.{_≡_, sym, _∙_}
+use mathlib.Core.Path.{_≡_}
 use native.Mathlib.Omega.{arith}
 use lib.ListN.{length, length-take}
 use Rattle.lists.proofs.Slices.{length-of}
 use Rattle.elements.proofs.row_count.Statement.{statement}
 use Rattle.elements.proofs.row_count.Tie as tie
-use Rattle.elements.proofs.row_count.Reads as reads
-use Rattle.elements.proofs.row_count.Lts as lts
 
--- src/lib.rt:107:9
 returns : tie.Need-returns
 returns c = let a = c .before .args .t in let l : length (a .rows) ≡ 12 = search (needs, length-of) in (omega (arith, length-take (a .count) (a .rows)), omega arith)
 
--- src/lib.rt:102:1
 returns-2 : tie.Need-returns-2
 returns-2 c = let a = c .before .args .t in let l : length (a .rows) ≡ 12 = search (needs, length-of) in (omega (arith, length-take (a .count) (a .rows)), omega arith)
 

@@ -1,3 +1,4 @@
+-- `elements::scan` meets its contract. The loop's invariant: the faults left are the faults of all. Assumes nothing.
 use borrow.Author.Needs.{needs}
 use mathlib.Core.Path.{_≡_, sym, _∙_, refl}
 use native.Mathlib.Omega.{arith}
@@ -10,12 +11,6 @@ use Rattle.elements.specs.Envelope.{scanAt, foundEnvelope}
 use Rattle.elements.proofs.WalkLaws.{envelope-in, scan-none, scan-cut, scan-bad, scan-more}
 use Rattle.elements.proofs.scan.Statement.{statement}
 use Rattle.elements.proofs.scan.Tie as tie
-use Rattle.elements.proofs.scan.Reads as reads
-use Rattle.elements.proofs.scan.Lts as lts
-use Rattle.elements.proofs.envelope_at.Reads as envelope-at-reads
-use Rattle.elements.proofs.kind_of.Reads as kind-of-reads
-use Rattle.kinds.proofs.value_at.Reads as value-at-reads
-use Rattle.octets.proofs.ends_at.Reads as ends-at-reads
 
 abbrev Inv-loop : tie.InvT-loop
 Inv-loop t s n from left₀ at₀ left at = scanAt (rowsIn t) s left at ≡ scanAt (rowsIn t) s n from
@@ -23,66 +18,51 @@ Inv-loop t s n from left₀ at₀ left at = scanAt (rowsIn t) s left at ≡ scan
 abbrev μ-loop : tie.MeasureT-loop
 μ-loop t s n from left₀ at₀ left at = left
 
--- src/lib.rt:135:5
 loop-holds : tie.Need-loop-holds Inv-loop μ-loop
 loop-holds c = refl
 
--- src/lib.rt:136:15
 envelope-at-requires : tie.Need-envelope-at-requires Inv-loop μ-loop
 envelope-at-requires c κs = search needs
 
--- src/lib.rt:137:26
 enum-known-h : tie.Need-enum-known-h Inv-loop μ-loop
 enum-known-h c = search needs
 
--- src/lib.rt:139:39
 kind-of-requires : tie.Need-kind-of-requires Inv-loop μ-loop
 kind-of-requires c κs = search needs
 
--- src/lib.rt:139:57
 slice-aggregate-value-at : tie.Need-slice-aggregate-value-at Inv-loop μ-loop
 slice-aggregate-value-at c = sym (length-take-le _ (now (c .before .before .before .before .before .before .before .before .before .args .s)) (envelope-in (now (c .before .before .before .before .before .before .before .before .before .args .s)) (c .before .before .before .before .before .before .before .loop .at) (told foundEnvelope (c .before .before .before .h .given .1) (c .before .before .before .before .before .envelope-at .ensures)) .2))
 
--- src/lib.rt:139:23
 value-at-requires : tie.Need-value-at-requires Inv-loop μ-loop
 value-at-requires c κs = search needs
 
 enum-told : tie.Need-enum-told Inv-loop μ-loop
 enum-told c = search needs
 
--- src/lib.rt:141:32
 enum-known-x : tie.Need-enum-known-x Inv-loop μ-loop
 enum-known-x c = search needs
 
--- src/lib.rt:142:25
 returns : tie.Need-returns Inv-loop μ-loop
 returns c = scan-bad (rowsIn (c .before .before .before .before .before .before .before .before .before .before .before .before .before .args .t)) (now (c .before .before .before .before .before .before .before .before .before .before .before .before .before .args .s)) (c .before .before .before .before .before .before .before .before .before .before .before .loop .left) (c .before .before .before .before .before .before .before .before .before .before .before .loop .at) (λ q. omega arith) (c .before .before .before .before .before .before .before .h .given .0 .0) (told foundEnvelope (c .before .before .before .before .before .before .before .h .given .1) (c .before .before .before .before .before .before .before .before .before .envelope-at .ensures)) (told foundGate (c .before .x .given .1) (rw (c .before .before .before .before .before .kind-of .ensures) at (c .before .before .before .value-at .ensures))) ∙ c .before .before .before .before .before .before .before .before .before .before .before .loop .inv
 
--- src/lib.rt:146:17
 sub-left : tie.Need-sub-left Inv-loop μ-loop
 sub-left c = omega arith
 
--- src/lib.rt:135:5
 loop-less : tie.Need-loop-less Inv-loop μ-loop
 loop-less c = omega arith
 
--- src/lib.rt:135:5
 loop-again : tie.Need-loop-again Inv-loop μ-loop
 loop-again c = scan-more (rowsIn (c .before .before .before .before .before .before .before .before .before .before .before .before .args .t)) (now (c .before .before .before .before .before .before .before .before .before .before .before .before .args .s)) (c .before .before .before .before .before .before .before .before .before .before .loop .left) (c .before .before .before .before .before .before .before .before .before .before .loop .at) (λ q. omega arith) (c .before .before .before .before .before .before .h .given .0 .0) (told foundEnvelope (c .before .before .before .before .before .before .h .given .1) (c .before .before .before .before .before .before .before .before .envelope-at .ensures)) (told foundGate (c .enum-told .given .1) (rw (c .before .before .before .before .kind-of .ensures) at (c .before .before .value-at .ensures))) ∙ c .before .before .before .before .before .before .before .before .before .before .loop .inv
 
--- src/lib.rt:148:28
 enum-known-x-2 : tie.Need-enum-known-x-2 Inv-loop μ-loop
 enum-known-x-2 c = search needs
 
--- src/lib.rt:149:17
 returns-2 : tie.Need-returns-2 Inv-loop μ-loop
 returns-2 c = scan-cut (rowsIn (c .before .before .before .before .before .before .before .args .t)) (now (c .before .before .before .before .before .before .before .args .s)) (c .before .before .before .before .before .loop .left) (c .before .before .before .before .before .loop .at) (λ q. omega arith) (told foundEnvelope (c .before .x2 .given .1) (c .before .before .before .envelope-at .ensures)) ∙ c .before .before .before .before .before .loop .inv
 
--- src/lib.rt:153:5
 ends-at-requires : tie.Need-ends-at-requires Inv-loop μ-loop
 ends-at-requires c κs = search needs
 
--- src/lib.rt:130:1
 returns-3 : tie.Need-returns-3 Inv-loop μ-loop
 returns-3 c = c .ends-at .ensures ∙ (scan-none (rowsIn (c .before .before .before .before .args .t)) (now (c .before .before .before .before .args .s)) (c .before .before .loop .left) (c .before .before .loop .at) (omega arith) ∙ c .before .before .loop .inv)
 

@@ -1,8 +1,9 @@
+-- `elements::with_missing` meets its contract. The loop's invariant: the list holds what it did, and the rows passed that have no value. Assumes nothing.
 use borrow.Author.Needs.{needs}
 use borrow.Author.Tests.{lt-ltb, le-ltb, eq-eqb, ne-eqb, not-true, not-false}
-use mathlib.Core.Path.{_≡_, sym, _∙_, refl}
+use mathlib.Core.Path.{_≡_}
 use mathlib.Core.List.{List}
-use Prim.Native.Nat.{ℕ, _+_, _≤_, _<_, _-_}
+use Prim.Native.Nat.{_≤_, _-_}
 use native.Mathlib.Omega.{arith}
 use lib.ListN.{length, getD}
 use Rattle.lists.proofs.Slices.{length-of}
@@ -12,10 +13,6 @@ use Rattle.elements.specs.Judge as judge
 use Rattle.elements.proofs.NoteLaws.{Listed, listed-none, listed-all, listed-not, listed-full, listed-room}
 use Rattle.elements.proofs.with_missing.Statement.{statement}
 use Rattle.elements.proofs.with_missing.Tie as tie
-use Rattle.elements.proofs.with_missing.Reads as reads
-use Rattle.elements.proofs.with_missing.Lts as lts
-use Rattle.elements.proofs.also.Reads as also-reads
-use Rattle.elements.proofs.row_count.Reads as row-count-reads
 
 abbrev Inv-loop : tie.InvT-loop
 Inv-loop t spans rows noted₀ k₀ noted k = (k ≤ length (rowsIn t)) × ((es : List Entry) → noted₀ ≡ judge.noted es → Listed t spans es k noted)
@@ -23,91 +20,69 @@ Inv-loop t spans rows noted₀ k₀ noted k = (k ≤ length (rowsIn t)) × ((es 
 abbrev μ-loop : tie.MeasureT-loop
 μ-loop t spans rows noted₀ k₀ noted k = length (rowsIn t) - k
 
--- src/lib.rt:262:9
 row-count-requires : tie.Need-row-count-requires Inv-loop μ-loop
 row-count-requires c κs = search needs
 
--- src/lib.rt:265:5
 loop-holds : tie.Need-loop-holds Inv-loop μ-loop
 loop-holds c = (omega arith, λ es q. listed-none (c .before .args .t1) (c .before .args .t2) es _ q)
 
--- src/lib.rt:266:17
 mul-r : tie.Need-mul-r Inv-loop μ-loop
 mul-r c = search needs
 
--- src/lib.rt:266:17
 element-copy-out-r : tie.Need-element-copy-out-r Inv-loop μ-loop
 element-copy-out-r c = search needs
 
--- src/lib.rt:267:17
 mul-v : tie.Need-mul-v Inv-loop μ-loop
 mul-v c = search needs
 
--- src/lib.rt:267:17
 array-copy-out-v : tie.Need-array-copy-out-v Inv-loop μ-loop
 array-copy-out-v c = search needs
 
--- src/lib.rt:268:9
 add-k : tie.Need-add-k Inv-loop μ-loop
 add-k c = search needs
 
--- src/lib.rt:265:5
 loop-less : tie.Need-loop-less Inv-loop μ-loop
 loop-less c = search needs
 
--- src/lib.rt:265:5
 loop-again : tie.Need-loop-again Inv-loop μ-loop
 loop-again c = let a = c .before .before .before .before .before .before .before .args in let z : length (a .t2) ≡ 12 = search (needs, length-of) in (omega arith, λ es q. listed-not (a .t1) (a .t2) es (c .before .before .before .before .before .loop .k) (omega arith) (omega arith) (c .before .before .before .before .before .loop .noted) (c .before .before .before .before .before .loop .inv .1 es q) (rw (lt-ltb _ _ (c .if1 .taken))))
 
--- src/lib.rt:265:5
 loop-less-2 : tie.Need-loop-less-2 Inv-loop μ-loop
 loop-less-2 c = search needs
 
--- src/lib.rt:265:5
 loop-again-2 : tie.Need-loop-again-2 Inv-loop μ-loop
 loop-again-2 c = let a = c .before .before .before .before .before .before .before .before .before .args in let z : length (a .t2) ≡ 12 = search (needs, length-of) in (omega arith, λ es q. listed-not (a .t1) (a .t2) es (c .before .before .before .before .before .before .before .loop .k) (omega arith) (omega arith) (c .before .before .before .before .before .before .before .loop .noted) (c .before .before .before .before .before .before .before .loop .inv .1 es q) (rw (le-ltb _ _ (c .before .before .if1 .left), not-true (getD (a .t1 .rows) (c .before .before .before .before .before .before .before .loop .k) noRow .mandatory) (c .if2 .taken))))
 
--- src/lib.rt:265:5
 loop-less-3 : tie.Need-loop-less-3 Inv-loop μ-loop
 loop-less-3 c = search needs
 
--- src/lib.rt:265:5
 loop-again-3 : tie.Need-loop-again-3 Inv-loop μ-loop
 loop-again-3 c = let a = c .before .before .before .before .before .before .before .before .before .before .args in let z : length (a .t2) ≡ 12 = search (needs, length-of) in (omega arith, λ es q. listed-not (a .t1) (a .t2) es (c .before .before .before .before .before .before .before .before .loop .k) (omega arith) (omega arith) (c .before .before .before .before .before .before .before .before .loop .noted) (c .before .before .before .before .before .before .before .before .loop .inv .1 es q) (rw (le-ltb _ _ (c .before .before .before .if1 .left), not-false (getD (a .t1 .rows) (c .before .before .before .before .before .before .before .before .loop .k) noRow .mandatory) (c .before .if2 .left), eq-eqb _ _ (c .if3 .taken))))
 
--- src/lib.rt:279:24
 also-requires : tie.Need-also-requires Inv-loop μ-loop
 also-requires c κs = search needs
 
--- src/lib.rt:265:5
 loop-less-4 : tie.Need-loop-less-4 Inv-loop μ-loop
 loop-less-4 c = search needs
 
--- src/lib.rt:265:5
 loop-again-4 : tie.Need-loop-again-4 Inv-loop μ-loop
 loop-again-4 c = let a = c .before .before .before .before .before .before .before .before .before .before .before .before .args in let z : length (a .t2) ≡ 12 = search (needs, length-of) in (omega arith, λ es q. listed-full (a .t1) (a .t2) es (c .before .before .before .before .before .before .before .before .before .before .loop .k) (omega arith) (omega arith) (c .before .before .before .before .before .before .before .before .before .before .loop .noted) (c .before .before .before .before .before .before .before .before .before .before .loop .inv .1 es q) (rw (le-ltb _ _ (c .before .before .before .before .before .if1 .left), not-false (getD (a .t1 .rows) (c .before .before .before .before .before .before .before .before .before .before .loop .k) noRow .mandatory) (c .before .before .before .if2 .left), ne-eqb _ _ (c .before .before .if3 .left))) (c .before .also .ensures) (c .if4 .taken))
 
--- src/lib.rt:284:9
 mul-t15 : tie.Need-mul-t15 Inv-loop μ-loop
 mul-t15 c = search needs
 
--- src/lib.rt:284:9
 element-set-from-noted : tie.Need-element-set-from-noted Inv-loop μ-loop
 element-set-from-noted c = search needs
 
--- src/lib.rt:289:23
 add-noted : tie.Need-add-noted Inv-loop μ-loop
 add-noted c = search needs
 
--- src/lib.rt:265:5
 loop-less-5 : tie.Need-loop-less-5 Inv-loop μ-loop
 loop-less-5 c = search needs
 
--- src/lib.rt:265:5
 loop-again-5 : tie.Need-loop-again-5 Inv-loop μ-loop
 loop-again-5 c = let a = c .before .before .before .before .before .before .before .before .before .before .before .before .args in let z : length (a .t2) ≡ 12 = search (needs, length-of) in (omega arith, λ es q. listed-room (a .t1) (a .t2) es (c .before .before .before .before .before .before .before .before .before .before .loop .k) (omega arith) (omega arith) (c .before .before .before .before .before .before .before .before .before .before .loop .noted) (c .before .before .before .before .before .before .before .before .before .before .loop .inv .1 es q) (rw (le-ltb _ _ (c .before .before .before .before .before .if1 .left), not-false (getD (a .t1 .rows) (c .before .before .before .before .before .before .before .before .before .before .loop .k) noRow .mandatory) (c .before .before .before .if2 .left), ne-eqb _ _ (c .before .before .if3 .left))) (c .before .also .ensures) (c .if4 .left))
 
--- src/lib.rt:259:1
 returns : tie.Need-returns Inv-loop μ-loop
 returns c = λ es q. listed-all (c .before .before .before .args .t1) (c .before .before .before .args .t2) es (c .before .loop .noted) (c .before .loop .k) (omega arith) (c .before .loop .inv .1 es q)
 

@@ -1,3 +1,4 @@
+-- `items::item_at` meets its contract. Each return is the chain of the readings on the way to it. Assumes nothing.
 use Prim.Native.Nat.{_+_}
 use native.Mathlib.Omega.{arith}
 use Rattle.octets.specs.Found.{foundGate}

@@ -1,3 +1,4 @@
+-- `items::item_element_at` meets its contract. Each return is the chain of the readings on the way to it. Assumes nothing.
 use Rattle.octets.proofs.Chain.{past, halt, told}
 use mathlib.Core.Path.{refl, sym}
 use native.Mathlib.Omega.{arith}

@@ -1,3 +1,4 @@
+-- `items::items_at` meets its contract. Each return is the chain of the readings on the way to it. Assumes nothing.
 use borrow.Author.Needs.{needs}
 use Rattle.octets.proofs.Chain.{past, halt, told}
 use mathlib.Core.Path.{refl, _≡_, _∙_, ap}

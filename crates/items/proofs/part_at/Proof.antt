@@ -1,3 +1,4 @@
+-- `items::part_at` meets its contract. Each return is the chain of the readings on the way to it. Assumes nothing.
 use Rattle.octets.specs.declared.Gate.the-variants as gate
 use Rattle.identity.specs.declared.Items.{Items}
 use Rattle.items.specs.declared.Reset.the-variants as reset

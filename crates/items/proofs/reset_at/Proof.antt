@@ -1,3 +1,4 @@
+-- `items::reset_at` meets its contract. By the case, what was called says it. Assumes nothing.
 use Rattle.octets.specs.Read.{_>>=_}
 use Rattle.octets.proofs.Chain.{told}
 use Rattle.octets.specs.Found.{foundGate, foundFlag}

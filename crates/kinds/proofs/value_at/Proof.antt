@@ -1,6 +1,6 @@
+-- `kinds::value_at` meets its contract. Each return is the chain of the readings on the way to it. Assumes nothing.
 use denote.Ref.{now}
-use mathlib.Core.Path.{_≡_, _∙_, refl, ap}
-use Rattle.octets.specs.Found.{foundGate}
+use mathlib.Core.Path.{refl}
 use Rattle.octets.proofs.Chain.{past, halt, told}
 use Rattle.values.specs.Found.{foundMme, foundMce, foundTmgi, foundSession, foundCause}
 use Rattle.kinds.specs.Kinds.{valueAt}
@@ -8,190 +8,139 @@ use Rattle.kinds.proofs.Laws.{of-kind, carried, reset-gate, items-gate,
 use borrow.Author.Needs.{needs}
 use Rattle.kinds.proofs.value_at.Statement.{statement}
 use Rattle.kinds.proofs.value_at.Tie as tie
-use Rattle.kinds.proofs.value_at.Reads as reads
-use Rattle.kinds.proofs.value_at.Lts as lts
-use Rattle.diagnostics.proofs.diagnostics_at.Reads as diagnostics-at-reads
-use Rattle.items.proofs.items_at.Reads as items-at-reads
-use Rattle.items.proofs.reset_at.Reads as reset-at-reads
-use Rattle.values.proofs.cause_at.Reads as cause-at-reads
-use Rattle.values.proofs.mce_at.Reads as mce-at-reads
-use Rattle.values.proofs.mme_at.Reads as mme-at-reads
-use Rattle.values.proofs.session_at.Reads as session-at-reads
-use Rattle.values.proofs.tmgi_at.Reads as tmgi-at-reads
 
--- src/lib.rt:26:26
 enum-told : tie.Need-enum-told
 enum-told c = search needs
 
--- src/lib.rt:27:28
 enum-told-2 : tie.Need-enum-told-2
 enum-told-2 c = search needs
 
--- src/lib.rt:27:28
 mme-at-requires : tie.Need-mme-at-requires
 mme-at-requires c κs = search needs
 
--- src/lib.rt:28:31
 enum-told-3 : tie.Need-enum-told-3
 enum-told-3 c = search needs
 
--- src/lib.rt:29:27
 enum-known-x : tie.Need-enum-known-x
 enum-known-x c = search needs
 
--- src/lib.rt:31:28
 enum-told-4 : tie.Need-enum-told-4
 enum-told-4 c = search needs
 
--- src/lib.rt:31:28
 mce-at-requires : tie.Need-mce-at-requires
 mce-at-requires c κs = search needs
 
--- src/lib.rt:32:31
 enum-told-5 : tie.Need-enum-told-5
 enum-told-5 c = search needs
 
--- src/lib.rt:33:27
 enum-known-x-2 : tie.Need-enum-known-x-2
 enum-known-x-2 c = search needs
 
--- src/lib.rt:35:29
 enum-told-6 : tie.Need-enum-told-6
 enum-told-6 c = search needs
 
--- src/lib.rt:35:29
 tmgi-at-requires : tie.Need-tmgi-at-requires
 tmgi-at-requires c κs = search needs
 
--- src/lib.rt:36:32
 enum-told-7 : tie.Need-enum-told-7
 enum-told-7 c = search needs
 
--- src/lib.rt:37:28
 enum-known-x-3 : tie.Need-enum-known-x-3
 enum-known-x-3 c = search needs
 
--- src/lib.rt:39:32
 enum-told-8 : tie.Need-enum-told-8
 enum-told-8 c = search needs
 
--- src/lib.rt:39:32
 session-at-requires : tie.Need-session-at-requires
 session-at-requires c κs = search needs
 
--- src/lib.rt:40:35
 enum-told-9 : tie.Need-enum-told-9
 enum-told-9 c = search needs
 
--- src/lib.rt:41:31
 enum-known-x-4 : tie.Need-enum-known-x-4
 enum-known-x-4 c = search needs
 
--- src/lib.rt:43:30
 enum-told-10 : tie.Need-enum-told-10
 enum-told-10 c = search needs
 
--- src/lib.rt:43:30
 cause-at-requires : tie.Need-cause-at-requires
 cause-at-requires c κs = search needs
 
--- src/lib.rt:44:33
 enum-told-11 : tie.Need-enum-told-11
 enum-told-11 c = search needs
 
--- src/lib.rt:45:29
 enum-known-x-5 : tie.Need-enum-known-x-5
 enum-known-x-5 c = search needs
 
--- src/lib.rt:47:28
 enum-told-12 : tie.Need-enum-told-12
 enum-told-12 c = search needs
 
--- src/lib.rt:47:28
 reset-at-requires : tie.Need-reset-at-requires
 reset-at-requires c κs = search needs
 
--- src/lib.rt:48:31
 enum-told-13 : tie.Need-enum-told-13
 enum-told-13 c = search needs
 
--- src/lib.rt:48:31
 items-at-requires : tie.Need-items-at-requires
 items-at-requires c κs = search needs
 
--- src/lib.rt:49:30
 enum-told-14 : tie.Need-enum-told-14
 enum-told-14 c = search needs
 
--- src/lib.rt:49:30
 diagnostics-at-requires : tie.Need-diagnostics-at-requires
 diagnostics-at-requires c κs = search needs
 
--- src/lib.rt:22:1
 returns : tie.Need-returns
 returns c = of-kind (now (c .before .before .before .args .s)) (c .before .before .before .args .at) (c .enum-told .given .1) (carried _ _)
 
--- src/lib.rt:22:1
 returns-2 : tie.Need-returns-2
 unfolding valueAt
 returns-2 c = of-kind (now (c .before .before .before .before .before .before .args .s)) (c .before .before .before .before .before .before .args .at) (c .before .before .before .enum-told2 .given .1) (past _ _ (told foundMme (c .enum-told3 .given .1) (c .before .before .mme-at .ensures)) refl)
 
--- src/lib.rt:22:1
 returns-3 : tie.Need-returns-3
 unfolding valueAt
 returns-3 c = of-kind (now (c .before .before .before .before .before .before .before .args .s)) (c .before .before .before .before .before .before .before .args .at) (c .before .before .before .before .enum-told2 .given .1) (halt _ (told foundMme (c .before .x .given .1) (c .before .before .before .mme-at .ensures)))
 
--- src/lib.rt:22:1
 returns-4 : tie.Need-returns-4
 unfolding valueAt
 returns-4 c = of-kind (now (c .before .before .before .before .before .before .args .s)) (c .before .before .before .before .before .before .args .at) (c .before .before .before .enum-told4 .given .1) (past _ _ (told foundMce (c .enum-told5 .given .1) (c .before .before .mce-at .ensures)) refl)
 
--- src/lib.rt:22:1
 returns-5 : tie.Need-returns-5
 unfolding valueAt
 returns-5 c = of-kind (now (c .before .before .before .before .before .before .before .args .s)) (c .before .before .before .before .before .before .before .args .at) (c .before .before .before .before .enum-told4 .given .1) (halt _ (told foundMce (c .before .x2 .given .1) (c .before .before .before .mce-at .ensures)))
 
--- src/lib.rt:22:1
 returns-6 : tie.Need-returns-6
 unfolding valueAt
 returns-6 c = of-kind (now (c .before .before .before .before .before .before .args .s)) (c .before .before .before .before .before .before .args .at) (c .before .before .before .enum-told6 .given .1) (past _ _ (told foundTmgi (c .enum-told7 .given .1) (c .before .before .tmgi-at .ensures)) refl)
 
--- src/lib.rt:22:1
 returns-7 : tie.Need-returns-7
 unfolding valueAt
 returns-7 c = of-kind (now (c .before .before .before .before .before .before .before .args .s)) (c .before .before .before .before .before .before .before .args .at) (c .before .before .before .before .enum-told6 .given .1) (halt _ (told foundTmgi (c .before .x3 .given .1) (c .before .before .before .tmgi-at .ensures)))
 
--- src/lib.rt:22:1
 returns-8 : tie.Need-returns-8
 unfolding valueAt
 returns-8 c = of-kind (now (c .before .before .before .before .before .before .args .s)) (c .before .before .before .before .before .before .args .at) (c .before .before .before .enum-told8 .given .1) (past _ _ (told foundSession (c .enum-told9 .given .1) (c .before .before .session-at .ensures)) refl)
 
--- src/lib.rt:22:1
 returns-9 : tie.Need-returns-9
 unfolding valueAt
 returns-9 c = of-kind (now (c .before .before .before .before .before .before .before .args .s)) (c .before .before .before .before .before .before .before .args .at) (c .before .before .before .before .enum-told8 .given .1) (halt _ (told foundSession (c .before .x4 .given .1) (c .before .before .before .session-at .ensures)))
 
--- src/lib.rt:22:1
 returns-10 : tie.Need-returns-10
 unfolding valueAt
 returns-10 c = of-kind (now (c .before .before .before .before .before .before .args .s)) (c .before .before .before .before .before .before .args .at) (c .before .before .before .enum-told10 .given .1) (past _ _ (told foundCause (c .enum-told11 .given .1) (c .before .before .cause-at .ensures)) refl)
 
--- src/lib.rt:22:1
 returns-11 : tie.Need-returns-11
 unfolding valueAt
 returns-11 c = of-kind (now (c .before .before .before .before .before .before .before .args .s)) (c .before .before .before .before .before .before .before .args .at) (c .before .before .before .before .enum-told10 .given .1) (halt _ (told foundCause (c .before .x5 .given .1) (c .before .before .before .cause-at .ensures)))
 
--- src/lib.rt:22:1
 returns-12 : tie.Need-returns-12
 unfolding valueAt
 returns-12 c = of-kind (now (c .before .before .before .before .args .s)) (c .before .before .before .before .args .at) (c .before .enum-told12 .given .1) (rw (c .reset-at .ensures) (reset-gate _))
 
--- src/lib.rt:22:1
 returns-13 : tie.Need-returns-13
 unfolding valueAt
 returns-13 c = of-kind (now (c .before .before .before .before .args .s)) (c .before .before .before .before .args .at) (c .before .enum-told13 .given .1) (rw (c .items-at .ensures) (items-gate _))
 
--- src/lib.rt:22:1
 returns-14 : tie.Need-returns-14
 unfolding valueAt
 returns-14 c = of-kind (now (c .before .before .before .before .args .s)) (c .before .before .before .before .args .at) (c .before .enum-told14 .given .1) (rw (c .diagnostics-at .ensures) (diagnostics-gate _))

@@ -1,5 +1,5 @@
-use mathlib.Core.Path.{_≡_, _∙_, refl, ap, sym}
-use Rattle.octets.specs.Found.{foundGate, foundOctet, foundTwo, foundOpen}
+-- `messages::count_at` meets its contract. Each return is the chain of the readings on the way to it. Assumes nothing.
+use Rattle.octets.specs.Found.{foundGate}
 use Rattle.octets.proofs.Chain.{past, halt, told}
 use Rattle.messages.specs.Frame.{countAt}
 use native.Mathlib.Omega.{arith}
@@ -8,53 +8,39 @@ use Rattle.octets.proofs.Got.{plain-got}
 use borrow.Author.Needs.{needs}
 use Rattle.messages.proofs.count_at.Statement.{statement}
 use Rattle.messages.proofs.count_at.Tie as tie
-use Rattle.messages.proofs.count_at.Reads as reads
-use Rattle.messages.proofs.count_at.Lts as lts
-use Rattle.octets.proofs.pad_at.Reads as pad-at-reads
-use Rattle.octets.proofs.plain_at.Reads as plain-at-reads
-use Rattle.octets.proofs.two_at.Reads as two-at-reads
 
--- src/lib.rt:112:11
 plain-at-requires : tie.Need-plain-at-requires
 plain-at-requires c κs = search needs
 
 enum-told : tie.Need-enum-told
 enum-told c = search needs
 
--- src/lib.rt:114:20
 enum-known-x : tie.Need-enum-known-x
 enum-known-x c = search needs
 
--- src/lib.rt:115:13
 returns : tie.Need-returns
 unfolding countAt
 returns c = halt _ (told foundGate (c .before .x .given .1) (c .before .before .before .plain-at .ensures))
 
--- src/lib.rt:118:11
 pad-at-requires : tie.Need-pad-at-requires
 pad-at-requires c κs = search needs
 
 enum-told-2 : tie.Need-enum-told-2
 enum-told-2 c = search needs
 
--- src/lib.rt:120:20
 enum-known-x-2 : tie.Need-enum-known-x-2
 enum-known-x-2 c = search needs
 
--- src/lib.rt:121:13
 returns-2 : tie.Need-returns-2
 unfolding countAt
 returns-2 c = past _ _ (told foundGate (c .before .before .before .before .enum-told .given .1) (c .before .before .before .before .before .before .plain-at .ensures)) (halt _ (told foundGate (c .before .x2 .given .1) (c .before .before .before .pad-at .ensures)))
 
--- src/lib.rt:124:23
 add-two-at : tie.Need-add-two-at
 add-two-at c = let a = c .before .before .before .before .before .before .before .args in omega (arith, plain-got (now (a .s)) (a .from) 0 (told foundGate (c .before .before .before .enum-told .given .1) (c .before .before .before .before .before .plain-at .ensures)) .0)
 
--- src/lib.rt:124:5
 two-at-requires : tie.Need-two-at-requires
 two-at-requires c κs = search needs
 
--- src/lib.rt:109:1
 returns-3 : tie.Need-returns-3
 unfolding countAt
 returns-3 c = past _ _ (told foundGate (c .before .before .before .before .enum-told .given .1) (c .before .before .before .before .before .before .plain-at .ensures)) (past _ _ (told foundGate (c .before .enum-told2 .given .1) (c .before .before .before .pad-at .ensures)) (c .two-at .ensures))

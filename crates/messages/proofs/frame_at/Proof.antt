@@ -1,104 +1,77 @@
-use mathlib.Core.Path.{_≡_, _∙_, refl, ap, sym}
-use Rattle.octets.specs.Found.{foundGate, foundOctet, foundTwo, foundOpen}
+-- `messages::frame_at` meets its contract. Each return is the chain of the readings on the way to it. Assumes nothing.
+use mathlib.Core.Path.{refl}
+use Rattle.octets.specs.Found.{foundGate, foundOctet, foundOpen}
 use Rattle.octets.proofs.Chain.{past, halt, told}
 use Rattle.messages.specs.Frame.{frameAt}
 use borrow.Author.Needs.{needs}
 use Rattle.messages.proofs.frame_at.Statement.{statement}
 use Rattle.messages.proofs.frame_at.Tie as tie
-use Rattle.messages.proofs.frame_at.Reads as reads
-use Rattle.messages.proofs.frame_at.Lts as lts
-use Rattle.elements.proofs.criticality_at.Reads as criticality-at-reads
-use Rattle.messages.proofs.kind_at.Reads as kind-at-reads
-use Rattle.octets.proofs.ends_at.Reads as ends-at-reads
-use Rattle.octets.proofs.octet_at.Reads as octet-at-reads
-use Rattle.octets.proofs.open_at.Reads as open-at-reads
 
--- src/lib.rt:73:22
 kind-at-requires : tie.Need-kind-at-requires
 kind-at-requires c κs = search needs
 
--- src/lib.rt:74:19
 enum-known-v : tie.Need-enum-known-v
 enum-known-v c = search needs
 
--- src/lib.rt:75:21
 enum-known-x : tie.Need-enum-known-x
 enum-known-x c = search needs
 
--- src/lib.rt:76:13
 returns : tie.Need-returns
 unfolding frameAt
 returns c = halt _ (told foundOctet (c .before .x .given .1) (c .before .before .before .kind-at .ensures))
 
--- src/lib.rt:79:22
 octet-at-requires : tie.Need-octet-at-requires
 octet-at-requires c κs = search needs
 
--- src/lib.rt:80:19
 enum-known-v-2 : tie.Need-enum-known-v-2
 enum-known-v-2 c = search needs
 
--- src/lib.rt:81:21
 enum-known-x-2 : tie.Need-enum-known-x-2
 enum-known-x-2 c = search needs
 
--- src/lib.rt:82:13
 returns-2 : tie.Need-returns-2
 unfolding frameAt
 returns-2 c = past _ _ (told foundOctet (c .before .before .before .before .before .v .given .1) (c .before .before .before .before .before .before .before .kind-at .ensures)) (halt _ (told foundOctet (c .before .x2 .given .1) (c .before .before .before .octet-at .ensures)))
 
--- src/lib.rt:85:22
 criticality-at-requires : tie.Need-criticality-at-requires
 criticality-at-requires c κs = search needs
 
--- src/lib.rt:86:19
 enum-known-v-3 : tie.Need-enum-known-v-3
 enum-known-v-3 c = search needs
 
--- src/lib.rt:87:21
 enum-known-x-3 : tie.Need-enum-known-x-3
 enum-known-x-3 c = search needs
 
--- src/lib.rt:88:13
 returns-3 : tie.Need-returns-3
 unfolding frameAt
 returns-3 c = past _ _ (told foundOctet (c .before .before .before .before .before .before .before .before .before .v .given .1) (c .before .before .before .before .before .before .before .before .before .before .before .kind-at .ensures)) (past _ _ (told foundOctet (c .before .before .before .before .before .v2 .given .1) (c .before .before .before .before .before .before .before .octet-at .ensures)) (halt _ (told foundOctet (c .before .x3 .given .1) (c .before .before .before .criticality-at .ensures))))
 
--- src/lib.rt:91:19
 open-at-requires : tie.Need-open-at-requires
 open-at-requires c κs = search needs
 
--- src/lib.rt:92:18
 enum-known-v-4 : tie.Need-enum-known-v-4
 enum-known-v-4 c = search needs
 
--- src/lib.rt:93:20
 enum-known-x-4 : tie.Need-enum-known-x-4
 enum-known-x-4 c = search needs
 
--- src/lib.rt:94:13
 returns-4 : tie.Need-returns-4
 unfolding frameAt
 returns-4 c = past _ _ (told foundOctet (c .before .before .before .before .before .before .before .before .before .before .before .before .before .v .given .1) (c .before .before .before .before .before .before .before .before .before .before .before .before .before .before .before .kind-at .ensures)) (past _ _ (told foundOctet (c .before .before .before .before .before .before .before .before .before .v2 .given .1) (c .before .before .before .before .before .before .before .before .before .before .before .octet-at .ensures)) (past _ _ (told foundOctet (c .before .before .before .before .before .v3 .given .1) (c .before .before .before .before .before .before .before .criticality-at .ensures)) (halt _ (told foundOpen (c .before .x4 .given .1) (c .before .before .before .open-at .ensures)))))
 
--- src/lib.rt:97:11
 ends-at-requires : tie.Need-ends-at-requires
 ends-at-requires c κs = search needs
 
--- src/lib.rt:98:37
 enum-told : tie.Need-enum-told
 enum-told c = search needs
 
--- src/lib.rt:104:20
 enum-known-x-5 : tie.Need-enum-known-x-5
 enum-known-x-5 c = search needs
 
--- src/lib.rt:70:1
 returns-5 : tie.Need-returns-5
 unfolding frameAt
 returns-5 c = past _ _ (told foundOctet (c .before .before .before .before .before .before .before .before .before .before .before .before .before .before .before .before .v .given .1) (c .before .before .before .before .before .before .before .before .before .before .before .before .before .before .before .before .before .before .kind-at .ensures)) (past _ _ (told foundOctet (c .before .before .before .before .before .before .before .before .before .before .before .before .v2 .given .1) (c .before .before .before .before .before .before .before .before .before .before .before .before .before .before .octet-at .ensures)) (past _ _ (told foundOctet (c .before .before .before .before .before .before .before .before .v3 .given .1) (c .before .before .before .before .before .before .before .before .before .before .criticality-at .ensures)) (past _ _ (told foundOpen (c .before .before .before .before .v4 .given .1) (c .before .before .before .before .before .before .open-at .ensures)) (past _ _ (told foundGate (c .enum-told .given .1) (c .before .before .ends-at .ensures)) (refl)))))
 
--- src/lib.rt:70:1
 returns-6 : tie.Need-returns-6
 unfolding frameAt
 returns-6 c = past _ _ (told foundOctet (c .before .before .before .before .before .before .before .before .before .before .before .before .before .before .before .before .before .v .given .1) (c .before .before .before .before .before .before .before .before .before .before .before .before .before .before .before .before .before .before .before .kind-at .ensures)) (past _ _ (told foundOctet (c .before .before .before .before .before .before .before .before .before .before .before .before .before .v2 .given .1) (c .before .before .before .before .before .before .before .before .before .before .before .before .before .before .before .octet-at .ensures)) (past _ _ (told foundOctet (c .before .before .before .before .before .before .before .before .before .v3 .given .1) (c .before .before .before .before .before .before .before .before .before .before .before .criticality-at .ensures)) (past _ _ (told foundOpen (c .before .before .before .before .before .v4 .given .1) (c .before .before .before .before .before .before .before .open-at .ensures)) (halt _ (told foundGate (c .before .x5 .given .1) (c .before .before .before .ends-at .ensures))))))

@@ -1,11 +1,11 @@
+-- `messages::inside` meets its contract. The elements were judged by the message's table; by the gate of that, the verdict is without a record or made of what was found. Assumes nothing.
 use mathlib.Core.Path.{_≡_, _∙_, refl, ap, sym}
-use Rattle.octets.specs.Found.{foundGate, foundOctet, foundTwo, foundOpen}
+use Rattle.octets.specs.Found.{foundTwo}
 use Rattle.octets.proofs.Chain.{past, halt, told}
 use denote.Ref.{now}
 use native.Mathlib.Omega.{arith}
 use Prim.Native.Nat.{ℕ, _+_}
 use mathlib.Core.List.{List}
-use Rattle.elements.specs.declared.Rows.{Rows}
 use Rattle.elements.specs.declared.Row.{Row}
 use Rattle.elements.specs.Table.{rowsIn}
 use Rattle.elements.specs.Judge.{judgedBy, elementsAt}
@@ -15,87 +15,60 @@ use Rattle.messages.proofs.InsideLaws.{count-in, rows-in, judged-stop, 
 use borrow.Author.Needs.{needs}
 use Rattle.messages.proofs.inside.Statement.{statement}
 use Rattle.messages.proofs.inside.Tie as tie
-use Rattle.messages.proofs.inside.Reads as reads
-use Rattle.messages.proofs.inside.Lts as lts
-use Rattle.elements.proofs.elements_at.Reads as elements-at-reads
-use Rattle.messages.proofs.bare.Reads as bare-reads
-use Rattle.messages.proofs.count_at.Reads as count-at-reads
-use Rattle.messages.proofs.outcome_of.Reads as outcome-of-reads
-use Rattle.messages.proofs.wide.Reads as wide-reads
-use Rattle.records.proofs.record_of.Reads as record-of-reads
-use Rattle.tables.proofs.rows_of.Reads as rows-of-reads
 
--- LEM
 -- the elements were judged by the message's table
 judged : (c : tie.After-elements-at) → let a = c .before .before .before .before .before .before .before .before .args in c .elements-at .result ≡ judgedBy (elementsAt (tableOf (a .m)) (now (a .s)) (c .before .before .before .before .v .given .0 .0) (a .from + 3))
 judged c = let a = c .before .before .before .before .before .before .before .before .args in
     c .elements-at .ensures ∙ (ap (λ (n : ℕ). judgedBy (elementsAt (rowsIn (c .before .rows-of .result)) (now (a .s)) n (a .from + 3))) (c .before .before .wide .ensures)
     ∙ ap (λ (t : List Row). judgedBy (elementsAt t (now (a .s)) (c .before .before .before .before .v .given .0 .0) (a .from + 3))) (ap rowsIn (c .before .rows-of .ensures) ∙ rows-in (a .m)))
 
--- /LEM
-
--- src/lib.rt:175:19
 count-at-requires : tie.Need-count-at-requires
 count-at-requires c κs = search needs
 
--- src/lib.rt:176:17
 enum-known-v : tie.Need-enum-known-v
 enum-known-v c = search needs
 
--- src/lib.rt:176:23
 wide-requires : tie.Need-wide-requires
 wide-requires c κs = search needs
 
--- src/lib.rt:177:19
 enum-known-x : tie.Need-enum-known-x
 enum-known-x c = search needs
 
--- src/lib.rt:178:13
 bare-requires : tie.Need-bare-requires
 bare-requires c κs = search needs
 
--- src/lib.rt:178:13
 returns : tie.Need-returns
 unfolding insideOf
 returns c = c .bare .ensures ∙ ap orStopped (halt _ (told foundTwo (c .before .before .x .given .1) (c .before .before .before .before .count-at .ensures)))
 
--- src/lib.rt:181:35
 rows-of-requires : tie.Need-rows-of-requires
 rows-of-requires c κs = search needs
 
--- src/lib.rt:181:61
 add-elements-at : tie.Need-add-elements-at
 add-elements-at c = let a = c .before .before .before .before .before .before .before .args in omega (arith, count-in (now (a .s)) (a .from) (told foundTwo (c .before .before .before .v .given .1) (c .before .before .before .before .before .count-at .ensures)))
 
--- src/lib.rt:181:9
 elements-at-requires : tie.Need-elements-at-requires
 elements-at-requires c κs = search needs
 
 enum-told : tie.Need-enum-told
 enum-told c = search needs
 
--- src/lib.rt:185:20
 enum-known-gate : tie.Need-enum-known-gate
 enum-known-gate c = search needs
 
--- src/lib.rt:186:13
 bare-requires-2 : tie.Need-bare-requires-2
 bare-requires-2 c κs = search needs
 
--- src/lib.rt:186:13
 returns-2 : tie.Need-returns-2
 unfolding insideOf
 returns-2 c = c .bare2 .ensures ∙ ap orStopped (past _ _ (told foundTwo (c .before .before .before .before .before .before .before .before .v .given .1) (c .before .before .before .before .before .before .before .before .before .before .count-at .ensures)) (halt _ (judged-stop (c .before .before .before .before .elements-at .result) _ (judged (c .before .before .before .before)) (c .before .before .gate .given .1))))
 
--- src/lib.rt:193:18
 outcome-of-requires : tie.Need-outcome-of-requires
 outcome-of-requires c κs = search needs
 
--- src/lib.rt:194:18
 record-of-requires : tie.Need-record-of-requires
 record-of-requires c κs = search needs
 
--- src/lib.rt:172:1
 returns-3 : tie.Need-returns-3
 unfolding insideOf
 returns-3 c = let a = c .before .before .before .before .before .before .before .before .before .before .before .before .before .before .before .args in let p = judged-pass (c .before .before .before .before .before .before .before .elements-at .result) _ (judged (c .before .before .before .before .before .before .before)) (c .before .before .before .before .before .enum-told .given .1) in

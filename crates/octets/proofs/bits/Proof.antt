@@ -1,50 +1,38 @@
+-- `octets::bits` meets its contract. It follows from what was called, and by computing. Assumes nothing.
 use Rattle.octets.proofs.Packed.{bits-none, bits-low, bits-mid}
 use native.Mathlib.Omega.{arith}
 use mathlib.Core.Path.{_∙_}
 use borrow.Author.Needs.{needs}
 use Rattle.octets.proofs.bits.Statement.{statement}
 use Rattle.octets.proofs.bits.Tie as tie
-use Rattle.octets.proofs.bits.Reads as reads
-use Rattle.octets.proofs.bits.Lts as lts
-use Rattle.octets.proofs.low.Reads as low-reads
 
--- src/lib.rt:124:9
 returns : tie.Need-returns
 returns c = bits-none _ _ _ (c .if1 .taken)
 
--- src/lib.rt:126:8
 sub-if2 : tie.Need-sub-if2
 sub-if2 c = search needs
 
--- src/lib.rt:127:9
 low-requires : tie.Need-low-requires
 low-requires c κs = search needs
 
--- src/lib.rt:127:9
 returns-2 : tie.Need-returns-2
 returns-2 c = c .low .ensures ∙ bits-low _ _ _ (omega arith)
 
--- src/lib.rt:129:17
 add-result : tie.Need-add-result
 add-result c = search needs
 
--- src/lib.rt:129:12
 sub-result : tie.Need-sub-result
 sub-result c = search needs
 
--- src/lib.rt:129:6
 shr-result : tie.Need-shr-result
 shr-result c = search needs
 
--- src/lib.rt:129:37
 sub-result-2 : tie.Need-sub-result-2
 sub-result-2 c = search needs
 
--- src/lib.rt:129:29
 shr-result-2 : tie.Need-shr-result-2
 shr-result-2 c = search needs
 
--- src/lib.rt:119:1
 returns-3 : tie.Need-returns-3
 returns-3 c = bits-mid _ _ _ (omega arith)
 

@@ -1,4 +1,5 @@
-use borrow.Author.Tests.{lt-ltb, le-ltb, eq-eqb, ne-eqb}
+-- `octets::choice_at` meets its contract. Each return is the case of the definition that the tests on the way single out. Assumes nothing.
+use borrow.Author.Tests.{lt-ltb, le-ltb}
 use native.Mathlib.Omega.{arith}
 use Prim.Native.Nat.{_+_}
 use lib.ListN.{length}
@@ -7,39 +8,27 @@ use Rattle.octets.specs.Field.{choiceAt}
 use borrow.Author.Needs.{needs}
 use Rattle.octets.proofs.choice_at.Statement.{statement}
 use Rattle.octets.proofs.choice_at.Tie as tie
-use Rattle.octets.proofs.choice_at.Reads as reads
-use Rattle.octets.proofs.choice_at.Lts as lts
-use Rattle.octets.proofs.bits.Reads as bits-reads
-use Rattle.octets.proofs.cut_short.Reads as cut-short-reads
-use Rattle.octets.proofs.no_meaning.Reads as no-meaning-reads
 
--- src/lib.rt:192:28
 cut-short-requires : tie.Need-cut-short-requires
 cut-short-requires c κs = search needs
 
--- src/lib.rt:192:9
 returns : tie.Need-returns
 unfolding choiceAt
 returns c = let a = c .before .before .before .args in simp (lt-ltb (length (now (a .s))) (a .at + 1) (omega arith), c .cut-short .ensures)
 
--- src/lib.rt:194:18
 shared-slice-read-bits : tie.Need-shared-slice-read-bits
 shared-slice-read-bits c = search needs
 
--- src/lib.rt:194:9
 bits-requires : tie.Need-bits-requires
 bits-requires c κs = search needs
 
--- src/lib.rt:196:9
 returns-2 : tie.Need-returns-2
 unfolding choiceAt
 returns-2 c = let a = c .before .before .before .before .before .args in simp (le-ltb (length (now (a .s))) (a .at + 1) (omega arith), ← c .before .bits .ensures, lt-ltb _ _ (c .if2 .taken))
 
--- src/lib.rt:198:17
 no-meaning-requires : tie.Need-no-meaning-requires
 no-meaning-requires c κs = search needs
 
--- src/lib.rt:188:1
 returns-3 : tie.Need-returns-3
 unfolding choiceAt
 returns-3 c = let a = c .before .before .before .before .before .before .args in simp (le-ltb (length (now (a .s))) (a .at + 1) (omega arith), ← c .before .before .bits .ensures, le-ltb _ _ (c .before .if2 .left), c .no-meaning .ensures)

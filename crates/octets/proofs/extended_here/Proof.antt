@@ -1,11 +1,9 @@
+-- `octets::extended_here` meets its contract. It follows from what was called, and by computing. Assumes nothing.
 use mathlib.Core.Path.{refl}
 use Rattle.octets.specs.Read.{extended}
 use Rattle.octets.proofs.extended_here.Statement.{statement}
 use Rattle.octets.proofs.extended_here.Tie as tie
-use Rattle.octets.proofs.extended_here.Reads as reads
-use Rattle.octets.proofs.extended_here.Lts as lts
 
--- src/lib.rt:100:1
 returns : tie.Need-returns
 unfolding extended
 returns c = refl

@@ -1,4 +1,5 @@
-use borrow.Author.Tests.{lt-ltb, le-ltb, eq-eqb, ne-eqb}
+-- `octets::flag_at` meets its contract. Each return is the case of the definition that the tests on the way single out. Assumes nothing.
+use borrow.Author.Tests.{lt-ltb, le-ltb}
 use native.Mathlib.Omega.{arith}
 use Prim.Native.Nat.{_+_}
 use lib.ListN.{length}
@@ -7,29 +8,20 @@ use Rattle.octets.specs.Field.{flagAt}
 use borrow.Author.Needs.{needs}
 use Rattle.octets.proofs.flag_at.Statement.{statement}
 use Rattle.octets.proofs.flag_at.Tie as tie
-use Rattle.octets.proofs.flag_at.Reads as reads
-use Rattle.octets.proofs.flag_at.Lts as lts
-use Rattle.octets.proofs.bits.Reads as bits-reads
-use Rattle.octets.proofs.cut_short.Reads as cut-short-reads
 
--- src/lib.rt:169:27
 cut-short-requires : tie.Need-cut-short-requires
 cut-short-requires c κs = search needs
 
--- src/lib.rt:169:9
 returns : tie.Need-returns
 unfolding flagAt
 returns c = let a = c .before .before .before .args in simp (lt-ltb (length (now (a .s))) (a .at + 1) (omega arith), c .cut-short .ensures)
 
--- src/lib.rt:171:19
 shared-slice-read-bits : tie.Need-shared-slice-read-bits
 shared-slice-read-bits c = search needs
 
--- src/lib.rt:171:14
 bits-requires : tie.Need-bits-requires
 bits-requires c κs = search needs
 
--- src/lib.rt:165:1
 returns-2 : tie.Need-returns-2
 unfolding flagAt
 returns-2 c = let a = c .before .before .before .before .args in simp (le-ltb (length (now (a .s))) (a .at + 1) (omega arith), c .bits .ensures)

@@ -1,11 +1,9 @@
+-- `octets::no_meaning` meets its contract. It follows from what was called, and by computing. Assumes nothing.
 use mathlib.Core.Path.{refl}
 use Rattle.octets.specs.Read.{noMeaning}
 use Rattle.octets.proofs.no_meaning.Statement.{statement}
 use Rattle.octets.proofs.no_meaning.Tie as tie
-use Rattle.octets.proofs.no_meaning.Reads as reads
-use Rattle.octets.proofs.no_meaning.Lts as lts
 
--- src/lib.rt:86:1
 returns : tie.Need-returns
 unfolding noMeaning
 returns c = refl

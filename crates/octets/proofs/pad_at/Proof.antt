@@ -1,4 +1,5 @@
-use borrow.Author.Tests.{lt-ltb, le-ltb, eq-eqb, ne-eqb}
+-- `octets::pad_at` meets its contract. Each return is the case of the definition that the tests on the way single out. Assumes nothing.
+use borrow.Author.Tests.{lt-ltb, le-ltb, ne-eqb}
 use native.Mathlib.Omega.{arith}
 use Prim.Native.Nat.{_+_}
 use lib.ListN.{length}
@@ -7,48 +8,34 @@ use Rattle.octets.specs.Field.{padAt}
 use borrow.Author.Needs.{needs}
 use Rattle.octets.proofs.pad_at.Statement.{statement}
 use Rattle.octets.proofs.pad_at.Tie as tie
-use Rattle.octets.proofs.pad_at.Reads as reads
-use Rattle.octets.proofs.pad_at.Lts as lts
-use Rattle.octets.proofs.bits.Reads as bits-reads
-use Rattle.octets.proofs.cut_short.Reads as cut-short-reads
-use Rattle.octets.proofs.no_meaning.Reads as no-meaning-reads
 
--- src/lib.rt:206:9
 returns : tie.Need-returns
 unfolding padAt
 returns c = simp (c .if1 .taken)
 
--- src/lib.rt:209:27
 cut-short-requires : tie.Need-cut-short-requires
 cut-short-requires c κs = search needs
 
--- src/lib.rt:209:9
 returns-2 : tie.Need-returns-2
 unfolding padAt
 returns-2 c = let a = c .before .before .before .before .args in simp (ne-eqb _ _ (c .before .before .if1 .left), lt-ltb (length (now (a .s))) (a .at + 1) (omega arith), c .cut-short .ensures)
 
--- src/lib.rt:211:13
 shared-slice-read-bits : tie.Need-shared-slice-read-bits
 shared-slice-read-bits c = search needs
 
--- src/lib.rt:211:23
 sub-bits : tie.Need-sub-bits
 sub-bits c = search needs
 
--- src/lib.rt:211:8
 bits-requires : tie.Need-bits-requires
 bits-requires c κs = search needs
 
--- src/lib.rt:212:9
 returns-3 : tie.Need-returns-3
 unfolding padAt
 returns-3 c = let a = c .before .before .before .before .before .before .args in simp (ne-eqb _ _ (c .before .before .before .before .if1 .left), le-ltb (length (now (a .s))) (a .at + 1) (omega arith), ← c .before .bits .ensures, c .if3 .taken)
 
--- src/lib.rt:214:16
 no-meaning-requires : tie.Need-no-meaning-requires
 no-meaning-requires c κs = search needs
 
--- src/lib.rt:202:1
 returns-4 : tie.Need-returns-4
 unfolding padAt
 returns-4 c = let a = c .before .before .before .before .before .before .before .args in simp (ne-eqb _ _ (c .before .before .before .before .before .if1 .left), le-ltb (length (now (a .s))) (a .at + 1) (omega arith), ← c .before .before .bits .ensures, ne-eqb _ _ (c .before .if3 .left), c .no-meaning .ensures)

@@ -1,4 +1,5 @@
-use borrow.Author.Tests.{lt-ltb, le-ltb, eq-eqb, ne-eqb}
+-- `octets::plain_at` meets its contract. Each return is the case of the definition that the tests on the way single out. Assumes nothing.
+use borrow.Author.Tests.{lt-ltb, le-ltb, ne-eqb}
 use native.Mathlib.Omega.{arith}
 use Prim.Native.Nat.{_+_}
 use lib.ListN.{length}
@@ -7,39 +8,27 @@ use Rattle.octets.specs.Field.{plainAt}
 use borrow.Author.Needs.{needs}
 use Rattle.octets.proofs.plain_at.Statement.{statement}
 use Rattle.octets.proofs.plain_at.Tie as tie
-use Rattle.octets.proofs.plain_at.Reads as reads
-use Rattle.octets.proofs.plain_at.Lts as lts
-use Rattle.octets.proofs.bits.Reads as bits-reads
-use Rattle.octets.proofs.cut_short.Reads as cut-short-reads
-use Rattle.octets.proofs.extended_here.Reads as extended-here-reads
 
--- src/lib.rt:179:27
 cut-short-requires : tie.Need-cut-short-requires
 cut-short-requires c κs = search needs
 
--- src/lib.rt:179:9
 returns : tie.Need-returns
 unfolding plainAt
 returns c = let a = c .before .before .before .args in simp (lt-ltb (length (now (a .s))) (a .at + 1) (omega arith), c .cut-short .ensures)
 
--- src/lib.rt:181:13
 shared-slice-read-bits : tie.Need-shared-slice-read-bits
 shared-slice-read-bits c = search needs
 
--- src/lib.rt:181:8
 bits-requires : tie.Need-bits-requires
 bits-requires c κs = search needs
 
--- src/lib.rt:182:9
 returns-2 : tie.Need-returns-2
 unfolding plainAt
 returns-2 c = let a = c .before .before .before .before .before .args in simp (le-ltb (length (now (a .s))) (a .at + 1) (omega arith), ← c .before .bits .ensures, c .if2 .taken)
 
--- src/lib.rt:184:16
 extended-here-requires : tie.Need-extended-here-requires
 extended-here-requires c κs = search needs
 
--- src/lib.rt:175:1
 returns-3 : tie.Need-returns-3
 unfolding plainAt
 returns-3 c = let a = c .before .before .before .before .before .before .args in simp (le-ltb (length (now (a .s))) (a .at + 1) (omega arith), ← c .before .before .bits .ensures, ne-eqb _ _ (c .before .if2 .left), c .extended-here .ensures)

@@ -1,82 +1,61 @@
+-- `octets::put_length` meets its contract. The octets are those of the writers on the way, one after another. Assumes nothing.
 use mathlib.Core.Path.{_≡_, _∙_, ap}
 use mathlib.Core.List.{[], _∷_}
 use Prim.Native.Nat.{ℕ, _/_}
-use lib.Bits.{bitOr, or-zero-l}
+use lib.Bits.{bitOr}
 use native.Mathlib.Omega.{arith}
-use Rattle.octets.specs.Write.{packed, packedIn, _bits_, placed, widths}
+use Rattle.octets.specs.Write.{packed, packedIn, _bits_, placed}
 use Rattle.octets.proofs.Packed.{together}
 use Rattle.octets.proofs.Writing.{wrote-none, wrote-then, length-short, length-long, length-over}
 use borrow.Author.Needs.{needs}
 use Rattle.octets.proofs.put_length.Statement.{statement}
 use Rattle.octets.proofs.put_length.Tie as tie
-use Rattle.octets.proofs.put_length.Reads as reads
-use Rattle.octets.proofs.put_length.Lts as lts
-use Rattle.octets.proofs.place_in.Reads as place-in-reads
-use Rattle.octets.proofs.put_octet.Reads as put-octet-reads
-use Rattle.octets.proofs.with_bits.Reads as with-bits-reads
 
--- LEM
 -- the octet with top bits 10 and the high part of a length
 top : (c : tie.After-with-bits2) → let n = c .before .before .before .before .before .args .n in c .with-bits2 .result ≡ packed (2 bits 2 ∷ 6 bits (n / 256) ∷ [])
 unfolding packedIn
 top c = let n = c .before .before .before .before .before .args .n in
     c .with-bits2 .ensures ∙ (ap (λ (x : ℕ). bitOr x (placed 2 6 (n / 256))) (c .before .with-bits .ensures ∙ together [] 2 2 (omega arith) (omega arith) (omega arith)) ∙ together (2 bits 2 ∷ []) 6 (n / 256) (omega arith) (omega arith) (omega arith))
 
--- /LEM
-
--- src/lib.rt:374:36
 cast-put-octet : tie.Need-cast-put-octet
 cast-put-octet c = search needs
 
--- src/lib.rt:374:9
 put-octet-requires : tie.Need-put-octet-requires
 put-octet-requires c κs = search needs
 
--- src/lib.rt:374:9
 same-length : tie.Need-same-length
 same-length c = search needs
 
--- src/lib.rt:374:9
 returns : tie.Need-returns
 returns c = rw (length-short _ (c .before .before .before .before .if1 .taken)) (c .before .before .put-octet .ensures)
 
--- src/lib.rt:377:9
 place-in-requires : tie.Need-place-in-requires
 place-in-requires c κs = search needs
 
--- src/lib.rt:377:9
 returns-2 : tie.Need-returns-2
 returns-2 c = rw (length-over _ (c .before .if2 .taken)) (wrote-none _ _ (c .place-in .ensures))
 
--- src/lib.rt:379:25
 with-bits-requires : tie.Need-with-bits-requires
 with-bits-requires c κs = search needs
 
--- src/lib.rt:379:54
 cast-with-bits : tie.Need-cast-with-bits
 cast-with-bits c = search needs
 
--- src/lib.rt:379:9
 with-bits-requires-2 : tie.Need-with-bits-requires-2
 with-bits-requires-2 c κs = search needs
 
--- src/lib.rt:380:9
 put-octet-requires-2 : tie.Need-put-octet-requires-2
 put-octet-requires-2 c κs = search needs
 
--- src/lib.rt:381:27
 cast-put-octet-2 : tie.Need-cast-put-octet-2
 cast-put-octet-2 c = search needs
 
--- src/lib.rt:381:5
 put-octet-requires-3 : tie.Need-put-octet-requires-3
 put-octet-requires-3 c κs = search needs
 
--- src/lib.rt:370:1
 same-length-2 : tie.Need-same-length-2
 same-length-2 c = search needs
 
--- src/lib.rt:370:1
 returns-3 : tie.Need-returns-3
 returns-3 c = rw (length-long _ (c .before .before .before .before .before .before .before .before .before .before .before .if1 .left) (c .before .before .before .before .before .before .before .before .before .before .if2 .left), ← top (c .before .before .before .before .before .before .before .before)) (wrote-then (c .before .before .before .before .before .before .put-octet2 .ensures) (c .before .before .put-octet3 .ensures))
 

@@ -1,27 +1,21 @@
+-- `octets::put_octet` meets its contract. Each return is the chain of the readings on the way to it. Assumes nothing.
 use Rattle.octets.proofs.Writing.{wrote-one, wrote-past}
 use borrow.Author.Needs.{needs}
 use Rattle.octets.proofs.put_octet.Statement.{statement}
 use Rattle.octets.proofs.put_octet.Tie as tie
-use Rattle.octets.proofs.put_octet.Reads as reads
-use Rattle.octets.proofs.put_octet.Lts as lts
 
--- src/lib.rt:345:9
 slice-write-room : tie.Need-slice-write-room
 slice-write-room c = search needs
 
--- src/lib.rt:346:16
 add-result : tie.Need-add-result
 add-result c = search needs
 
--- src/lib.rt:346:9
 same-length : tie.Need-same-length
 same-length c = search needs
 
--- src/lib.rt:346:9
 returns : tie.Need-returns
 returns c = wrote-one _ _ _ (c .if1 .taken)
 
--- src/lib.rt:341:1
 returns-2 : tie.Need-returns-2
 returns-2 c = wrote-past _ _ _ (c .if1 .left)
 

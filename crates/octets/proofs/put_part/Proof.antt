@@ -1,8 +1,7 @@
+-- `octets::put_part` meets its contract. The loop's invariant: what was written is the octets passed so far, and the walk is not past the end that was asked for. Assumes nothing.
 use borrow.Author.Needs.{needs}
-use mathlib.Core.Path.{_≡_, _∙_, ap, sym}
-use Prim.Native.Nat.{ℕ, max, _≤_, _-_, _+_}
+use Prim.Native.Nat.{max, _≤_, _-_}
 use native.Mathlib.Omega.{arith}
-use lib.ListN.{length}
 use denote.Ref.{now}
 use lib.Seq.{slice, slice-empty}
 use Rattle.octets.specs.Write.{Wrote}
@@ -10,10 +9,6 @@ use Rattle.octets.proofs.Writing.{wrote-none, wrote-then, wrote-length}
 use Rattle.lists.proofs.Parts.{slice-more, slice-past, slice-stop}
 use Rattle.octets.proofs.put_part.Statement.{statement}
 use Rattle.octets.proofs.put_part.Tie as tie
-use Rattle.octets.proofs.put_part.Reads as reads
-use Rattle.octets.proofs.put_part.Lts as lts
-use Rattle.octets.proofs.place_in.Reads as place-in-reads
-use Rattle.octets.proofs.put_octet.Reads as put-octet-reads
 
 abbrev Inv-loop : tie.InvT-loop
 Inv-loop room₀ at s from to next₀ i₀ room next i = (from ≤ i) × (i ≤ max from to) × Wrote room₀ at (slice from i s) room next
@@ -21,47 +16,36 @@ Inv-loop room₀ at s from to next₀ i₀ room next i = (from ≤ i) × (i ≤ 
 abbrev μ-loop : tie.MeasureT-loop
 μ-loop room₀ at s from to next₀ i₀ room next i = to - i
 
--- src/lib.rt:388:9
 place-in-requires : tie.Need-place-in-requires Inv-loop μ-loop
 place-in-requires c κs = search needs
 
--- src/lib.rt:390:5
 loop-holds : tie.Need-loop-holds Inv-loop μ-loop
 loop-holds c = (omega arith, omega arith, rw slice-empty (wrote-none _ _ (c .place-in .ensures)))
 
--- src/lib.rt:392:13
 same-length : tie.Need-same-length Inv-loop μ-loop
 same-length c = wrote-length (c .before .before .loop .inv .2)
 
--- src/lib.rt:392:13
 returns : tie.Need-returns Inv-loop μ-loop
 returns c = let a = c .before .before .before .before .before .before .args in rw (← slice-past (a .from) (c .before .before .loop .i) (a .to) (now (a .s)) (c .if1 .taken) (omega arith)) (c .before .before .loop .inv .2)
 
--- src/lib.rt:394:38
 shared-slice-read-put-octet : tie.Need-shared-slice-read-put-octet Inv-loop μ-loop
 shared-slice-read-put-octet c = search needs
 
--- src/lib.rt:394:9
 put-octet-requires : tie.Need-put-octet-requires Inv-loop μ-loop
 put-octet-requires c κs = search needs
 
--- src/lib.rt:395:9
 add-i : tie.Need-add-i Inv-loop μ-loop
 add-i c = search needs
 
--- src/lib.rt:390:5
 loop-less : tie.Need-loop-less Inv-loop μ-loop
 loop-less c = search needs
 
--- src/lib.rt:390:5
 loop-again : tie.Need-loop-again Inv-loop μ-loop
 loop-again c = (omega arith, omega arith, let a = c .before .before .before .before .before .before .before .before .before .before .before .args in rw (slice-more (a .from) (c .before .before .before .before .before .before .before .loop .i) (now (a .s)) 0 (omega arith) (omega arith)) (wrote-then (c .before .before .before .before .before .before .before .loop .inv .2) (c .before .before .put-octet .ensures)))
 
--- src/lib.rt:385:1
 same-length-2 : tie.Need-same-length-2 Inv-loop μ-loop
 same-length-2 c = wrote-length (c .before .loop .inv .2)
 
--- src/lib.rt:385:1
 returns-2 : tie.Need-returns-2 Inv-loop μ-loop
 returns-2 c = let a = c .before .before .before .before .before .args in rw (← slice-stop (a .from) (c .before .loop .i) (a .to) (now (a .s)) (omega arith) (omega arith) (c .loop-test .left)) (c .before .loop .inv .2)
 

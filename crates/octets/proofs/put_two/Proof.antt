@@ -1,35 +1,25 @@
+-- `octets::put_two` meets its contract. The octets are those of the writers on the way, one after another. Assumes nothing.
 use native.Mathlib.Omega.{arith}
-use Rattle.octets.proofs.Writing.{number-two}
-use Rattle.octets.specs.Write.{numberOctets}
-use Rattle.octets.proofs.Writing.{wrote-then}
+use Rattle.octets.proofs.Writing.{number-two, wrote-then}
 use borrow.Author.Needs.{needs}
 use Rattle.octets.proofs.put_two.Statement.{statement}
 use Rattle.octets.proofs.put_two.Tie as tie
-use Rattle.octets.proofs.put_two.Reads as reads
-use Rattle.octets.proofs.put_two.Lts as lts
-use Rattle.octets.proofs.put_octet.Reads as put-octet-reads
 
--- src/lib.rt:365:36
 cast-put-octet : tie.Need-cast-put-octet
 cast-put-octet c = search needs
 
--- src/lib.rt:365:9
 put-octet-requires : tie.Need-put-octet-requires
 put-octet-requires c κs = search needs
 
--- src/lib.rt:366:27
 cast-put-octet-2 : tie.Need-cast-put-octet-2
 cast-put-octet-2 c = search needs
 
--- src/lib.rt:366:5
 put-octet-requires-2 : tie.Need-put-octet-requires-2
 put-octet-requires-2 c κs = search needs
 
--- src/lib.rt:362:1
 same-length : tie.Need-same-length
 same-length c = search needs
 
--- src/lib.rt:362:1
 returns : tie.Need-returns
 returns c = rw (number-two (c .before .before .before .before .before .before .before .before .before .args .v) (omega arith)) (wrote-then (c .before .before .before .before .before .before .put-octet .ensures) (c .before .before .put-octet2 .ensures))
 

@@ -1,62 +1,47 @@
-use borrow.Author.Tests.{lt-ltb, le-ltb, eq-eqb, ne-eqb}
+-- `octets::three_at` meets its contract. Each return is the case of the definition that the tests on the way single out. Assumes nothing.
+use borrow.Author.Tests.{lt-ltb, le-ltb}
 use native.Mathlib.Omega.{arith}
 use Prim.Native.Nat.{_+_, _≤_}
 use lib.ListN.{length}
 use denote.Ref.{now}
-use mathlib.Core.Path.{ap}
-use Rattle.octets.specs.Read.{got}
 use Rattle.octets.specs.Field.{stringAt}
 use Rattle.octets.proofs.Stood.{slice-three}
 use borrow.Author.Needs.{needs}
 use Rattle.octets.proofs.three_at.Statement.{statement}
 use Rattle.octets.proofs.three_at.Tie as tie
-use Rattle.octets.proofs.three_at.Reads as reads
-use Rattle.octets.proofs.three_at.Lts as lts
-use Rattle.octets.proofs.cut_short.Reads as cut-short-reads
 
--- src/lib.rt:245:28
 cut-short-requires : tie.Need-cut-short-requires
 cut-short-requires c κs = search needs
 
--- src/lib.rt:245:9
 returns : tie.Need-returns
 unfolding stringAt
 returns c = let a = c .before .before .before .args in simp (lt-ltb (length (now (a .s))) (a .at + 3) (omega arith), c .cut-short .ensures)
 
--- src/lib.rt:247:8
 sub-if2 : tie.Need-sub-if2
 sub-if2 c = search needs
 
--- src/lib.rt:248:28
 cut-short-requires-2 : tie.Need-cut-short-requires-2
 cut-short-requires-2 c κs = search needs
 
--- src/lib.rt:248:9
 returns-2 : tie.Need-returns-2
 unfolding stringAt
 returns-2 c = let a = c .before .before .before .before .args in simp (lt-ltb (length (now (a .s))) (a .at + 3) (omega arith), c .cut-short2 .ensures)
 
--- src/lib.rt:250:23
 shared-slice-read-t9 : tie.Need-shared-slice-read-t9
 shared-slice-read-t9 c = search needs
 
--- src/lib.rt:250:32
 add-t3 : tie.Need-add-t3
 add-t3 c = search needs
 
--- src/lib.rt:250:30
 shared-slice-read-t11 : tie.Need-shared-slice-read-t11
 shared-slice-read-t11 c = search needs
 
--- src/lib.rt:250:43
 add-t6 : tie.Need-add-t6
 add-t6 c = search needs
 
--- src/lib.rt:250:41
 shared-slice-read-t13 : tie.Need-shared-slice-read-t13
 shared-slice-read-t13 c = search needs
 
--- src/lib.rt:241:1
 returns-3 : tie.Need-returns-3
 unfolding stringAt
 returns-3 c = let a = c .before .before .before .before .before .before .args in

@@ -1,65 +1,49 @@
-use lib.ListN.{getD}
-use borrow.Author.Tests.{lt-ltb, le-ltb, eq-eqb, ne-eqb}
+-- `octets::two_at` meets its contract. Each return is the case of the definition that the tests on the way single out. Assumes nothing.
+use lib.ListN.{getD, length}
+use borrow.Author.Tests.{lt-ltb, le-ltb}
 use native.Mathlib.Omega.{arith}
-use Prim.Native.Nat.{_+_}
-use lib.ListN.{length}
+use Prim.Native.Nat.{_+_, ℕ}
 use denote.Ref.{now}
 use mathlib.Core.Path.{ap, _∙_}
-use Prim.Native.Nat.{ℕ}
 use Rattle.octets.specs.Read.{got}
 use Rattle.octets.specs.Field.{numberAt}
 use Rattle.octets.proofs.Packed.{two-octets}
 use borrow.Author.Needs.{needs}
 use Rattle.octets.proofs.two_at.Statement.{statement}
 use Rattle.octets.proofs.two_at.Tie as tie
-use Rattle.octets.proofs.two_at.Reads as reads
-use Rattle.octets.proofs.two_at.Lts as lts
-use Rattle.octets.proofs.cut_short.Reads as cut-short-reads
-use Rattle.octets.proofs.wide16.Reads as wide16-reads
 
--- src/lib.rt:232:26
 cut-short-requires : tie.Need-cut-short-requires
 cut-short-requires c κs = search needs
 
--- src/lib.rt:232:9
 returns : tie.Need-returns
 unfolding numberAt
 returns c = let a = c .before .before .before .args in simp (lt-ltb (length (now (a .s))) (a .at + 2) (omega arith), c .cut-short .ensures)
 
--- src/lib.rt:234:8
 sub-if2 : tie.Need-sub-if2
 sub-if2 c = search needs
 
--- src/lib.rt:235:26
 cut-short-requires-2 : tie.Need-cut-short-requires-2
 cut-short-requires-2 c κs = search needs
 
--- src/lib.rt:235:9
 returns-2 : tie.Need-returns-2
 unfolding numberAt
 returns-2 c = let a = c .before .before .before .before .args in simp (lt-ltb (length (now (a .s))) (a .at + 2) (omega arith), c .cut-short2 .ensures)
 
--- src/lib.rt:237:21
 shared-slice-read-wide16 : tie.Need-shared-slice-read-wide16
 shared-slice-read-wide16 c = search needs
 
--- src/lib.rt:237:14
 wide16-requires : tie.Need-wide16-requires
 wide16-requires c κs = search needs
 
--- src/lib.rt:237:45
 add-wide16 : tie.Need-add-wide16
 add-wide16 c = search needs
 
--- src/lib.rt:237:43
 shared-slice-read-wide16-2 : tie.Need-shared-slice-read-wide16-2
 shared-slice-read-wide16-2 c = search needs
 
--- src/lib.rt:237:36
 wide16-requires-2 : tie.Need-wide16-requires-2
 wide16-requires-2 c κs = search needs
 
--- src/lib.rt:228:1
 returns-3 : tie.Need-returns-3
 unfolding numberAt
 returns-3 c = let a = c .before .before .before .before .before .before .before .args in

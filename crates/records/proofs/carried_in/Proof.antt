@@ -1,16 +1,13 @@
+-- `records::carried_in` meets its contract. Each return is the case of the definition that the tests on the way single out. Assumes nothing.
 use borrow.Author.Tests.{lt-ltb, le-ltb}
 use Rattle.records.specs.Values.{carriedIn}
 use Rattle.records.proofs.carried_in.Statement.{statement}
 use Rattle.records.proofs.carried_in.Tie as tie
-use Rattle.records.proofs.carried_in.Reads as reads
-use Rattle.records.proofs.carried_in.Lts as lts
 
--- src/lib.rt:201:9
 returns : tie.Need-returns
 unfolding carriedIn
 returns c = rw (lt-ltb _ _ (c .if1 .taken))
 
--- src/lib.rt:197:1
 returns-2 : tie.Need-returns-2
 unfolding carriedIn
 returns-2 c = rw (le-ltb _ _ (c .if1 .left))

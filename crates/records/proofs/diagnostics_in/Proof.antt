@@ -1,4 +1,5 @@
-use mathlib.Core.Path.{_≡_, _∙_, ap, sym}
+-- `records::diagnostics_in` meets its contract. The value is what its reader gave, at the octets up to the value's end. Assumes nothing.
+use mathlib.Core.Path.{_∙_, ap, sym}
 use native.Mathlib.Omega.{arith}
 use denote.Ref.{now}
 use lib.Seq.{length-take-le}
@@ -9,37 +10,26 @@ use Rattle.records.proofs.Laws.{clipped, diagnosed-is, diagnosed-not}
 use borrow.Author.Needs.{needs}
 use Rattle.records.proofs.diagnostics_in.Statement.{statement}
 use Rattle.records.proofs.diagnostics_in.Tie as tie
-use Rattle.records.proofs.diagnostics_in.Reads as reads
-use Rattle.records.proofs.diagnostics_in.Lts as lts
-use Rattle.diagnostics.proofs.diagnostics_at.Reads as diagnostics-at-reads
-use Rattle.records.proofs.end_in.Reads as end-in-reads
 
--- src/lib.rt:209:9
 end-in-requires : tie.Need-end-in-requires
 end-in-requires c κs = search needs
 
--- src/lib.rt:210:41
 slice-aggregate-diagnostics-at : tie.Need-slice-aggregate-diagnostics-at
 slice-aggregate-diagnostics-at c = sym (length-take-le _ (now (c .before .before .before .args .s)) (omega arith))
 
--- src/lib.rt:210:9
 diagnostics-at-requires : tie.Need-diagnostics-at-requires
 diagnostics-at-requires c κs = search needs
 
--- src/lib.rt:216:26
 enum-told : tie.Need-enum-told
 enum-told c = search needs
 
--- src/lib.rt:220:26
 enum-told-2 : tie.Need-enum-told-2
 enum-told-2 c = search needs
 
--- src/lib.rt:206:1
 returns : tie.Need-returns
 unfolding diagnosticsIn
 returns c = diagnosed-is (c .before .before .before .before .diagnostics-at .result) (within diagnosticsAt (now (c .before .before .before .before .before .before .before .before .args .s)) (c .before .before .before .before .before .before .before .before .args .v)) (c .before .before .before .before .diagnostics-at .ensures ∙ ap diagnosticsRead (clipped diagnosticsAt (now (c .before .before .before .before .before .before .before .before .args .s)) (c .before .before .before .before .before .before .before .before .args .v) (c .before .before .before .before .before .before .end-in .ensures))) (c .enum-told .given .1)
 
--- src/lib.rt:206:1
 returns-2 : tie.Need-returns-2
 unfolding diagnosticsIn
 returns-2 c = diagnosed-not (c .before .before .before .before .diagnostics-at .result) (within diagnosticsAt (now (c .before .before .before .before .before .before .before .before .args .s)) (c .before .before .before .before .before .before .before .before .args .v)) (c .before .before .before .before .diagnostics-at .ensures ∙ ap diagnosticsRead (clipped diagnosticsAt (now (c .before .before .before .before .before .before .before .before .args .s)) (c .before .before .before .before .before .before .before .before .args .v) (c .before .before .before .before .before .before .end-in .ensures))) (c .enum-told2 .given .1)

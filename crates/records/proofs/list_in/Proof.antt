@@ -1,4 +1,5 @@
-use mathlib.Core.Path.{_≡_, _∙_, ap, sym}
+-- `records::list_in` meets its contract. The value is what its reader gave, at the octets up to the value's end. Assumes nothing.
+use mathlib.Core.Path.{_∙_, ap, sym}
 use native.Mathlib.Omega.{arith}
 use denote.Ref.{now}
 use lib.Seq.{length-take-le}
@@ -9,37 +10,26 @@ use Rattle.records.proofs.Laws.{clipped, listed-is, listed-not}
 use borrow.Author.Needs.{needs}
 use Rattle.records.proofs.list_in.Statement.{statement}
 use Rattle.records.proofs.list_in.Tie as tie
-use Rattle.records.proofs.list_in.Reads as reads
-use Rattle.records.proofs.list_in.Lts as lts
-use Rattle.items.proofs.items_at.Reads as items-at-reads
-use Rattle.records.proofs.end_in.Reads as end-in-reads
 
--- src/lib.rt:255:9
 end-in-requires : tie.Need-end-in-requires
 end-in-requires c κs = search needs
 
--- src/lib.rt:256:29
 slice-aggregate-items-at : tie.Need-slice-aggregate-items-at
 slice-aggregate-items-at c = sym (length-take-le _ (now (c .before .before .before .args .s)) (omega arith))
 
--- src/lib.rt:256:9
 items-at-requires : tie.Need-items-at-requires
 items-at-requires c κs = search needs
 
--- src/lib.rt:260:23
 enum-told : tie.Need-enum-told
 enum-told c = search needs
 
--- src/lib.rt:264:26
 enum-told-2 : tie.Need-enum-told-2
 enum-told-2 c = search needs
 
--- src/lib.rt:252:1
 returns : tie.Need-returns
 unfolding listIn
 returns c = listed-is (c .before .before .before .items-at .result) (within itemsAt (now (c .before .before .before .before .before .before .before .args .s)) (c .before .before .before .before .before .before .before .args .v)) (c .before .before .before .items-at .ensures ∙ ap itemsRead (clipped itemsAt (now (c .before .before .before .before .before .before .before .args .s)) (c .before .before .before .before .before .before .before .args .v) (c .before .before .before .before .before .end-in .ensures))) (c .enum-told .given .1)
 
--- src/lib.rt:252:1
 returns-2 : tie.Need-returns-2
 unfolding listIn
 returns-2 c = listed-not (c .before .before .before .items-at .result) (within itemsAt (now (c .before .before .before .before .before .before .before .args .s)) (c .before .before .before .before .before .before .before .args .v)) (c .before .before .before .items-at .ensures ∙ ap itemsRead (clipped itemsAt (now (c .before .before .before .before .before .before .before .args .s)) (c .before .before .before .before .before .before .before .args .v) (c .before .before .before .before .before .end-in .ensures))) (c .enum-told2 .given .1)

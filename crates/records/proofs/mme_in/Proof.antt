@@ -1,4 +1,5 @@
-use mathlib.Core.Path.{_≡_, _∙_, ap, sym}
+-- `records::mme_in` meets its contract. The value is what its reader gave, at the octets up to the value's end. Assumes nothing.
+use mathlib.Core.Path.{sym}
 use native.Mathlib.Omega.{arith}
 use denote.Ref.{now}
 use lib.Seq.{length-take-le}
@@ -10,37 +11,26 @@ use Rattle.records.proofs.Laws.{read-in}
 use borrow.Author.Needs.{needs}
 use Rattle.records.proofs.mme_in.Statement.{statement}
 use Rattle.records.proofs.mme_in.Tie as tie
-use Rattle.records.proofs.mme_in.Reads as reads
-use Rattle.records.proofs.mme_in.Lts as lts
-use Rattle.records.proofs.end_in.Reads as end-in-reads
-use Rattle.values.proofs.mme_at.Reads as mme-at-reads
 
--- src/lib.rt:150:9
 end-in-requires : tie.Need-end-in-requires
 end-in-requires c κs = search needs
 
--- src/lib.rt:151:26
 slice-aggregate-mme-at : tie.Need-slice-aggregate-mme-at
 slice-aggregate-mme-at c = sym (length-take-le _ (now (c .before .before .before .args .s)) (omega arith))
 
--- src/lib.rt:151:11
 mme-at-requires : tie.Need-mme-at-requires
 mme-at-requires c κs = search needs
 
--- src/lib.rt:152:21
 enum-known-m : tie.Need-enum-known-m
 enum-known-m c = search needs
 
--- src/lib.rt:153:29
 enum-told : tie.Need-enum-told
 enum-told c = search needs
 
--- src/lib.rt:147:1
 returns : tie.Need-returns
 unfolding mmeIn
 returns c = let a = c .before .before .before .before .before .before .before .args in read-in mme.Absent mme.Is mmeAt (now (a .s)) (a .v) foundMme (c .before .before .before .before .before .end-in .ensures) (c .before .m .given .1) (c .before .before .before .mme-at .ensures)
 
--- src/lib.rt:147:1
 returns-2 : tie.Need-returns-2
 unfolding mmeIn
 returns-2 c = let a = c .before .before .before .before .before .before .args in read-in mme.Absent mme.Is mmeAt (now (a .s)) (a .v) foundMme (c .before .before .before .before .end-in .ensures) (c .enum-told .given .1) (c .before .before .mme-at .ensures)

@@ -1,114 +1,80 @@
+-- `records::record_of` meets its contract. By the case, what was called says it. Assumes nothing.
 use mathlib.Core.Path.{_∙_, ap, sym}
 use denote.Ref.{now}
-use Rattle.tables.specs.declared.Message.{Message}
 use Rattle.records.specs.Records.{rowIn, recordOf}
 use borrow.Author.Needs.{needs}
 use Rattle.records.proofs.record_of.Statement.{statement}
 use Rattle.records.proofs.record_of.Tie as tie
-use Rattle.records.proofs.record_of.Reads as reads
-use Rattle.records.proofs.record_of.Lts as lts
-use Rattle.records.proofs.error_indication.Reads as error-indication-reads
-use Rattle.records.proofs.reset.Reads as reset-reads
-use Rattle.records.proofs.reset_acknowledge.Reads as reset-acknowledge-reads
-use Rattle.records.proofs.start_failure.Reads as start-failure-reads
-use Rattle.records.proofs.start_request.Reads as start-request-reads
-use Rattle.records.proofs.start_response.Reads as start-response-reads
-use Rattle.records.proofs.stop_request.Reads as stop-request-reads
-use Rattle.records.proofs.stop_response.Reads as stop-response-reads
 
--- src/lib.rt:472:34
 enum-told : tie.Need-enum-told
 enum-told c = search needs
 
--- src/lib.rt:472:34
 start-request-requires : tie.Need-start-request-requires
 start-request-requires c κs = search needs
 
--- src/lib.rt:473:35
 enum-told-2 : tie.Need-enum-told-2
 enum-told-2 c = search needs
 
--- src/lib.rt:473:35
 start-response-requires : tie.Need-start-response-requires
 start-response-requires c κs = search needs
 
--- src/lib.rt:474:34
 enum-told-3 : tie.Need-enum-told-3
 enum-told-3 c = search needs
 
--- src/lib.rt:474:34
 start-failure-requires : tie.Need-start-failure-requires
 start-failure-requires c κs = search needs
 
--- src/lib.rt:475:33
 enum-told-4 : tie.Need-enum-told-4
 enum-told-4 c = search needs
 
--- src/lib.rt:475:33
 stop-request-requires : tie.Need-stop-request-requires
 stop-request-requires c κs = search needs
 
--- src/lib.rt:476:34
 enum-told-5 : tie.Need-enum-told-5
 enum-told-5 c = search needs
 
--- src/lib.rt:476:34
 stop-response-requires : tie.Need-stop-response-requires
 stop-response-requires c κs = search needs
 
--- src/lib.rt:477:27
 enum-told-6 : tie.Need-enum-told-6
 enum-told-6 c = search needs
 
--- src/lib.rt:477:27
 reset-requires : tie.Need-reset-requires
 reset-requires c κs = search needs
 
--- src/lib.rt:478:38
 enum-told-7 : tie.Need-enum-told-7
 enum-told-7 c = search needs
 
--- src/lib.rt:478:38
 reset-acknowledge-requires : tie.Need-reset-acknowledge-requires
 reset-acknowledge-requires c κs = search needs
 
--- src/lib.rt:479:37
 enum-told-8 : tie.Need-enum-told-8
 enum-told-8 c = search needs
 
--- src/lib.rt:479:37
 error-indication-requires : tie.Need-error-indication-requires
 error-indication-requires c κs = search needs
 
--- src/lib.rt:468:1
 returns : tie.Need-returns
 returns c = let a = c .before .before .before .before .args in c .start-request .ensures ∙ ap (recordOf (now (a .s)) (rowIn (a .rows)) (a .crit)) (sym (c .before .enum-told .given .1))
 
--- src/lib.rt:468:1
 returns-2 : tie.Need-returns-2
 returns-2 c = let a = c .before .before .before .before .args in c .start-response .ensures ∙ ap (recordOf (now (a .s)) (rowIn (a .rows)) (a .crit)) (sym (c .before .enum-told2 .given .1))
 
--- src/lib.rt:468:1
 returns-3 : tie.Need-returns-3
 returns-3 c = let a = c .before .before .before .before .args in c .start-failure .ensures ∙ ap (recordOf (now (a .s)) (rowIn (a .rows)) (a .crit)) (sym (c .before .enum-told3 .given .1))
 
--- src/lib.rt:468:1
 returns-4 : tie.Need-returns-4
 returns-4 c = let a = c .before .before .before .before .args in c .stop-request .ensures ∙ ap (recordOf (now (a .s)) (rowIn (a .rows)) (a .crit)) (sym (c .before .enum-told4 .given .1))
 
--- src/lib.rt:468:1
 returns-5 : tie.Need-returns-5
 returns-5 c = let a = c .before .before .before .before .args in c .stop-response .ensures ∙ ap (recordOf (now (a .s)) (rowIn (a .rows)) (a .crit)) (sym (c .before .enum-told5 .given .1))
 
--- src/lib.rt:468:1
 returns-6 : tie.Need-returns-6
 returns-6 c = let a = c .before .before .before .before .args in c .reset .ensures ∙ ap (recordOf (now (a .s)) (rowIn (a .rows)) (a .crit)) (sym (c .before .enum-told6 .given .1))
 
--- src/lib.rt:468:1
 returns-7 : tie.Need-returns-7
 returns-7 c = let a = c .before .before .before .before .args in c .reset-acknowledge .ensures ∙ ap (recordOf (now (a .s)) (rowIn (a .rows)) (a .crit)) (sym (c .before .enum-told7 .given .1))
 
--- src/lib.rt:468:1
 returns-8 : tie.Need-returns-8
 returns-8 c = let a = c .before .before .before .before .args in c .error-indication .ensures ∙ ap (recordOf (now (a .s)) (rowIn (a .rows)) (a .crit)) (sym (c .before .enum-told8 .given .1))
 

@@ -1,4 +1,5 @@
-use mathlib.Core.Path.{_≡_, _∙_, ap, sym}
+-- `records::reset_in` meets its contract. The value is what its reader gave, at the octets up to the value's end. Assumes nothing.
+use mathlib.Core.Path.{_∙_, ap, sym}
 use native.Mathlib.Omega.{arith}
 use denote.Ref.{now}
 use lib.Seq.{length-take-le}
@@ -9,50 +10,36 @@ use Rattle.records.proofs.Laws.{clipped, reset-whole, reset-part, reset
 use borrow.Author.Needs.{needs}
 use Rattle.records.proofs.reset_in.Statement.{statement}
 use Rattle.records.proofs.reset_in.Tie as tie
-use Rattle.records.proofs.reset_in.Reads as reads
-use Rattle.records.proofs.reset_in.Lts as lts
-use Rattle.items.proofs.reset_at.Reads as reset-at-reads
-use Rattle.records.proofs.end_in.Reads as end-in-reads
 
--- src/lib.rt:229:9
 end-in-requires : tie.Need-end-in-requires
 end-in-requires c κs = search needs
 
--- src/lib.rt:230:29
 slice-aggregate-reset-at : tie.Need-slice-aggregate-reset-at
 slice-aggregate-reset-at c = sym (length-take-le _ (now (c .before .before .before .args .s)) (omega arith))
 
--- src/lib.rt:230:9
 reset-at-requires : tie.Need-reset-at-requires
 reset-at-requires c κs = search needs
 
--- src/lib.rt:235:23
 enum-told : tie.Need-enum-told
 enum-told c = search needs
 
--- src/lib.rt:237:24
 enum-told-2 : tie.Need-enum-told-2
 enum-told-2 c = search needs
 
--- src/lib.rt:241:24
 enum-told-3 : tie.Need-enum-told-3
 enum-told-3 c = search needs
 
--- src/lib.rt:246:20
 enum-told-4 : tie.Need-enum-told-4
 enum-told-4 c = search needs
 
--- src/lib.rt:226:1
 returns : tie.Need-returns
 unfolding resetIn
 returns c = reset-whole (c .before .before .before .before .before .reset-at .result) (within resetAt (now (c .before .before .before .before .before .before .before .before .before .args .s)) (c .before .before .before .before .before .before .before .before .before .args .v)) (c .before .before .before .before .before .reset-at .ensures ∙ ap resetRead (clipped resetAt (now (c .before .before .before .before .before .before .before .before .before .args .s)) (c .before .before .before .before .before .before .before .before .before .args .v) (c .before .before .before .before .before .before .before .end-in .ensures))) (c .before .before .enum-told .given .1) (c .enum-told2 .given .1)
 
--- src/lib.rt:226:1
 returns-2 : tie.Need-returns-2
 unfolding resetIn
 returns-2 c = reset-part (c .before .before .before .before .before .reset-at .result) (within resetAt (now (c .before .before .before .before .before .before .before .before .before .args .s)) (c .before .before .before .before .before .before .before .before .before .args .v)) (c .before .before .before .before .before .reset-at .ensures ∙ ap resetRead (clipped resetAt (now (c .before .before .before .before .before .before .before .before .before .args .s)) (c .before .before .before .before .before .before .before .before .before .args .v) (c .before .before .before .before .before .before .before .end-in .ensures))) (c .before .before .enum-told .given .1) (c .enum-told3 .given .1)
 
--- src/lib.rt:226:1
 returns-3 : tie.Need-returns-3
 unfolding resetIn
 returns-3 c = reset-not (c .before .before .before .reset-at .result) (within resetAt (now (c .before .before .before .before .before .before .before .args .s)) (c .before .before .before .before .before .before .before .args .v)) (c .before .before .before .reset-at .ensures ∙ ap resetRead (clipped resetAt (now (c .before .before .before .before .before .before .before .args .s)) (c .before .before .before .before .before .before .before .args .v) (c .before .before .before .before .before .end-in .ensures))) (c .enum-told4 .given .1)

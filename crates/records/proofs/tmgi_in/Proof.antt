@@ -1,4 +1,5 @@
-use mathlib.Core.Path.{_≡_, _∙_, ap, sym}
+-- `records::tmgi_in` meets its contract. The value is what its reader gave, at the octets up to the value's end. Assumes nothing.
+use mathlib.Core.Path.{sym}
 use native.Mathlib.Omega.{arith}
 use denote.Ref.{now}
 use lib.Seq.{length-take-le}
@@ -10,37 +11,26 @@ use Rattle.records.proofs.Laws.{read-in}
 use borrow.Author.Needs.{needs}
 use Rattle.records.proofs.tmgi_in.Statement.{statement}
 use Rattle.records.proofs.tmgi_in.Tie as tie
-use Rattle.records.proofs.tmgi_in.Reads as reads
-use Rattle.records.proofs.tmgi_in.Lts as lts
-use Rattle.records.proofs.end_in.Reads as end-in-reads
-use Rattle.values.proofs.tmgi_at.Reads as tmgi-at-reads
 
--- src/lib.rt:170:9
 end-in-requires : tie.Need-end-in-requires
 end-in-requires c κs = search needs
 
--- src/lib.rt:171:27
 slice-aggregate-tmgi-at : tie.Need-slice-aggregate-tmgi-at
 slice-aggregate-tmgi-at c = sym (length-take-le _ (now (c .before .before .before .args .s)) (omega arith))
 
--- src/lib.rt:171:11
 tmgi-at-requires : tie.Need-tmgi-at-requires
 tmgi-at-requires c κs = search needs
 
--- src/lib.rt:172:22
 enum-known-m : tie.Need-enum-known-m
 enum-known-m c = search needs
 
--- src/lib.rt:173:30
 enum-told : tie.Need-enum-told
 enum-told c = search needs
 
--- src/lib.rt:167:1
 returns : tie.Need-returns
 unfolding tmgiIn
 returns c = let a = c .before .before .before .before .before .before .before .args in read-in tmgi.Absent tmgi.Is tmgiAt (now (a .s)) (a .v) foundTmgi (c .before .before .before .before .before .end-in .ensures) (c .before .m .given .1) (c .before .before .before .tmgi-at .ensures)
 
--- src/lib.rt:167:1
 returns-2 : tie.Need-returns-2
 unfolding tmgiIn
 returns-2 c = let a = c .before .before .before .before .before .before .args in read-in tmgi.Absent tmgi.Is tmgiAt (now (a .s)) (a .v) foundTmgi (c .before .before .before .before .end-in .ensures) (c .enum-told .given .1) (c .before .before .tmgi-at .ensures)

@@ -1,11 +1,9 @@
+-- `tables::error_indication` meets its contract. It follows from what was called, and by computing. Assumes nothing.
 use mathlib.Core.Path.{refl}
 use Rattle.tables.specs.Tables.{tableOf}
 use Rattle.tables.proofs.error_indication.Statement.{statement}
 use Rattle.tables.proofs.error_indication.Tie as tie
-use Rattle.tables.proofs.error_indication.Reads as reads
-use Rattle.tables.proofs.error_indication.Lts as lts
 
--- src/lib.rt:378:1
 returns : tie.Need-returns
 unfolding tableOf
 returns c = refl

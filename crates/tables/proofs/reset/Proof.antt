@@ -1,11 +1,9 @@
+-- `tables::reset` meets its contract. It follows from what was called, and by computing. Assumes nothing.
 use mathlib.Core.Path.{refl}
 use Rattle.tables.specs.Tables.{tableOf}
 use Rattle.tables.proofs.reset.Statement.{statement}
 use Rattle.tables.proofs.reset.Tie as tie
-use Rattle.tables.proofs.reset.Reads as reads
-use Rattle.tables.proofs.reset.Lts as lts
 
--- src/lib.rt:360:1
 returns : tie.Need-returns
 unfolding tableOf
 returns c = refl

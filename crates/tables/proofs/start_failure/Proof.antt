@@ -1,11 +1,9 @@
+-- `tables::start_failure` meets its contract. It follows from what was called, and by computing. Assumes nothing.
 use mathlib.Core.Path.{refl}
 use Rattle.tables.specs.Tables.{tableOf}
 use Rattle.tables.proofs.start_failure.Statement.{statement}
 use Rattle.tables.proofs.start_failure.Tie as tie
-use Rattle.tables.proofs.start_failure.Reads as reads
-use Rattle.tables.proofs.start_failure.Lts as lts
 
--- src/lib.rt:333:1
 returns : tie.Need-returns
 unfolding tableOf
 returns c = refl

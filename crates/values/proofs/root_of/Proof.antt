@@ -1,3 +1,4 @@
+-- `values::root_of` meets its contract. It follows from what was called, and by computing. Assumes nothing.
 use mathlib.Core.Path.{refl}
 use borrow.Author.Needs.{needs}
 use Rattle.values.proofs.root_of.Statement.{statement}
