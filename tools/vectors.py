@@ -1,7 +1,8 @@
 #!/usr/bin/env python3
-"""vectors.py FILE..: writes crates/vectors/stdin (each message behind its length in two octets) and crates/vectors/stdout (what must be read of it)
-from files of messages that another program encoded: one JSON object a line, with hex, kind, procedure, criticality, octets and the elements' meanings."""
-import json, sys
+"""vectors.py FILE..: writes crates/vectors/stdin (each message behind its length in two octets) and crates/vectors/stdout (what must be read of it).
+A FILE is one of messages that another program encoded, one JSON object a line (hex, kind, procedure, criticality, octets, the elements' meanings),
+or a text with lines 'read HEX => answer=N offset=K', or '=> answer=N NAME frame=C ID:VALUE .. noted=[..]' with what was read."""
+import json, re, sys
 NAMES = {(0, 0): 'start-request', (1, 0): 'start-response', (2, 0): 'start-failure', (0, 1): 'stop-request', (1, 1): 'stop-response', (0, 4): 'reset', (1, 4): 'reset-acknowledge', (0, 2): 'error-indication'}
 
 def absent(v, f=str):
@@ -47,10 +48,41 @@ def line(m):
     out += ' entries:' + ''.join(f' {e[0]}.{e[1]}.{e[2]}' for e in (d or {}).get('list') or [])
     return out + ' noted:'
 
+ID = {0: 'mme', 1: 'mce'}
+
+def read(said):
+    """What is said behind '=>' of a witness, as a message for line() and the words in front."""
+    words = said.split()
+    answer = words[0]
+    if words[0] in ('answer=0', 'answer=5'):
+        name = re.sub(r'(?<!^)([A-Z])', r'-\1', words[1]).lower()
+        kind, procedure = next(k for k, v in NAMES.items() if v == name)
+        elements = []
+        for w in words[3:]:
+            m = re.match(r'(\d+):(.*)', w)
+            if not m: continue
+            e = {'id': int(m.group(1)), 'hex': m.group(2)}
+            if e['id'] in ID: e[ID[e['id']]] = int(e['hex'], 16)
+            if e['id'] == 8:
+                c, t, k, l = re.match(r'\{(.*?),(.*?),(.*?),(.*)\}', m.group(2)).groups()
+                number = lambda x: None if x == '-' else int(x)
+                entries = [[int(n) for n in x.split('.')] for x in l.strip('[]').split(',')] if l != '-' else None
+                e['diagnostics'] = {'procedure': number(c), 'trigger': number(t), 'criticality': number(k), 'list': entries}
+            elements.append(e)
+        m = {'octets': 0, 'kind': kind, 'procedure': procedure, 'criticality': int(words[2].split('=')[1]), 'elements': elements}
+        front = answer + ''.join(' ' + w for w in words if w.startswith(('cause=', 'place=')))
+        return front + line(m)[len('answer=0'):]
+    front = answer + ''.join(' ' + w for w in words[1:])
+    return front + ' none frame=0 items: entries: noted:'
+
 with open('crates/vectors/stdin', 'wb') as data, open('crates/vectors/stdout', 'w') as wanted:
+    def add(octets, wants):
+        data.write(len(octets).to_bytes(2, 'big') + octets)
+        wanted.write(wants + '\n')
     for path in sys.argv[1:]:
         for text in open(path):
-            m = json.loads(text)
-            octets = bytes.fromhex(m['hex'])
-            data.write(len(octets).to_bytes(2, 'big') + octets)
-            wanted.write(line(m) + '\n')
+            if path.endswith('.jsonl'):
+                m = json.loads(text)
+                add(bytes.fromhex(m['hex']), line(m))
+            elif m := re.match(r'\s+read ([0-9a-f ]+) => (.*)', text):
+                add(bytes.fromhex(m.group(1)), read(m.group(2)))
