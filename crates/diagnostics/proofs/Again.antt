@@ -12,6 +12,7 @@ use Rattle.octets.specs.Read.{got}
 use Rattle.octets.specs.Field.{numberAt, endsAt}
 use Rattle.octets.specs.Write.{numberOctets}
 use Rattle.octets.specs.Stands.{Stands, Octets}
+use Rattle.octets.proofs.ManyLaws.{Each}
 use Rattle.octets.proofs.Chain.{then-got, same-got}
 use Rattle.octets.proofs.Got.{number-got, ends-got}
 use Rattle.octets.proofs.Stood.{stands-none, stands-join}
@@ -20,7 +21,7 @@ use Rattle.octets.proofs.Again.{number-again, value-below}
 use Rattle.diagnostics.specs.declared.Entry.{Entry}
 use Rattle.diagnostics.specs.declared.Head.{Head}
 use Rattle.diagnostics.specs.Diagnostics.{Diagnostics, listAt, maybeListAt, headAt, diagnosticsAt}
-use Rattle.diagnostics.specs.Written.{headOctets, entriesOctets, listOctets, diagnosticsOctets, GoodEntries, GoodHead, Good}
+use Rattle.diagnostics.specs.Written.{headOctets, entriesOctets, listOctets, diagnosticsOctets, GoodEntry, GoodHead, Good}
 use Rattle.diagnostics.proofs.HeadAgain.{head-again}
 use Rattle.diagnostics.proofs.EntriesBack.{entries-length}
 use Rattle.diagnostics.proofs.EntriesAgain.{entries-again}
@@ -31,7 +32,7 @@ module _ (s : List ℕ) (o : Octets s) where
     ends : length s ≤ at + length (listOctets b es)
     listed : b ≡ ltb 0 (length es)
     count : length es ≤ 256
-    good : GoodEntries es
+    good : Each GoodEntry es
 
   list-again : (at : ℕ) (b : Bool) (es : List Entry) → at ≤ length s → got es ≡ maybeListAt b s at → List-again at b es
   unfolding listAt

@@ -11,17 +11,18 @@ use lib.ListN.{length, length-append, drop-of-length-le}
 use Rattle.octets.specs.Read.{got}
 use Rattle.octets.specs.Write.{numberOctets}
 use Rattle.octets.specs.Stands.{Stands}
+use Rattle.octets.proofs.ManyLaws.{Each}
 use Rattle.octets.proofs.Chain.{past}
 use Rattle.octets.proofs.Stood.{stands-split}
 use Rattle.octets.proofs.Back.{number-back, ends-back, length-number}
 use Rattle.diagnostics.specs.declared.Entry.{Entry}
 use Rattle.diagnostics.specs.Diagnostics.{Diagnostics, listAt, maybeListAt, diagnosticsAt}
-use Rattle.diagnostics.specs.Written.{headOctets, entriesOctets, listOctets, diagnosticsOctets, GoodEntries, Good}
+use Rattle.diagnostics.specs.Written.{headOctets, entriesOctets, listOctets, diagnosticsOctets, GoodEntry, Good}
 use Rattle.diagnostics.proofs.HeadBack.{head-back}
 use Rattle.diagnostics.proofs.EntriesBack.{entries-length, entries-back}
 
 module _ (s : List ℕ) where
-  list-back : (at : ℕ) (b : Bool) (es : List Entry) → b ≡ ltb 0 (length es) → length es ≤ 256 → GoodEntries es → Stands s at (listOctets b es) → length s ≡ at + length (listOctets b es)
+  list-back : (at : ℕ) (b : Bool) (es : List Entry) → b ≡ ltb 0 (length es) → length es ≤ 256 → Each GoodEntry es → Stands s at (listOctets b es) → length s ≡ at + length (listOctets b es)
       → got es ≡ maybeListAt b s at
   unfolding listAt
   list-back at false es t n g h e =

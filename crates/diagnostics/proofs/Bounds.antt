@@ -11,8 +11,7 @@ use Rattle.lists.proofs.Tests.{on-pick}
 use Rattle.octets.specs.Read.{got}
 use Rattle.octets.proofs.Chain.{then-got}
 use Rattle.octets.proofs.Got.{plain-got}
-use Rattle.diagnostics.specs.declared.Marks.{Marks}
-use Rattle.diagnostics.specs.Diagnostics.{after, marksAt, begins, critAt}
+use Rattle.diagnostics.specs.Diagnostics.{Marks, after, marksAt, begins, critAt}
 
 pub after-le : (b : Bool) (n p : ℕ) → after b n p ≤ p + n
 after-le true n p = omega arith

@@ -15,6 +15,7 @@ use Rattle.octets.specs.Write.{Field, _bits_, bit, widths, packed, numberOctets
 use Rattle.octets.specs.Stands.{Stands, Octets}
 use Rattle.octets.specs.Many.{Part, many}
 use Rattle.octets.proofs.Packed.{fieldsOf}
+use Rattle.octets.proofs.ManyLaws.{Each}
 use Rattle.octets.proofs.Chain.{then-got, same-got}
 use Rattle.octets.proofs.Got.{plain-got, choice-got, pad-got, number-got, ends-got}
 use Rattle.octets.proofs.Stood.{stands-join}
@@ -22,9 +23,8 @@ use Rattle.octets.proofs.Back.{length-number}
 use Rattle.octets.proofs.Again.{number-again, value-below}
 use Rattle.diagnostics.specs.declared.Entry.{Entry}
 use Rattle.diagnostics.specs.Diagnostics.{begins, critAt, entryAt, entriesAt}
-use Rattle.diagnostics.specs.Written.{entriesOctets, GoodEntry, GoodEntries}
+use Rattle.diagnostics.specs.Written.{critFields, errorFields, entriesOctets, GoodEntry}
 use Rattle.diagnostics.proofs.Fields.{widths-join, fields-behind, pad-low, octet-again}
-use Rattle.diagnostics.proofs.EntriesBack.{critFields, errorFields}
 
 module _ (s : List ℕ) (o : Octets s) where
   -- the fields us are what an octet begins with
@@ -93,7 +93,7 @@ module _ (s : List ℕ) (o : Octets s) where
     pub octets : Stands s at (entriesOctets us (p .value))
     pub count : length (p .value) ≡ n
     pub next : p .next ≡ at + 3 * n
-    pub good : GoodEntries (p .value)
+    pub good : Each GoodEntry (p .value)
 
   many-again : (from n at : ℕ) (us : List Field) (p : Part (List Entry)) → from ≤ at → Held us at → widths us ≡ begins from at → (n ≡ 0 → widths us ≡ 2)
       → got p ≡ many (entryAt s from) n at → got tt ≡ padAt s (p .next) 2 → Read-entries at us n p
@@ -126,7 +126,7 @@ module _ (s : List ℕ) (o : Octets s) where
       })
 
   pub entries-again : (n at : ℕ) (es : List Entry) → 0 < n → got es ≡ entriesAt n s at
-      → Stands s at (entriesOctets [] es) × (length es ≡ n) × (length s ≤ at + 3 * n + 1) × GoodEntries es
+      → Stands s at (entriesOctets [] es) × (length es ≡ n) × (length s ≤ at + 3 * n + 1) × Each GoodEntry es
   unfolding entriesAt
   entries-again n at es h q =
       let a = then-got (many (entryAt s at) n at) _ q in

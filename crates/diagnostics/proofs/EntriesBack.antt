@@ -16,21 +16,14 @@ use Rattle.octets.specs.Field.{padAt}
 use Rattle.octets.specs.Write.{Field, _bits_, bit, widths, packed, Fit, numberOctets}
 use Rattle.octets.specs.Stands.{Stands}
 use Rattle.octets.specs.Many.{many}
+use Rattle.octets.proofs.ManyLaws.{Each}
 use Rattle.octets.proofs.Chain.{past}
 use Rattle.octets.proofs.Stood.{stands-split}
 use Rattle.octets.proofs.Back.{number-back, ends-back, length-number}
 use Rattle.diagnostics.specs.declared.Entry.{Entry}
 use Rattle.diagnostics.specs.Diagnostics.{begins, critAt, entryAt, entriesAt}
-use Rattle.diagnostics.specs.Written.{entriesOctets, GoodEntry, GoodEntries}
+use Rattle.diagnostics.specs.Written.{critFields, errorFields, entriesOctets, GoodEntry}
 use Rattle.diagnostics.proofs.Fields.{widths-join, fit-join, plain-in, choice-in, pad-in}
-
--- the fields of an entry up to its criticality
-abbrev pub critFields : ℕ → List Field
-critFields v = bit false ∷ bit false ∷ 2 bits (v % 4) ∷ []
-
--- the fields behind its id, which stand before the next entry
-abbrev pub errorFields : ℕ → List Field
-errorFields v = bit false ∷ 1 bits (v % 2) ∷ []
 
 pub crit-fit : (us : List Field) (v : ℕ) → Fit 8 us → widths us ≤ 2 → Fit 8 (us ++ critFields v)
 crit-fit us v ok b = fit-join 8 us (critFields v) ok (omega arith, omega arith, (omega arith, omega arith, (omega arith, mod-lt v (omega arith), tt)))
@@ -90,7 +83,7 @@ module _ (s : List ℕ) where
       (past _ _ (plain-in s (at + 3) _ (z .1) (z .2) [] _ 0 refl refl)
       (past _ _ (rw m at (choice-in s (at + 3) _ (z .1) (z .2) (bit false ∷ []) (z .0) 1 refl 1 (e .error % 2) 2 refl (rw m (g .error)))) refl)))
 
-  many-entries : (from at : ℕ) (us : List Field) (es : List Entry) → from ≤ at → Fit 8 us → widths us ≤ 2 → widths us ≡ begins from at → GoodEntries es
+  many-entries : (from at : ℕ) (us : List Field) (es : List Entry) → from ≤ at → Fit 8 us → widths us ≤ 2 → widths us ≡ begins from at → Each GoodEntry es
       → Stands s at (entriesOctets us es) → got (record { value = es; next = at + 3 * length es }) ≡ many (entryAt s from) (length es) at
   unfolding many
   many-entries from at us [] l ok b w g h = rw add-zero
@@ -107,7 +100,7 @@ module _ (s : List ℕ) where
       let d : at + 3 + 3 * length es ≡ at + 3 * suc (length es) = omega arith in
       rw d at (pad-behind (at + 3) (errorFields (e .error)) es (error-fit (e .error)) refl (parts at us e es h .2))
 
-  pub entries-back : (at : ℕ) (es : List Entry) → 0 < length es → GoodEntries es → Stands s at (entriesOctets [] es) → length s ≡ at + 1 + 3 * length es
+  pub entries-back : (at : ℕ) (es : List Entry) → 0 < length es → Each GoodEntry es → Stands s at (entriesOctets [] es) → length s ≡ at + 1 + 3 * length es
       → got es ≡ entriesAt (length es) s at
   unfolding entriesAt
   entries-back at [] p g h e = absurd (omega arith)

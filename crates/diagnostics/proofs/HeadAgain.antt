@@ -22,11 +22,11 @@ use Rattle.octets.proofs.Back.{length-number}
 use Rattle.octets.proofs.Again.{number-again, value-below}
 use Rattle.diagnostics.specs.declared.Number.{Number}
 use Rattle.diagnostics.specs.declared.Head.{Head}
-use Rattle.diagnostics.specs.declared.Marks.{Marks}
-use Rattle.diagnostics.specs.Diagnostics.{after, behindCode, behindTrigger, behindCrit, marksAt, codeAt, maybeAt, headAt}
+use Rattle.diagnostics.specs.Diagnostics.{Marks, after, behindCode, behindTrigger, behindCrit, marksAt, codeAt, maybeAt, headAt}
 use Rattle.diagnostics.specs.Written.{isThere, marksOf, marks, numbers, octetOf, pairs, withCode, headOctets, Under, GoodHead}
 use Rattle.diagnostics.proofs.Fields.{bits-mod, fields-behind, bit-again, pad-low, octet-again}
-use Rattle.diagnostics.proofs.HeadBack.{Begun, begun-none, begun-more, begun-marks, more, more-width, octet-some, head-length}
+use Rattle.diagnostics.proofs.Pairs.{Begun, begun-none, begun-more, begun-marks, more, more-width, octet-some}
+use Rattle.diagnostics.proofs.HeadBack.{head-length}
 
 module _ (s : List ℕ) (o : Octets s) (at : ℕ) where
   -- the fields us are what stands in the octet up to p bits behind the begin

@@ -1,13 +1,11 @@
 -- Reading the octets of the fields before the list gives these fields.
---     pairs-length, head-length   how many octets they take
---     marks-back, head-back       what is read there
 -- Assumes nothing.
-use mathlib.Core.Path.{_≡_, _∙_, refl, sym, ap}
+use mathlib.Core.Path.{_≡_, refl, sym}
 use mathlib.Core.Bool.{Bool, true, false}
 use mathlib.Core.List.{List, [], _∷_, _++_, map, append-nil, append-assoc}
 use Prim.Native.Nat.{ℕ, _+_, _*_, _-_, _/_, _%_, _<_}
 use native.Mathlib.Omega.{arith}
-use native.Mathlib.Nat.{add-zero, mod-eq-of-lt, mod-lt}
+use native.Mathlib.Nat.{add-zero, mod-eq-of-lt}
 use borrow.Author.Tests.{ltb-true, ltb-false, eqb-false}
 use lib.Dec.{ltb, eqb}
 use lib.ListN.{length, length-append}
@@ -22,73 +20,12 @@ use Rattle.octets.proofs.Back.{number-back, length-number}
 use Rattle.diagnostics.specs.declared.Number.{Number}
 use Rattle.diagnostics.specs.declared.Number.the-variants.{Is, Absent}
 use Rattle.diagnostics.specs.declared.Head.{Head}
-use Rattle.diagnostics.specs.declared.Marks.{Marks}
-use Rattle.diagnostics.specs.Diagnostics.{after, behindCrit, marksAt, codeAt, maybeAt, headAt}
+use Rattle.diagnostics.specs.Diagnostics.{Marks, after, behindCrit, marksAt, codeAt, maybeAt, headAt}
 use Rattle.diagnostics.specs.Written.{isThere, marksOf, marks, numbers, octetOf, pairs, withCode, headOctets, Under, GoodHead}
-use Rattle.diagnostics.proofs.Fields.{bits-width, bits-fit, widths-join, fit-join, flag-in, plain-in, choice-in, pad-in}
+use Rattle.diagnostics.proofs.Pairs.{Begun, begun-none, begun-more, begun-marks, more, more-width, more-fit, octet-some, pairs-length}
+use Rattle.diagnostics.proofs.Fields.{bits-width, flag-in, plain-in, choice-in, pad-in}
 
 -- ---- numbers of two bits each
-
--- the fields of an octet that has begun, up to p bits behind a begin
-pub record Begun (us : List Field) (p : ℕ) : Type 0 where
-  pub fit : Fit 8 us
-  pub width : widths us ≡ p % 8
-  pub even : p % 2 ≡ 0
-  pub octet : length (octetOf us) ≡ (p % 8 + 7) / 8
-
-pub begun-none : (p : ℕ) → p % 8 ≡ 0 → Begun [] p
-begun-none p e = record { fit = tt; width = sym e; even = omega arith; octet = omega arith }
-
--- with a number more, which has room
-abbrev pub more : List Field → ℕ → List Field
-more us v = us ++ 2 bits (v % 4) ∷ []
-
-octet-more : (us : List Field) (f : Field) → length (octetOf (us ++ f ∷ [])) ≡ 1
-octet-more [] f = refl
-octet-more (u ∷ us) f = refl
-
-module _ {us : List Field} {p : ℕ} (b : Begun us p) (v : ℕ) where
-  pub more-width : widths (more us v) ≡ p % 8 + 2
-  more-width = widths-join us (2 bits (v % 4) ∷ []) ∙ ap (λ (n : ℕ). n + 2) (b .width)
-
-  pub more-fit : Fit 8 (more us v)
-  more-fit =
-      let e = b .width in
-      let t = b .even in
-      fit-join 8 us (2 bits (v % 4) ∷ []) (b .fit) (omega arith, mod-lt v (omega arith), tt)
-
-  pub begun-more : widths (more us v) < 8 → Begun (more us v) (p + 2)
-  begun-more h =
-      let w = more-width in
-      let t = b .even in
-      record { fit = more-fit; width = omega arith; even = omega arith; octet = octet-more us (2 bits (v % 4)) ∙ omega arith }
-
-pub pairs-length : (us : List Field) (vs : List ℕ) (p : ℕ) → Begun us p → length (pairs us vs) ≡ (p % 8 + 2 * length vs + 7) / 8
-unfolding pairs
-pairs-length us [] p b = b .octet ∙ omega arith
-pairs-length us (v ∷ vs) p b =
-    by (ltb (widths (more us v)) 8) refl (λ l. pairs-length (more us v) vs (p + 2) (begun-more b v l)) (pairs-length [] vs 0 (begun-none 0 refl))
-  where
-    by : (t : Bool) → ltb (widths (more us v)) 8 ≡ t
-        → (widths (more us v) < 8 → length (pairs (more us v) vs) ≡ ((p + 2) % 8 + 2 * length vs + 7) / 8)
-        → length (pairs [] vs) ≡ (0 + 2 * length vs + 7) / 8
-        → length (pick t (pairs (more us v) vs) (packed (more us v) ∷ pairs [] vs)) ≡ (p % 8 + 2 * length (v ∷ vs) + 7) / 8
-    by true e i j =
-        let l = ltb-true (widths (more us v)) 8 e in
-        let w = more-width b v in
-        let k = i l in
-        omega arith
-    by false e i j =
-        let l = ltb-false (widths (more us v)) 8 e in
-        let w = more-width b v in
-        let t = b .even in
-        omega arith
-
-pub octet-some : (us : List Field) → 0 < widths us → octetOf us ≡ packed us ∷ []
-octet-some [] h = absurd (omega arith)
-octet-some (u ∷ us) h = refl
-
--- ---- reading them
 
 module _ (s : List ℕ) where
   -- the octet that has begun, with what follows in it
@@ -156,9 +93,6 @@ module _ (s : List ℕ) where
             pad-in s (at + p / 8) us (b .fit) (rw o at h) p w (omega arith)
 
 -- ---- the marks, the code, and all before the list
-
-pub begun-marks : (m : Marks) → Begun (map bit (marks m)) 6
-begun-marks m = record { fit = bits-fit 8 (marks m) (omega arith); width = bits-width (marks m); even = refl; octet = refl }
 
 module _ (s : List ℕ) (at : ℕ) where
   marks-back : (m : Marks) (ls : List Field) → Fit 8 (map bit (marks m) ++ ls) → Stands s at (packed (map bit (marks m) ++ ls) ∷ []) → got m ≡ marksAt s at

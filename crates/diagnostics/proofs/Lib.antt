@@ -1,8 +1,8 @@
 pub mod Bounds
 pub mod ByGate
 pub mod Determined
-pub mod ExamplesHold
 pub mod Fields
+pub mod Pairs
 pub mod HeadBack
 pub mod HeadAgain
 pub mod EntriesBack
@@ -10,3 +10,4 @@ pub mod EntriesAgain
 pub mod Back
 pub mod Again
 pub mod Different
+pub mod ExamplesHold

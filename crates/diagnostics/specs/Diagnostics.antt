@@ -14,7 +14,6 @@ use Rattle.diagnostics.specs.declared.Entries.{Entries}
 use Rattle.diagnostics.specs.declared.Number.{Number}
 use Rattle.diagnostics.specs.declared.Number.the-variants.{Is, Absent}
 use Rattle.diagnostics.specs.declared.Head.{Head}
-use Rattle.diagnostics.specs.declared.Marks.{Marks}
 
 abbrev pub emptyEntry : Entry
 emptyEntry = record { crit = 0; id = 0; error = 0 }
@@ -38,7 +37,7 @@ pub record Diagnostics : Type 0 where
 abbrev pub diagnosticsOf : Head → Entries → Diagnostics
 diagnosticsOf h a = record { head = h; entries = entriesIn a }
 
--- a field of p bits more, if it is there
+-- behind p bits, a field of n bits more, if it is there
 abbrev pub after : Bool → ℕ → ℕ → ℕ
 after false n p = p
 after true n p = p + n
@@ -54,6 +53,12 @@ codeAt false s at = got Absent
 codeAt true s at = padAt s at 6 >> (numberAt 1 s (at + 1) >>= λ v. got (Is v))
 
 -- the bits that say what is there
+pub record Marks : Type 0 where
+  pub code : Bool
+  pub trigger : Bool
+  pub crit : Bool
+  pub listed : Bool
+
 unfoldable pub marksAt : List ℕ → ℕ → Read Marks
 marksAt s at = do
   plainAt s at 0
@@ -64,7 +69,8 @@ marksAt s at = do
   plainAt s at 5
   got (record { code = c; trigger = t; crit = k; listed = l })
 
--- how many bits there are up to the end of each field: six marks, the code in an octet of its own (16 bits in all then), two bits each for the others
+-- how many bits there are up to the end of each field: six marks, the code in an octet of its own (16 bits in all then),
+-- two bits each for the others
 abbrev pub behindCode : Marks → ℕ
 behindCode m = after (m .code) 10 6
 

@@ -4,11 +4,11 @@ use Rattle.octets.specs.Read.{Read, got, stop}
 use Rattle.octets.specs.Many.{Part}
 use Rattle.octets.specs.declared.Gate.{Gate}
 use Rattle.octets.specs.declared.Gate.the-variants as gate
-use Rattle.diagnostics.specs.Diagnostics.{Diagnostics, entriesOf, emptyHead}
+use Rattle.diagnostics.specs.Diagnostics.{Diagnostics, Marks, entriesOf, emptyHead}
 use Rattle.diagnostics.specs.declared.Entry.{Entry}
 use Rattle.diagnostics.specs.declared.Number.{Number}
 use Rattle.diagnostics.specs.declared.Head.{Head}
-use Rattle.diagnostics.specs.declared.Marks.{Marks}
+use Rattle.diagnostics.specs.declared.Marks as own
 use Rattle.diagnostics.specs.declared.MarksRead.{MarksRead}
 use Rattle.diagnostics.specs.declared.MarksRead.the-variants as marks
 use Rattle.diagnostics.specs.declared.NumberRead.{NumberRead}
@@ -20,8 +20,11 @@ use Rattle.diagnostics.specs.declared.EntryRead.the-variants as entry
 use Rattle.diagnostics.specs.declared.ListRead.{ListRead}
 use Rattle.diagnostics.specs.declared.DiagnosticsRead.{DiagnosticsRead}
 
+abbrev pub marksIn : own.Marks → Marks
+marksIn m = record { code = m .code; trigger = m .trigger; crit = m .crit; listed = m .listed }
+
 abbrev pub foundMarks : MarksRead → Read Marks
-foundMarks (marks.Is v) = got v
+foundMarks (marks.Is v) = got (marksIn v)
 foundMarks (marks.Stop x) = stop x
 
 abbrev pub foundNumber : NumberRead → Read Number

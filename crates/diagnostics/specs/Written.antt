@@ -7,13 +7,13 @@ use mathlib.Core.List.{List, [], _∷_, _++_, map}
 use lib.ListN.{length}
 use lib.Dec.{ltb}
 use Rattle.lists.specs.Lists.{pick}
+use Rattle.octets.proofs.ManyLaws.{Each}
 use Rattle.octets.specs.Write.{Field, _bits_, bit, widths, packed, numberOctets}
 use Rattle.diagnostics.specs.declared.Entry.{Entry}
 use Rattle.diagnostics.specs.declared.Number.{Number}
 use Rattle.diagnostics.specs.declared.Number.the-variants.{Is, Absent}
 use Rattle.diagnostics.specs.declared.Head.{Head}
-use Rattle.diagnostics.specs.declared.Marks.{Marks}
-use Rattle.diagnostics.specs.Diagnostics.{Diagnostics}
+use Rattle.diagnostics.specs.Diagnostics.{Diagnostics, Marks}
 
 abbrev pub isThere : Number → Bool
 isThere (Is v) = true
@@ -49,13 +49,18 @@ withCode Absent us vs = pairs us vs
 unfoldable pub headOctets : Head → List ℕ
 headOctets h = withCode (h .code) (map bit (marks (marksOf h))) (numbers (h .trigger) ++ numbers (h .crit))
 
--- entries, the first behind the fields of an octet: extension, extensions present, criticality, pad; its id; extension and type of error,
--- and behind these, in their octet, the next entry
+-- an entry up to its criticality: extension, extensions present, criticality
+abbrev pub critFields : ℕ → List Field
+critFields v = bit false ∷ bit false ∷ 2 bits (v % 4) ∷ []
+
+-- an entry behind its id: extension, type of error
+abbrev pub errorFields : ℕ → List Field
+errorFields v = bit false ∷ 1 bits (v % 2) ∷ []
+
+-- entries, the first behind the fields of an octet, each other behind the type of error before it
 unfoldable pub entriesOctets : List Field → List Entry → List ℕ
 entriesOctets us [] = packed us ∷ []
-entriesOctets us (e ∷ es) =
-    packed (us ++ bit false ∷ bit false ∷ 2 bits (e .crit % 4) ∷ [])
-    ∷ numberOctets 2 (e .id) ++ entriesOctets (bit false ∷ 1 bits (e .error % 2) ∷ []) es
+entriesOctets us (e ∷ es) = packed (us ++ critFields (e .crit)) ∷ numberOctets 2 (e .id) ++ entriesOctets (errorFields (e .error)) es
 
 -- the number of entries less 1, and the entries
 abbrev pub listOctets : Bool → List Entry → List ℕ
@@ -65,7 +70,7 @@ listOctets true es = numberOctets 1 (length es - 1) ++ entriesOctets [] es
 unfoldable pub diagnosticsOctets : Diagnostics → List ℕ
 diagnosticsOctets d = headOctets (d .head) ++ listOctets (d .head .listed) (d .entries)
 
--- ---- values that fit
+-- ---- good values: each number fits its field and has a meaning
 
 abbrev pub Under : ℕ → Number → Type 0
 Under n (Is v) = v < n
@@ -76,10 +81,6 @@ pub record GoodEntry (e : Entry) : Type 0 where
   pub id : e .id < 65536
   pub error : e .error < 2
 
-abbrev pub GoodEntries : List Entry → Type 0
-GoodEntries [] = Unit
-GoodEntries (e ∷ es) = GoodEntry e × GoodEntries es
-
 pub record GoodHead (h : Head) : Type 0 where
   pub code : Under 256 (h .code)
   pub trigger : Under 3 (h .trigger)
@@ -88,6 +89,6 @@ pub record GoodHead (h : Head) : Type 0 where
 -- a list is there exactly if it has an entry; it has at most 256
 pub record Good (d : Diagnostics) : Type 0 where
   pub head : GoodHead (d .head)
-  pub entries : GoodEntries (d .entries)
+  pub entries : Each GoodEntry (d .entries)
   pub listed : d .head .listed ≡ ltb 0 (length (d .entries))
   pub count : length (d .entries) ≤ 256

@@ -19,6 +19,12 @@ pub struct Entry {
     pub error: u8,
 }
 
+const NO_ENTRY: Entry = Entry {
+    crit: 0,
+    id: 0,
+    error: 0,
+};
+
 // The first count rows are the entries.
 pub struct Entries {
     pub rows: [Entry; 256],
@@ -291,15 +297,10 @@ fn entry_at(s: &[u8], from: usize, at: usize) -> EntryRead
 fn no_list(gate: Gate) -> ListRead
     ensures { λ r. ⌜ r ≡ noList gate ⌝ }
 {
-    let none = Entry {
-        crit: 0,
-        id: 0,
-        error: 0,
-    };
     ListRead {
         gate: gate,
         entries: Entries {
-            rows: [none; 256],
+            rows: [NO_ENTRY; 256],
             count: 0,
         },
     }
@@ -310,12 +311,7 @@ fn entries_at(n: usize, s: &[u8], from: usize) -> ListRead
     requires { ⌜ n ≤ 256 ⌝ }
     ensures { λ r. ⌜ r ≡ listRead (entriesAt n (now (s .entry)) from) ⌝ }
 {
-    let none = Entry {
-        crit: 0,
-        id: 0,
-        error: 0,
-    };
-    let mut rows = [none; 256];
+    let mut rows = [NO_ENTRY; 256];
     let mut i: usize = 0;
     let mut at = from;
     while i < n {
@@ -364,11 +360,6 @@ fn maybe_list_at(there: bool, s: &[u8], at: usize) -> ListRead
 fn no_diagnostics(x: Stop) -> DiagnosticsRead
     ensures { λ r. ⌜ r ≡ diagnosticsRead (stop x) ⌝ }
 {
-    let none = Entry {
-        crit: 0,
-        id: 0,
-        error: 0,
-    };
     DiagnosticsRead {
         gate: Gate::Stop(x),
         head: Head {
@@ -378,7 +369,7 @@ fn no_diagnostics(x: Stop) -> DiagnosticsRead
             listed: false,
         },
         entries: Entries {
-            rows: [none; 256],
+            rows: [NO_ENTRY; 256],
             count: 0,
         },
     }

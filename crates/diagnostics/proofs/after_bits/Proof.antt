@@ -1,4 +1,5 @@
--- `diagnostics::after_bits` meets its contract. It follows from what was called, and by computing. Assumes nothing.
+-- `diagnostics::after_bits` meets its contract: the definition goes by the same test.
+-- Assumes nothing.
 use borrow.Author.Needs.{needs}
 use Rattle.diagnostics.proofs.after_bits.Statement.{statement}
 use Rattle.diagnostics.proofs.after_bits.Tie as tie

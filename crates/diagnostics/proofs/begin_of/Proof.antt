@@ -1,4 +1,5 @@
--- `diagnostics::begin_of` meets its contract. Each return is the case of the definition that the tests on the way single out. Assumes nothing.
+-- `diagnostics::begin_of` meets its contract: the definition goes by the same test.
+-- Assumes nothing.
 use borrow.Author.Tests.{eq-eqb, ne-eqb}
 use Rattle.diagnostics.proofs.begin_of.Statement.{statement}
 use Rattle.diagnostics.proofs.begin_of.Tie as tie

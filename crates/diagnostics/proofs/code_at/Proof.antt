@@ -1,10 +1,11 @@
--- `diagnostics::code_at` meets its contract. Each return is the chain of the readings on the way to it. Assumes nothing.
-use Rattle.octets.proofs.Chain.{past, halt, told}
+-- `diagnostics::code_at` meets its contract: each return is the chain of the fields read up to it.
+-- Assumes nothing.
 use mathlib.Core.Path.{refl}
 use borrow.Author.Tests.{not-true, not-false}
+use borrow.Author.Needs.{needs}
+use Rattle.octets.proofs.Chain.{past, halt, told}
 use Rattle.octets.specs.Found.{foundGate, foundOctet}
 use Rattle.diagnostics.specs.Diagnostics.{codeAt}
-use borrow.Author.Needs.{needs}
 use Rattle.diagnostics.proofs.code_at.Statement.{statement}
 use Rattle.diagnostics.proofs.code_at.Tie as tie
 

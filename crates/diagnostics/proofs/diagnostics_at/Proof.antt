@@ -1,12 +1,13 @@
--- `diagnostics::diagnostics_at` meets its contract. Each return is the chain of the readings on the way to it. Assumes nothing.
+-- `diagnostics::diagnostics_at` meets its contract: the fields before the list and the list, by its gate, are what the reading gives.
+-- Assumes nothing.
 use mathlib.Core.Path.{_≡_, refl, sym}
-use Rattle.octets.specs.Read.{got, stop}
+use borrow.Author.Needs.{needs}
 use denote.Ref.{now}
-use Rattle.diagnostics.specs.Diagnostics.{diagnosticsAt}
+use Rattle.octets.specs.Read.{got, stop}
 use Rattle.octets.proofs.Chain.{past, halt, told}
+use Rattle.diagnostics.specs.Diagnostics.{diagnosticsAt}
 use Rattle.diagnostics.specs.Found.{foundHead}
 use Rattle.diagnostics.proofs.ByGate.{list-got, list-stop}
-use borrow.Author.Needs.{needs}
 use Rattle.diagnostics.proofs.diagnostics_at.Statement.{statement}
 use Rattle.diagnostics.proofs.diagnostics_at.Tie as tie
 

@@ -1,20 +1,21 @@
--- `diagnostics::entries_at` meets its contract. Each return is the chain of the readings on the way to it. Assumes nothing.
-use borrow.Author.Needs.{needs}
-use Rattle.octets.proofs.Chain.{past, halt, told}
-use native.Mathlib.Omega.{arith}
-use native.Mathlib.Nat.{sub-zero}
+-- `diagnostics::entries_at` meets its contract: the loop keeps the entries that were read in the front of the rows, and these before what the rest gives are what all give.
+-- Assumes nothing.
 use mathlib.Core.Path.{_≡_, _∙_, refl, ap}
 use mathlib.Core.List.{List, [], _∷_, _++_}
 use Prim.Native.Nat.{ℕ, _+_, _-_, _≤_}
-use lib.ListN.{length, length-append}
+use native.Mathlib.Omega.{arith}
+use native.Mathlib.Nat.{sub-zero}
+use borrow.Author.Needs.{needs}
 use denote.Ref.{now}
+use lib.ListN.{length, length-append}
 use Rattle.lists.specs.Lists.{fill}
 use Rattle.lists.proofs.Fill.{fill-more}
+use Rattle.octets.proofs.Chain.{past, halt, told}
 use Rattle.octets.specs.Many.{many}
 use Rattle.octets.specs.Found.{foundGate}
-use Rattle.octets.specs.declared.Gate.the-variants as gate
 use Rattle.octets.proofs.Got.{pad-got}
 use Rattle.octets.proofs.ManyLaws.{before, before-none, many-none, many-one, many-stop}
+use Rattle.octets.specs.declared.Gate.the-variants as gate
 use Rattle.diagnostics.specs.declared.Entry.{Entry}
 use Rattle.diagnostics.specs.Diagnostics.{emptyEntry, entryAt, entriesAt}
 use Rattle.diagnostics.specs.Found.{foundEntry, listRead}

@@ -1,14 +1,15 @@
--- `diagnostics::entry_at` meets its contract. Each return is the chain of the readings on the way to it. Assumes nothing.
-use Rattle.octets.proofs.Chain.{past, halt, told}
-use native.Mathlib.Omega.{arith}
+-- `diagnostics::entry_at` meets its contract: each return is the chain of the fields read up to it, and these stand inside the octets.
+-- Assumes nothing.
 use mathlib.Core.Path.{refl}
 use Prim.Native.Nat.{_<_}
-use lib.ListN.{length}
+use native.Mathlib.Omega.{arith}
+use borrow.Author.Needs.{needs}
 use denote.Ref.{now}
+use lib.ListN.{length}
+use Rattle.octets.proofs.Chain.{past, halt, told}
 use Rattle.octets.specs.Found.{foundGate, foundOctet, foundTwo}
 use Rattle.diagnostics.specs.Diagnostics.{entryAt}
 use Rattle.diagnostics.proofs.Bounds.{begins-le, crit-in}
-use borrow.Author.Needs.{needs}
 use Rattle.diagnostics.proofs.entry_at.Statement.{statement}
 use Rattle.diagnostics.proofs.entry_at.Tie as tie
 

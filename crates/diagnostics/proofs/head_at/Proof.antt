@@ -1,41 +1,42 @@
--- `diagnostics::head_at` meets its contract. Each return is the chain of the readings on the way to it. Assumes nothing.
-use native.Mathlib.Omega.{arith}
+-- `diagnostics::head_at` meets its contract: each return is the chain of the fields read up to it, at the places that the marks say.
+-- Assumes nothing.
 use mathlib.Core.Path.{_≡_, _∙_, ap}
 use Prim.Native.Nat.{_+_, _/_, _<_}
-use lib.ListN.{length}
+use native.Mathlib.Omega.{arith}
+use borrow.Author.Needs.{needs}
 use denote.Ref.{now}
+use lib.ListN.{length}
 use Rattle.octets.specs.Read.{got}
 use Rattle.octets.specs.Found.{foundGate}
 use Rattle.octets.specs.Field.{padAt}
 use Rattle.octets.proofs.Chain.{past, halt, told}
-use Rattle.diagnostics.specs.Found.{foundMarks, foundNumber}
+use Rattle.diagnostics.specs.Found.{marksIn, foundMarks, foundNumber}
 use Rattle.diagnostics.specs.Diagnostics.{after, behindCode, behindTrigger, behindCrit, marksAt, codeAt, maybeAt, headAt}
 use Rattle.diagnostics.proofs.Bounds.{after-le, marks-in}
-use borrow.Author.Needs.{needs}
 use Rattle.diagnostics.proofs.head_at.Statement.{statement}
 use Rattle.diagnostics.proofs.head_at.Tie as tie
 
 -- what was read, place by place
-marks : (c : tie.After-known-told) → got (c .before .v .given .0 .0) ≡ marksAt (now (c .before .before .before .before .before .args .s)) (c .before .before .before .before .before .args .at)
+marks : (c : tie.After-known-told) → got (marksIn (c .before .v .given .0 .0)) ≡ marksAt (now (c .before .before .before .before .before .args .s)) (c .before .before .before .before .before .args .at)
 marks c = told foundMarks (c .before .v .given .1) (c .before .before .before .marks-at .ensures)
 
 code : (c : tie.After-known-told3) → got (c .before .v2 .given .0 .0) ≡ codeAt (c .before .before .before .before .before .before .before .before .v .given .0 .0 .code) (now (c .before .before .before .before .before .before .before .before .before .before .before .before .args .s)) (c .before .before .before .before .before .before .before .before .before .before .before .before .args .at)
 code c = told foundNumber (c .before .v2 .given .1) (c .before .before .before .code-at .ensures)
 
-trigger : (c : tie.After-known-told5) → got (c .before .v3 .given .0 .0) ≡ maybeAt (c .before .before .before .before .before .before .before .before .before .before .before .before .v .given .0 .0 .trigger) (now (c .before .before .before .before .before .before .before .before .before .before .before .before .before .before .before .before .args .s)) (c .before .before .before .before .before .before .before .before .before .before .before .before .before .before .before .before .args .at) (behindCode (c .before .before .before .before .before .before .before .before .before .before .before .before .v .given .0 .0))
+trigger : (c : tie.After-known-told5) → got (c .before .v3 .given .0 .0) ≡ maybeAt (c .before .before .before .before .before .before .before .before .before .before .before .before .v .given .0 .0 .trigger) (now (c .before .before .before .before .before .before .before .before .before .before .before .before .before .before .before .before .args .s)) (c .before .before .before .before .before .before .before .before .before .before .before .before .before .before .before .before .args .at) (behindCode (marksIn (c .before .before .before .before .before .before .before .before .before .before .before .before .v .given .0 .0)))
 trigger c = told foundNumber (c .before .v3 .given .1) (c .before .before .before .maybe-at .ensures ∙ ap (maybeAt _ _ _) (c .before .before .before .before .before .before .before .before .before .before .after-bits .ensures))
 
 -- the bits up to the criticality, and up to its end
-second : (c : tie.After-after-bits2) → c .after-bits2 .result ≡ behindTrigger (c .before .before .before .v .given .0 .0)
+second : (c : tie.After-after-bits2) → c .after-bits2 .result ≡ behindTrigger (marksIn (c .before .before .before .v .given .0 .0))
 second c = c .after-bits2 .ensures ∙ ap (after (c .before .before .before .v .given .0 .0 .trigger) 2) (c .before .after-bits .ensures)
 
-third : (c : tie.After-after-bits3) → c .after-bits3 .result ≡ behindCrit (c .before .before .before .before .v .given .0 .0)
+third : (c : tie.After-after-bits3) → c .after-bits3 .result ≡ behindCrit (marksIn (c .before .before .before .before .v .given .0 .0))
 third c = c .after-bits3 .ensures ∙ ap (after (c .before .before .before .before .v .given .0 .0 .crit) 2) (second (c .before))
 
-crit : (c : tie.After-known-told7) → got (c .before .v4 .given .0 .0) ≡ maybeAt (c .before .before .before .before .before .before .before .before .before .before .before .before .before .before .before .before .v .given .0 .0 .crit) (now (c .before .before .before .before .before .before .before .before .before .before .before .before .before .before .before .before .before .before .before .before .args .s)) (c .before .before .before .before .before .before .before .before .before .before .before .before .before .before .before .before .before .before .before .before .args .at) (behindTrigger (c .before .before .before .before .before .before .before .before .before .before .before .before .before .before .before .before .v .given .0 .0))
+crit : (c : tie.After-known-told7) → got (c .before .v4 .given .0 .0) ≡ maybeAt (c .before .before .before .before .before .before .before .before .before .before .before .before .before .before .before .before .v .given .0 .0 .crit) (now (c .before .before .before .before .before .before .before .before .before .before .before .before .before .before .before .before .before .before .before .before .args .s)) (c .before .before .before .before .before .before .before .before .before .before .before .before .before .before .before .before .before .before .before .before .args .at) (behindTrigger (marksIn (c .before .before .before .before .before .before .before .before .before .before .before .before .before .before .before .before .v .given .0 .0)))
 crit c = told foundNumber (c .before .v4 .given .1) (c .before .before .before .maybe-at2 .ensures ∙ ap (maybeAt _ _ _) (second (c .before .before .before .before .before .before .before .before .before .before .before .before .before)))
 
-pad : (c : tie.After-pad-at) → foundGate (c .pad-at .result) ≡ padAt (now (c .before .before .before .before .before .before .before .before .before .before .before .before .before .before .before .before .before .before .before .before .before .before .args .s)) (c .before .before .before .before .before .before .before .before .before .before .before .before .before .before .before .before .before .before .before .before .before .before .args .at + behindCrit (c .before .before .before .before .before .before .before .before .before .before .before .before .before .before .before .before .before .before .v .given .0 .0) / 8) (behindCrit (c .before .before .before .before .before .before .before .before .before .before .before .before .before .before .before .before .before .before .v .given .0 .0))
+pad : (c : tie.After-pad-at) → foundGate (c .pad-at .result) ≡ padAt (now (c .before .before .before .before .before .before .before .before .before .before .before .before .before .before .before .before .before .before .before .before .before .before .args .s)) (c .before .before .before .before .before .before .before .before .before .before .before .before .before .before .before .before .before .before .before .before .before .before .args .at + behindCrit (marksIn (c .before .before .before .before .before .before .before .before .before .before .before .before .before .before .before .before .before .before .v .given .0 .0)) / 8) (behindCrit (marksIn (c .before .before .before .before .before .before .before .before .before .before .before .before .before .before .before .before .before .before .v .given .0 .0)))
 pad c = rw (← third (c .before .before .before .before .before .before .before .before .before .before .before .before .before .before), ← c .before .wide .ensures) (c .pad-at .ensures)
 
 -- the marks stand inside

@@ -1,15 +1,16 @@
--- `diagnostics::maybe_list_at` meets its contract. Each return is the chain of the readings on the way to it. Assumes nothing.
-use Rattle.octets.proofs.Chain.{past, halt, told}
-use native.Mathlib.Omega.{arith}
+-- `diagnostics::maybe_list_at` meets its contract: each return is the chain of what was read up to it.
+-- Assumes nothing.
 use mathlib.Core.Path.{_∙_, refl, ap}
+use native.Mathlib.Omega.{arith}
 use borrow.Author.Tests.{not-true, not-false}
+use borrow.Author.Needs.{needs}
 use denote.Ref.{now}
+use Rattle.octets.proofs.Chain.{past, halt, told}
 use Rattle.octets.specs.Found.{foundOctet}
 use Rattle.octets.proofs.Got.{number-got}
 use Rattle.diagnostics.specs.Diagnostics.{listAt}
 use Rattle.diagnostics.specs.Found.{listRead}
 use Rattle.diagnostics.proofs.ByGate.{list-none}
-use borrow.Author.Needs.{needs}
 use Rattle.diagnostics.proofs.maybe_list_at.Statement.{statement}
 use Rattle.diagnostics.proofs.maybe_list_at.Tie as tie
 

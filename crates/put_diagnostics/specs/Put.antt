@@ -1,0 +1,25 @@
+-- What the steps of the writer put, by the octet that has begun and how many of its bits are used.
+use Prim.Native.Nat.{ℕ, _+_}
+use mathlib.Core.List.{List, [], _∷_}
+use lib.Dec.{ltb, eqb}
+use lib.Bits.{bitOr}
+use Rattle.lists.specs.Lists.{pick}
+use Rattle.octets.specs.Write.{placed, numberOctets}
+use Rattle.diagnostics.specs.declared.Number.{Number}
+use Rattle.diagnostics.specs.declared.Number.the-variants.{Is, Absent}
+
+-- numbers of two bits each
+unfoldable pub pairsFrom : ℕ → ℕ → List ℕ → List ℕ
+pairsFrom x b [] = pick (eqb b 0) [] (x ∷ [])
+pairsFrom x b (v ∷ vs) =
+    let y = bitOr x (placed b 2 v) in
+    pick (ltb (b + 2) 8) (pairsFrom y (b + 2) vs) (y ∷ pairsFrom 0 0 vs)
+
+-- an entry up to its id
+abbrev pub entryOctets : ℕ → ℕ → ℕ → ℕ → List ℕ
+entryOctets x b crit id = bitOr x (placed (b + 2) 2 crit) ∷ numberOctets 2 id
+
+-- the bits of a field, if it is there
+abbrev pub bitsFor : Number → ℕ → ℕ
+bitsFor (Is v) w = w
+bitsFor Absent w = 0

@@ -1,0 +1,179 @@
+// Criticality Diagnostics, written. A writer puts octets into lent room from a place on, as far as it goes, and hands back the place behind them.
+ghost use mathlib.Core.Path.{_≡_};
+ghost use mathlib.Core.Bool.{true};
+ghost use mathlib.Core.List.{[], _++_, map};
+ghost use Prim.Native.Nat.{min, _-_, _≤_};
+ghost use lib.ListN.{length};
+ghost use Rattle.octets.specs.Write.{bit, packed, Wrote};
+ghost use Rattle.diagnostics.specs.Diagnostics.{entriesIn, diagnosticsOf};
+ghost use Rattle.diagnostics.specs.Written.{isThere, marksOf, marks, numbers, headOctets, listOctets, diagnosticsOctets};
+ghost use Rattle.put_diagnostics.specs.Put.{pairsFrom, entryOctets, bitsFor};
+use diagnostics::Entries;
+use diagnostics::Head;
+use diagnostics::Number;
+
+fn lesser(a: usize, b: usize) -> usize
+    ensures { λ r. ⌜ r ≡ min a b ⌝ }
+{
+    if a < b { a } else { b }
+}
+
+fn one(v: bool) -> u8
+    ensures { λ r. ⌜ r ≡ bit v .value ⌝ }
+{
+    if v { 1 } else { 0 }
+}
+
+fn there(n: Number) -> bool
+    ensures { λ r. ⌜ r ≡ isThere n ⌝ }
+{
+    match n {
+        Number::Is(_) => true,
+        Number::Absent => false,
+    }
+}
+
+// The six bits that say what is there.
+fn marks_octet(head: Head) -> u8
+    ensures { λ r. ⌜ r ≡ packed (map bit (marks (marksOf head))) ⌝ }
+{
+    let code = head.code;
+    let trigger = head.trigger;
+    let crit = head.crit;
+    let x = octets::with_bits(0, 1, 1, one(there(code)));
+    let y = octets::with_bits(x, 2, 1, one(there(trigger)));
+    let z = octets::with_bits(y, 3, 1, one(there(crit)));
+    octets::with_bits(z, 4, 1, one(head.listed))
+}
+
+// An octet of which b bits are used, if any are.
+fn put_begun(room: &mut [u8], at: usize, x: u8, b: u8) -> usize
+    ensures { λ r. ⌜ Wrote (now (room .entry)) at (pairsFrom x b []) (now (room .exit)) r ⌝ }
+{
+    if b == 0 {
+        return lesser(at, room.len());
+    }
+    octets::put_octet(room, at, x)
+}
+
+// A number of two bits, if it is there, behind the first b bits of an octet; and what is left of that octet.
+fn put_last(room: &mut [u8], at: usize, x: u8, b: u8, n: Number) -> usize
+    ensures { λ r. ⌜ Wrote (now (room .entry)) at (pairsFrom x b (numbers n)) (now (room .exit)) r ⌝ }
+{
+    match n {
+        Number::Is(v) => octets::put_octet(room, at, octets::with_bits(x, b, 2, v)),
+        Number::Absent => put_begun(room, at, x, b),
+    }
+}
+
+// Two of them.
+fn put_numbers(room: &mut [u8], at: usize, x: u8, b: u8, n: Number, m: Number) -> usize
+    ensures { λ r. ⌜ Wrote (now (room .entry)) at (pairsFrom x b (numbers n ++ numbers m)) (now (room .exit)) r ⌝ }
+{
+    match n {
+        Number::Is(v) => {
+            let y = octets::with_bits(x, b, 2, v);
+            if b < 6 {
+                return put_last(room, at, y, b + 2, m);
+            }
+            let next = octets::put_octet(room, at, y);
+            put_last(room, next, 0, 0, m)
+        }
+        Number::Absent => put_last(room, at, x, b, m),
+    }
+}
+
+// The fields before the list.
+fn put_head(room: &mut [u8], at: usize, head: Head) -> usize
+    ensures { λ r. ⌜ Wrote (now (room .entry)) at (headOctets head) (now (room .exit)) r ⌝ }
+{
+    let x = marks_octet(head);
+    let code = head.code;
+    let trigger = head.trigger;
+    let crit = head.crit;
+    match code {
+        Number::Is(v) => {
+            let next = octets::put_octet(room, at, x);
+            let behind = octets::put_octet(room, next, v);
+            put_numbers(room, behind, 0, 0, trigger, crit)
+        }
+        Number::Absent => put_numbers(room, at, x, 6, trigger, crit),
+    }
+}
+
+// One less, and 0 for 0.
+fn less_one(n: usize) -> u8
+    requires { ⌜ n ≤ 256 ⌝ }
+    ensures { λ r. ⌜ r ≡ n - 1 ⌝ }
+{
+    if n == 0 { 0 } else { (n - 1) as u8 }
+}
+
+// An entry, behind the first b bits of an octet, up to its id.
+fn put_entry(room: &mut [u8], at: usize, x: u8, b: u8, crit: u8, id: u16) -> usize
+    requires { ⌜ b ≤ 2 ⌝ }
+    ensures { λ r. ⌜ Wrote (now (room .entry)) at (entryOctets x b crit id) (now (room .exit)) r ⌝ }
+{
+    let next = octets::put_octet(room, at, octets::with_bits(x, b + 2, 2, crit));
+    octets::put_two(room, next, id)
+}
+
+// The number of entries less 1, and the entries. x is the octet that the next one begins in, of which b bits are used.
+fn put_list(room: &mut [u8], at: usize, entries: Entries) -> usize
+    ensures { λ r. ⌜ Wrote (now (room .entry)) at (listOctets true (entriesIn entries)) (now (room .exit)) r ⌝ }
+{
+    let n = lesser(entries.count, 256);
+    let mut next = octets::put_octet(room, at, less_one(n));
+    let mut x: u8 = 0;
+    let mut b: u8 = 0;
+    let mut i: usize = 0;
+    while i < n {
+        let e = entries.rows[i];
+        next = put_entry(room, next, x, b, e.crit, e.id);
+        x = octets::with_bits(0, 1, 1, e.error);
+        b = 2;
+        i += 1;
+    }
+    octets::put_octet(room, next, x)
+}
+
+// The fields before the list, and the list if it is there. A number is written modulo what its field holds.
+pub fn put_diagnostics(room: &mut [u8], at: usize, head: Head, entries: Entries) -> usize
+    ensures { λ r. ⌜ Wrote (now (room .entry)) at (diagnosticsOctets (diagnosticsOf head entries)) (now (room .exit)) r ⌝ }
+{
+    let next = put_head(room, at, head);
+    if head.listed {
+        return put_list(room, next, entries);
+    }
+    next
+}
+
+// How many bits a field takes, if it is there.
+fn bits_for(n: Number, w: usize) -> usize
+    ensures { λ r. ⌜ r ≡ bitsFor n w ⌝ }
+{
+    match n {
+        Number::Is(_) => w,
+        Number::Absent => 0,
+    }
+}
+
+fn head_size(head: Head) -> usize
+    ensures { λ r. ⌜ r ≡ length (headOctets head) ⌝ }
+{
+    let code = head.code;
+    let trigger = head.trigger;
+    let crit = head.crit;
+    (6 + bits_for(code, 10) + bits_for(trigger, 2) + bits_for(crit, 2) + 7) / 8
+}
+
+// How many octets they take.
+pub fn diagnostics_size(head: Head, entries: Entries) -> usize
+    ensures { λ r. ⌜ r ≡ length (diagnosticsOctets (diagnosticsOf head entries)) ⌝ }
+{
+    let size = head_size(head);
+    if head.listed {
+        return size + 2 + 3 * lesser(entries.count, 256);
+    }
+    size
+}
