@@ -1,4 +1,7 @@
 pub mod Inside
-pub mod Gathered
 pub mod Answers
 pub mod Determined
+pub mod Back
+pub mod Again
+pub mod Different
+pub mod Good

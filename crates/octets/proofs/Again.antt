@@ -1,22 +1,25 @@
 -- What was read, written again, is the same octets.
 -- Assumes nothing.
 use mathlib.Core.Path.{_≡_, _∙_, refl, sym, ap}
+use mathlib.Core.Bool.{Bool, true, false}
 use mathlib.Core.List.{List, [], _∷_, _++_}
 use Prim.Native.Nat.{ℕ, zero, suc, _+_, _*_, _-_, _/_, _%_, _^_, _<_, _≤_}
 use native.Mathlib.Omega.{arith}
-use native.Mathlib.Nat.{add-zero, zero-add, zero-mul, add-assoc, add-mul, mul-comm, mul-assoc, mul-le-mul-right, pow-suc}
+use native.Mathlib.Nat.{mod-eq-of-lt, add-zero, zero-add, zero-mul, mod-one, add-assoc, add-mul, mul-comm, mul-assoc, mul-le-mul-right, pow-suc}
+use borrow.Author.Tests.{ltb-true, ltb-false}
+use lib.Dec.{ltb}
 use lib.ListN.{length, getD, take, drop}
 use lib.Seq.{slice, length-slice}
 use lib.Pow.{high}
 use Rattle.lists.proofs.Parts.{take-drop}
 use Rattle.octets.specs.Read.{got}
-use Rattle.octets.specs.Field.{bitsOf, bitsAt, valueAt, numberAt, stringAt, longAt, lengthAt, openAt}
+use Rattle.octets.specs.Field.{bitsOf, bitsAt, padAt, valueAt, numberAt, stringAt, longAt, lengthAt, openAt, endsAt}
 use Rattle.octets.specs.Write.{_bits_, widths, packed, packedIn, numberOctets, lengthOctets}
-use Rattle.octets.specs.Stands.{Stands, Octets}
+use Rattle.octets.specs.Stands.{Stands, Fills, Octets}
 use Rattle.octets.specs.declared.Counted.{Counted}
 use Rattle.octets.specs.declared.Span.{Span}
-use Rattle.octets.proofs.Packed.{fieldsOf, repacked}
-use Rattle.octets.proofs.Got.{number-got, string-got, length-got, Sized, short, long, open-got}
+use Rattle.octets.proofs.Packed.{bits-low, fieldsOf, repacked}
+use Rattle.octets.proofs.Got.{pad-got, ends-got, number-got, string-got, length-got, Sized, short, long, open-got}
 use Rattle.octets.proofs.Stood.{stands-one, stands-more, stands-none, stands-join}
 use Rattle.octets.proofs.Back.{octets-pow}
 use Rattle.octets.proofs.Writing.{length-short, length-long}
@@ -26,6 +29,21 @@ pub packed-again : (s : List ℕ) (at : ℕ) (ws : List ℕ) → Octets s → at
     → getD s at 0 % 2 ^ (8 - widths (fieldsOf (getD s at 0) 0 ws)) ≡ 0 → Stands s at (packed (fieldsOf (getD s at 0) 0 ws) ∷ [])
 packed-again s at ws o r h z =
     stands-one r (sym (add-zero _) ∙ (ap (λ (n : ℕ). packed (fieldsOf (getD s at 0) 0 ws) + n) (sym z) ∙ repacked (getD s at 0) ws h (o at)))
+
+-- what stands behind the first b bits of an octet, if it is pad that was read
+pub pad-zero : (s : List ℕ) (at b : ℕ) → 0 < b → b ≤ 8 → got tt ≡ padAt s at b → getD s at 0 % 2 ^ (8 - b) ≡ 0
+pad-zero s at b p h q = by (ltb b 8) refl
+  where
+    by : (t : Bool) → ltb b 8 ≡ t → getD s at 0 % 2 ^ (8 - b) ≡ 0
+    by true e =
+        let l = ltb-true b 8 e in
+        let m : b % 8 ≡ b = mod-eq-of-lt l in
+        let z : bitsAt s at b (8 - b) ≡ 0 = rw m at (pad-got s at b (λ n. omega arith) q .1) in
+        bits-low (getD s at 0) b (8 - b) (omega arith) ∙ z
+    by false e =
+        let l = ltb-false b 8 e in
+        let k : 8 - b ≡ 0 = omega arith in
+        rw k (mod-one (getD s at 0))
 
 pub value-below : (k : ℕ) (s : List ℕ) (at : ℕ) → Octets s → valueAt k s at < 256 ^ k
 value-below zero s at o = omega arith
@@ -62,6 +80,10 @@ string-again k s at {vs} q =
     let l = length-slice at (at + k) s r in
     let e : length vs ≡ k = ap length (n .1) ∙ (l ∙ omega arith) in
     (e, record { room = omega arith; octets = ap (λ (j : ℕ). take j (drop at s)) e ∙ (take-drop k at s ∙ sym (n .1)) })
+
+-- octets that stand, and a value that ends where they do
+pub fills-again : (s : List ℕ) (at : ℕ) {vs : List ℕ} (n : ℕ) → Stands s at vs → length vs ≡ n → got tt ≡ endsAt s (at + n) → Fills s at vs
+fills-again s at n h l q = let r = h .room in let k = ends-got s (at + n) q in record { stands = h; ends = omega arith }
 
 -- ---- lengths and what they count
 

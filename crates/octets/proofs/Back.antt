@@ -9,7 +9,7 @@ use native.Mathlib.Nat.{mod-eq-of-lt, pow-suc, mod-one}
 use borrow.Author.Tests.{lt-ltb, le-ltb, eq-eqb, ne-eqb, ltb-true, ltb-false}
 use lib.Dec.{ltb, eqb}
 use lib.ListN.{length, getD}
-use lib.Pow.{mod-pow-add, pow-add}
+use lib.Pow.{mod-pow-add, pow-add, pow-pos}
 use Rattle.lists.proofs.Parts.{take-drop}
 use Rattle.octets.specs.Read.{got}
 use Rattle.octets.specs.Field.{bitsOf, flagAt, plainAt, choiceAt, padAt, valueAt, numberAt, stringAt, sameAt, longAt, longLengthAt, lengthAt, openAt, endsAt}
@@ -54,6 +54,22 @@ pad-back s at fs ok p b h =
     let m : widths fs % 8 ≡ widths fs = mod-eq-of-lt b in
     let z : bitsOf (getD s at 0) (widths fs) (8 - widths fs) ≡ 0 = rw (stands-head h) (pad-apart fs ok b) in
     rw (m, ne-eqb (widths fs) 0 (λ q. omega arith), le-ltb (length s) (at + 1) (h .room), z)
+
+-- fields fit with their pad
+fit-pad : (r : ℕ) (fs : List Field) → Fit r fs → Fit r (fs ++ (r - widths fs) bits 0 ∷ [])
+fit-pad r [] h = (omega arith, pow-pos (r - 0), tt)
+fit-pad r (f ∷ fs) h =
+    let k : r - f .width - widths fs ≡ r - (f .width + widths fs) = omega arith in
+    (h .0, h .1, rw k at (fit-pad (r - f .width) fs (h .2)))
+
+-- the pad behind fields, if there is any
+pub rest-back : (s : List ℕ) (at : ℕ) (fs : List Field) → Fit 8 fs → 0 < widths fs → widths fs ≤ 8 → Stands s at (packed fs ∷ []) → got tt ≡ padAt s at (widths fs)
+unfolding padAt
+rest-back s at fs ok p b h = by (ltb (widths fs) 8) refl
+  where
+    by : (t : Bool) → ltb (widths fs) 8 ≡ t → got tt ≡ padAt s at (widths fs)
+    by true e = pad-back s at fs (fit-pad 8 fs ok) p (ltb-true (widths fs) 8 e) h
+    by false e = let l = ltb-false (widths fs) 8 e in let z : widths fs % 8 ≡ 0 = omega arith in rw (eq-eqb (widths fs % 8) 0 z)
 
 -- ---- numbers and strings, over every width
 

@@ -1,5 +1,6 @@
 -- Two values which differ have octets which differ.
 --     stays-different   wherever reading what was written gives the value
+--     ends-different    and where it does, if nothing stands behind it
 --     numbers, lengths, open-values, fields: the fields of this crate
 -- Assumes nothing.
 use mathlib.Core.Path.{_≡_, _∙_, refl, sym, ap, subst}
@@ -11,17 +12,24 @@ use lib.Pow.{high, low}
 use Rattle.octets.specs.Read.{Read, got, _>>=_}
 use Rattle.octets.specs.Field.{numberAt, lengthAt}
 use Rattle.octets.specs.Write.{Field, packedIn, Fit, numberOctets, lengthOctets}
-use Rattle.octets.specs.Stands.{Stands, StaysDifferent}
+use Rattle.octets.specs.Stands.{Stands, Fills, StaysDifferent}
 use Rattle.octets.specs.declared.Counted.{Counted}
 use Rattle.octets.proofs.Packed.{packed-below}
 use Rattle.octets.proofs.Chain.{past, same-got}
-use Rattle.octets.proofs.Stood.{stands-alone, stands-around}
+use Rattle.octets.proofs.Stood.{stands-alone, stands-around, fills-alone}
 use Rattle.octets.proofs.Back.{number-back, length-back}
 
 pub stays-different : {A : Type 0} (Good : A → Type 0) (octets : A → List ℕ) (reading : List ℕ → ℕ → Read A)
     → ((s : List ℕ) (at : ℕ) (v : A) → Good v → Stands s at (octets v) → got v ≡ reading s at) → StaysDifferent Good octets
 stays-different Good octets reading back v w a b e =
     same-got (back (octets v) 0 v a (stands-alone (octets v)) ∙ sym (back (octets v) 0 w b (subst (λ (x : List ℕ). Stands x 0 (octets w)) (sym e) (stands-alone (octets w)))))
+
+pub ends-different : {A : Type 0} (Good : A → Type 0) (octets : A → List ℕ) (reading : List ℕ → ℕ → Read A)
+    → ((s : List ℕ) (at : ℕ) (v : A) → Good v → Fills s at (octets v) → got v ≡ reading s at) → StaysDifferent Good octets
+ends-different {A} Good octets reading back v w a b e = same-got (alone v a ∙ (ap (λ (s : List ℕ). reading s 0) e ∙ sym (alone w b)))
+  where
+    alone : (x : A) → Good x → got x ≡ reading (octets x) 0
+    alone x g = back (octets x) 0 x g (fills-alone (octets x))
 
 pub numbers : (k : ℕ) → StaysDifferent (λ v. v < 256 ^ k) (numberOctets k)
 numbers k = stays-different _ (numberOctets k) (numberAt k) (number-back k)

@@ -9,4 +9,5 @@ pub mod Back
 pub mod Again
 pub mod Different
 pub mod ManyLaws
+pub mod Gathered
 pub mod ExamplesHold

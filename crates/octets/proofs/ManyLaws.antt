@@ -2,6 +2,7 @@
 --     many-none, many-one, many-stop   what a loop that reads them knows
 --     many-back                        reading what was written, one after another, gives them
 --     many-again                       what was read, written one after another, is the same octets
+--     many-each                        as many were read as there should be, and each is good
 -- Assumes nothing.
 use mathlib.Core.Path.{_≡_, _∙_, refl, sym, ap, subst}
 use mathlib.Core.List.{List, [], _∷_, _++_, append-assoc, append-nil}
@@ -57,6 +58,16 @@ eachOctets octets (v ∷ vs) = octets v ++ eachOctets octets vs
 abbrev pub Each : {A : Type 0} → (A → Type 0) → List A → Type 0
 Each Good [] = Unit
 Each Good (v ∷ vs) = Good v × Each Good vs
+
+pub many-each : {A : Type 0} (one : ℕ → Read (Part A)) (Good : A → Type 0) → ((at : ℕ) (p : Part A) → got p ≡ one at → Good (p .value))
+    → (n at : ℕ) (p : Part (List A)) → got p ≡ many one n at → (length (p .value) ≡ n) × Each Good (p .value)
+unfolding many
+many-each {A} one Good good zero at p q = subst (λ (x : Part (List A)). (length (x .value) ≡ zero) × Each Good (x .value)) (sym (same-got q)) (refl, tt)
+many-each {A} one Good good (suc n) at p q =
+    let a = then-got (one at) _ q in
+    let b = then-got (many one n (a .0 .next)) _ (a .2) in
+    let r = many-each one Good good n (a .0 .next) (b .0) (b .1) in
+    subst (λ (x : Part (List A)). (length (x .value) ≡ suc n) × Each Good (x .value)) (sym (same-got (b .2))) (ap suc (r .0), (good at (a .0) (a .1), r .1))
 
 module _ {A : Type 0} (s : List ℕ) (one : ℕ → Read (Part A)) (octets : A → List ℕ) where
   pub many-back : (Good : A → Type 0)

@@ -3,16 +3,20 @@
 --     stands-one, -none, -more, -join  octets, one after another
 --     stands-head, -split              and taken apart
 --     stands-front, stands-in-front    in a front of the others
+--     fills-alone, fills-front         with nothing behind them: nothing around them, or in the front that ends with them
 -- Assumes nothing.
 use mathlib.Core.Path.{_≡_, _∙_, refl, sym, ap}
+use mathlib.Core.Bool.{Bool, true, false}
 use mathlib.Core.List.{List, [], _∷_, _++_, append-assoc}
 use Prim.Native.Nat.{ℕ, suc, _+_, _<_, _≤_}
 use native.Mathlib.Omega.{arith}
-use lib.ListN.{length, getD, take, drop, length-drop, length-append}
-use lib.Seq.{slice, slice-empty, take-add, drop-drop, drop-cons, take-at, drop-at, take-append-seam, drop-append-seam, length-take-le, take-take, take-length}
+use borrow.Author.Tests.{ltb-true, ltb-false}
+use lib.Dec.{ltb}
+use lib.ListN.{length, getD, take, drop, length-take, length-drop, length-append, List·getD-eq-default}
+use lib.Seq.{slice, slice-empty, take-add, drop-drop, drop-cons, take-at, drop-at, take-append-seam, drop-append-seam, length-take-le, take-take, take-length, getD-take}
 use Rattle.lists.proofs.Slices.{slice-next}
 use Rattle.lists.proofs.Parts.{take-drop}
-use Rattle.octets.specs.Stands.{Stands}
+use Rattle.octets.specs.Stands.{Stands, Fills, Octets}
 
 pub slice-three : (s : List ℕ) (at : ℕ) → at + 3 ≤ length s → slice at (at + 3) s ≡ getD s at 0 ∷ getD s (at + 1) 0 ∷ getD s (at + 2) 0 ∷ []
 slice-three s at h =
@@ -34,6 +38,20 @@ stands-around p vs q =
 
 pub stands-alone : (vs : List ℕ) → Stands vs 0 vs
 stands-alone vs = record { room = omega arith; octets = take-length vs }
+
+pub fills-alone : (vs : List ℕ) → Fills vs 0 vs
+fills-alone vs = record { stands = stands-alone vs; ends = omega arith }
+
+-- a front of octets is octets
+pub octets-front : (s : List ℕ) (n : ℕ) → Octets s → Octets (take n s)
+octets-front s n o i = by (ltb i n) refl
+  where
+    by : (t : Bool) → ltb i n ≡ t → getD (take n s) i 0 < 256
+    by true e = rw (getD-take n s i 0 (ltb-true i n e)) (o i)
+    by false e =
+        let h = ltb-false i n e in
+        let l : length (take n s) ≤ i = rw (length-take n s) (omega arith) in
+        rw (List·getD-eq-default (take n s) 0 l) (omega arith)
 
 front-same : (s : List ℕ) (at n to : ℕ) → at + n ≤ to → take n (drop at (take to s)) ≡ take n (drop at s)
 front-same s at n to h = take-drop n at (take to s) ∙ (ap (drop at) (take-take (at + n) to s h) ∙ sym (take-drop n at s))
@@ -99,3 +117,9 @@ module _ {s : List ℕ} {at : ℕ} where
 
   pub stands-in-front : {vs : List ℕ} (to : ℕ) → to ≤ length s → at + length vs ≤ to → Stands s at vs → Stands (take to s) at vs
   stands-in-front {vs} to h b g = record { room = rw (length-take-le to s h) b; octets = front-same s at (length vs) to b ∙ g .octets }
+
+  pub fills-front : {vs : List ℕ} → Stands s at vs → Fills (take (at + length vs) s) at vs
+  fills-front {vs} g = record {
+    stands = stands-in-front (at + length vs) (g .room) (omega arith) g;
+    ends = length-take-le (at + length vs) s (g .room);
+  }

@@ -9,6 +9,11 @@ pub record Stands (s : List ℕ) (at : ℕ) (vs : List ℕ) : Type 0 where
   pub room : at + length vs ≤ length s
   pub octets : take (length vs) (drop at s) ≡ vs
 
+-- s has the octets vs from the place on, and nothing behind them
+pub record Fills (s : List ℕ) (at : ℕ) (vs : List ℕ) : Type 0 where
+  pub stands : Stands s at vs
+  pub ends : length s ≡ at + length vs
+
 -- each number of s is an octet's
 abbrev pub Octets : List ℕ → Type 0
 Octets s = (i : ℕ) → getD s i 0 < 256

@@ -13,6 +13,16 @@ use Rattle.values.proofs.tmgi_at.Kinds as tmgi-at'
 use Rattle.values.proofs.tmgi_at.Reads as tmgi-at
 use Rattle.values.proofs.cause_at.Kinds as cause-at'
 use Rattle.values.proofs.cause_at.Reads as cause-at
+use Rattle.values.proofs.root_of.Kinds as root-of'
+use Rattle.values.proofs.root_of.Reads as root-of
+use Rattle.values.proofs.width_of.Kinds as width-of'
+use Rattle.values.proofs.width_of.Reads as width-of
+
+pub root-of-is : Determined root-of'.ps root-of'.r root-of.Asked root-of.Learnt
+root-of-is κs a p x y e f = (e same f) & refl
+
+pub width-of-is : Determined width-of'.ps width-of'.r width-of.Asked width-of.Learnt
+width-of-is κs a p x y e f = (e same f) & refl
 
 pub mme-at-is : Determined mme-at'.ps mme-at'.r mme-at.Asked mme-at.Learnt
 mme-at-is κs a p x y e f = one-mme (e same f) & refl

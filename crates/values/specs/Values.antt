@@ -39,11 +39,17 @@ tmgiAt s at = do
   got (record { plmn = record { 0 = getD p 0 0; 1 = getD p 1 0; 2 = getD p 2 0 }; service = record { 0 = getD v 0 0; 1 = getD v 1 0; 2 = getD v 2 0 } })
 
 -- the groups of causes in 9.3.5: radio network, transport, NAS, protocol, miscellaneous. How many root values each has, and how many bits number them
+abbrev pub roots : List ℕ
+roots = 8 ∷ 2 ∷ 1 ∷ 7 ∷ 5 ∷ []
+
+abbrev pub rootBits : List ℕ
+rootBits = 3 ∷ 1 ∷ 0 ∷ 3 ∷ 3 ∷ []
+
 abbrev pub rootOf : ℕ → ℕ
-rootOf g = getD (8 ∷ 2 ∷ 1 ∷ 7 ∷ 5 ∷ []) g 0
+rootOf g = getD roots g 0
 
 abbrev pub bitsOfRoot : ℕ → ℕ
-bitsOfRoot g = getD (3 ∷ 1 ∷ 0 ∷ 3 ∷ 3 ∷ []) g 0
+bitsOfRoot g = getD rootBits g 0
 
 -- Cause ::= CHOICE { five groups, ... }, each an ENUMERATED { .., ... }
 unfoldable pub causeAt : List ℕ → ℕ → Read Cause

@@ -2,6 +2,8 @@
 use Prim.Native.Nat.{ℕ, _<_}
 use mathlib.Core.Bool.{false}
 use mathlib.Core.List.{List, [], _∷_}
+use lib.Dec.{ltb}
+use Rattle.lists.specs.Lists.{pick}
 use Rattle.octets.specs.Write.{_bits_, bit, packed, numberOctets}
 use Rattle.identity.specs.declared.MmeId.{MmeId}
 use Rattle.identity.specs.declared.MceId.{MceId}
@@ -23,9 +25,12 @@ unfoldable pub tmgiOctets : Tmgi → List ℕ
 tmgiOctets t = packed (bit false ∷ []) ∷ t .plmn .0 ∷ t .plmn .1 ∷ t .plmn .2 ∷ t .service .0 ∷ t .service .1 ∷ t .service .2 ∷ []
 
 -- no extension; the group; no extension; the number in the group's root
-unfoldable pub causeOctets : Cause → List ℕ
-causeOctets c = packed (bit false ∷ 3 bits (c .group) ∷ bit false ∷ bitsOfRoot (c .group) bits (c .value) ∷ []) ∷ []
+abbrev pub causeOctet : Cause → ℕ
+causeOctet c = packed (bit false ∷ 3 bits (c .group) ∷ bit false ∷ bitsOfRoot (c .group) bits (c .value) ∷ [])
 
--- a cause inside its root
+-- a cause outside the root has no octets
+unfoldable pub causeOctets : Cause → List ℕ
+causeOctets c = pick (ltb (c .value) (rootOf (c .group))) (causeOctet c ∷ []) []
+
 abbrev pub GoodCause : Cause → Type 0
-GoodCause c = (c .group < 5) × (c .value < rootOf (c .group))
+GoodCause c = c .value < rootOf (c .group)

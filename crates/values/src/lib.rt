@@ -1,7 +1,6 @@
 // The values that are read in full, each from the begin of its octets to the end of what encloses it:
 // identities, TMGI, Session Identity, Cause.
 ghost use mathlib.Core.Path.{_≡_};
-ghost use Prim.Native.Nat.{_<_};
 ghost use Rattle.octets.specs.Found.{foundTwo};
 ghost use Rattle.values.specs.Found.{foundMme, foundMce, foundSession, foundTmgi, foundCause};
 ghost use Rattle.values.specs.Values.{wholeAt, mmeAt, mceAt, sessionAt, tmgiAt, rootOf, bitsOfRoot, causeAt};
@@ -139,18 +138,23 @@ const ROOTS: [u8; 5] = [8, 2, 1, 7, 5];
 
 const WIDTHS: [u8; 5] = [3, 1, 0, 3, 3];
 
-fn root_of(group: u8) -> u8
-    requires { ⌜ group < 5 ⌝ }
+// There are none in any other group.
+pub fn root_of(group: u8) -> u8
     ensures { λ r. ⌜ r ≡ rootOf group ⌝ }
 {
-    ROOTS[group as usize]
+    if group < 5 {
+        return ROOTS[group as usize];
+    }
+    0
 }
 
-fn width_of(group: u8) -> u8
-    requires { ⌜ group < 5 ⌝ }
+pub fn width_of(group: u8) -> u8
     ensures { λ r. ⌜ r ≡ bitsOfRoot group ⌝ }
 {
-    WIDTHS[group as usize]
+    if group < 5 {
+        return WIDTHS[group as usize];
+    }
+    0
 }
 
 // A cause: its group, and its number among the group's root values.

@@ -1,4 +1,4 @@
--- `items::items_at` meets its contract. Each return is the chain of the readings on the way to it. Assumes nothing.
+-- `items::items_at` meets its contract: the loop's invariant: what is read so far stands in the front of the array, and before what is left to read it is the whole list. Assumes nothing.
 use borrow.Author.Needs.{needs}
 use Rattle.octets.proofs.Chain.{past, halt, told}
 use mathlib.Core.Path.{refl, _≡_, _∙_, ap}
@@ -15,7 +15,7 @@ use Rattle.identity.specs.declared.Item.{Item}
 use Rattle.identity.specs.Items.{emptyItem}
 use Rattle.items.specs.Items.{itemElementAt, itemsAt}
 use Rattle.items.specs.Found.{foundElement, itemsRead}
-use Rattle.items.proofs.Gathered.{Gathered, gathered-none, gathered-more, gathered-stop, gathered-all}
+use Rattle.octets.proofs.Gathered.{Gathered, gathered-none, gathered-more, gathered-stop, gathered-all}
 use Rattle.items.proofs.items_at.Statement.{statement}
 use Rattle.items.proofs.items_at.Tie as tie
 

@@ -1,4 +1,4 @@
--- `items::maybe_at` meets its contract. Each return is the chain of the readings on the way to it. Assumes nothing.
+-- `items::maybe_at` meets its contract: by what the mark says: the number that was read, or none. Assumes nothing.
 use Rattle.octets.proofs.Chain.{past, halt, told}
 use mathlib.Core.Path.{refl}
 use Rattle.octets.specs.Found.{foundTwo}

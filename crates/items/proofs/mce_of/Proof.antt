@@ -1,4 +1,4 @@
--- `items::mce_of` meets its contract. By the case, what was called says it. Assumes nothing.
+-- `items::mce_of` meets its contract: by cases. Assumes nothing.
 use mathlib.Core.Path.{sym, ap}
 use Rattle.items.specs.Items.{mceOf}
 use borrow.Author.Needs.{needs}

@@ -1,4 +1,4 @@
--- `items::mme_of` meets its contract. By the case, what was called says it. Assumes nothing.
+-- `items::mme_of` meets its contract: by cases. Assumes nothing.
 use mathlib.Core.Path.{sym, ap}
 use Rattle.items.specs.Items.{mmeOf}
 use borrow.Author.Needs.{needs}

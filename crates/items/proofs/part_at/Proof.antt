@@ -1,4 +1,4 @@
--- `items::part_at` meets its contract. Each return is the chain of the readings on the way to it. Assumes nothing.
+-- `items::part_at` meets its contract: each return is the chain of what was read on the way there; the list's answer tells by its gate what it read. Assumes nothing.
 use Rattle.octets.specs.declared.Gate.the-variants as gate
 use Rattle.identity.specs.declared.Items.{Items}
 use Rattle.items.specs.declared.Reset.the-variants as reset

@@ -1,4 +1,4 @@
--- `items::place_behind` meets its contract. It follows from what was called, and by computing. Assumes nothing.
+-- `items::place_behind` meets its contract: by cases. Assumes nothing.
 use borrow.Author.Needs.{needs}
 use Rattle.items.proofs.place_behind.Statement.{statement}
 use Rattle.items.proofs.place_behind.Tie as tie

@@ -1,4 +1,4 @@
--- `items::reset_at` meets its contract. By the case, what was called says it. Assumes nothing.
+-- `items::reset_at` meets its contract: what was read on the way to each return, put into the reading, gives the answer. Assumes nothing.
 use Rattle.octets.specs.Read.{_>>=_}
 use Rattle.octets.proofs.Chain.{told}
 use Rattle.octets.specs.Found.{foundGate, foundFlag}

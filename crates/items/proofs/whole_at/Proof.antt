@@ -1,4 +1,4 @@
--- `items::whole_at` meets its contract. Each return is the chain of the readings on the way to it. Assumes nothing.
+-- `items::whole_at` meets its contract: each return is the chain of what was read on the way there. Assumes nothing.
 use Rattle.octets.proofs.Chain.{past, halt, told}
 use mathlib.Core.Path.{refl, _∙_, ap}
 use native.Mathlib.Omega.{arith}

@@ -1,9 +1,9 @@
--- `values::cause_at` meets its contract. Each return is the chain of the readings on the way to it. Assumes nothing.
+-- `values::cause_at` meets its contract: each return is the chain of what was read on the way there, with the root and its bits as the tables give them. Assumes nothing.
 use Rattle.octets.proofs.Chain.{past, halt, told}
 use mathlib.Core.Path.{refl}
 use native.Mathlib.Omega.{arith}
 use Rattle.octets.specs.Found.{foundGate, foundOctet}
-use Rattle.octets.proofs.Got.{plain-got, choice-got}
+use Rattle.octets.proofs.Got.{plain-got}
 use Rattle.values.specs.Values.{causeAt}
 use Rattle.values.proofs.Roots.{root-width}
 use borrow.Author.Needs.{needs}
@@ -50,10 +50,10 @@ unfolding causeAt
 returns-3 c = past _ _ (told foundGate (c .before .before .before .before .before .before .before .before .enum-told .given .1) (c .before .before .before .before .before .before .before .before .before .before .plain-at .ensures)) (past _ _ (told foundOctet (c .before .before .before .before .before .v .given .1) (c .before .before .before .before .before .before .before .choice-at .ensures)) (halt _ (told foundGate (c .before .x3 .given .1) (c .before .before .before .plain-at2 .ensures))))
 
 root-of-requires : tie.Need-root-of-requires
-root-of-requires c κs = choice-got _ _ 5 3 1 (told foundOctet (c .before .before .before .before .v .given .1) (c .before .before .before .before .before .before .choice-at .ensures)) .2
+root-of-requires c κs = search needs
 
 width-of-requires : tie.Need-width-of-requires
-width-of-requires c κs = choice-got _ _ 5 3 1 (told foundOctet (c .before .before .before .before .before .v .given .1) (c .before .before .before .before .before .before .before .choice-at .ensures)) .2
+width-of-requires c κs = search needs
 
 choice-at-requires-2 : tie.Need-choice-at-requires-2
 choice-at-requires-2 c κs = search needs

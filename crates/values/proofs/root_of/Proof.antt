@@ -1,5 +1,7 @@
--- `values::root_of` meets its contract. It follows from what was called, and by computing. Assumes nothing.
-use mathlib.Core.Path.{refl}
+-- `values::root_of` meets its contract: the table of the code is that of the definition, and past its end both are 0. Assumes nothing.
+use mathlib.Core.Path.{refl, sym}
+use lib.ListN.{List·getD-eq-default}
+use Rattle.values.specs.Values.{roots}
 use borrow.Author.Needs.{needs}
 use Rattle.values.proofs.root_of.Statement.{statement}
 use Rattle.values.proofs.root_of.Tie as tie
@@ -7,9 +9,11 @@ use Rattle.values.proofs.root_of.Tie as tie
 array-read-result : tie.Need-array-read-result
 array-read-result c = search needs
 
--- the table of the code is the table of the definition
 returns : tie.Need-returns
 returns c = refl
 
+returns-2 : tie.Need-returns-2
+returns-2 c = sym (List·getD-eq-default roots 0 (c .if1 .left))
+
 pub root-of-spec : {M : Type 1} → statement M
-root-of-spec = tie.close (tie.spec array-read-result returns)
+root-of-spec = tie.close (tie.spec array-read-result returns returns-2)

@@ -1,4 +1,4 @@
--- `values::session_at` meets its contract. By the case, what was called says it. Assumes nothing.
+-- `values::session_at` meets its contract: what was read on the way to each return, put into the reading, gives the answer. Assumes nothing.
 use Rattle.octets.specs.Read.{_>>=_}
 use Rattle.octets.proofs.Chain.{told}
 use native.Mathlib.Omega.{arith}

@@ -1,4 +1,4 @@
--- `values::tmgi_at` meets its contract. Each return is the chain of the readings on the way to it. Assumes nothing.
+-- `values::tmgi_at` meets its contract: each return is the chain of what was read on the way there; a place fits since the field before it stood inside. Assumes nothing.
 use Rattle.octets.proofs.Chain.{past, halt, told}
 use mathlib.Core.Path.{refl}
 use native.Mathlib.Omega.{arith}
