@@ -12,6 +12,7 @@ use Rattle.elements.specs.declared.Rows.{Rows}
 use Rattle.elements.specs.Table.{noRow}
 use Rattle.tables.specs.declared.Message.{Message}
 use Rattle.tables.specs.declared.Message.the-variants.{StartRequest, StartResponse, StartFailure, StopRequest, StopResponse, Reset, ResetAcknowledge, ErrorIndication}
+use Rattle.tables.specs.declared.Code.{Code}
 use Rattle.tables.specs.declared.Named.{Named}
 use Rattle.tables.specs.declared.Named.the-variants.{Is, Other}
 
@@ -73,26 +74,27 @@ tableOf ErrorIndication =
 abbrev pub rowsOf : Message → Rows
 rowsOf m = record { rows = fill noRow 12 (tableOf m); count = length (tableOf m) }
 
--- the kind (0 initiating, 1 successful, 2 unsuccessful) and the procedure code of each
-pub record Code : Type 0 where
-  pub kind : ℕ
-  pub code : ℕ
-  pub message : Message
+-- the frame of each, as 9.3.3 has it: kind (0 initiating, 1 successful, 2 unsuccessful), procedure code, criticality
+abbrev frame : ℕ → ℕ → ℕ → Code
+frame kind code crit = record { kind = kind; code = code; crit = crit }
 
-abbrev pub codes : List Code
-codes =
-    record { kind = 0; code = 0; message = StartRequest }
-    ∷ record { kind = 1; code = 0; message = StartResponse }
-    ∷ record { kind = 2; code = 0; message = StartFailure }
-    ∷ record { kind = 0; code = 1; message = StopRequest }
-    ∷ record { kind = 1; code = 1; message = StopResponse }
-    ∷ record { kind = 0; code = 4; message = Reset }
-    ∷ record { kind = 1; code = 4; message = ResetAcknowledge }
-    ∷ record { kind = 0; code = 2; message = ErrorIndication } ∷ []
+abbrev pub codeOf : Message → Code
+codeOf StartRequest = frame 0 0 reject
+codeOf StartResponse = frame 1 0 reject
+codeOf StartFailure = frame 2 0 reject
+codeOf StopRequest = frame 0 1 reject
+codeOf StopResponse = frame 1 1 reject
+codeOf Reset = frame 0 4 reject
+codeOf ResetAcknowledge = frame 1 4 reject
+codeOf ErrorIndication = frame 0 2 ignore
 
-abbrev pub among : ℕ → ℕ → List Code → Named
+abbrev pub eight : List Message
+eight = StartRequest ∷ StartResponse ∷ StartFailure ∷ StopRequest ∷ StopResponse ∷ Reset ∷ ResetAcknowledge ∷ ErrorIndication ∷ []
+
+-- the first of the messages that has the kind and the code
+abbrev pub among : ℕ → ℕ → List Message → Named
 among kind code [] = Other
-among kind code (c ∷ cs) = pick (eqb kind (c .kind)) (pick (eqb code (c .code)) (Is (c .message)) (among kind code cs)) (among kind code cs)
+among kind code (m ∷ ms) = pick (eqb kind (codeOf m .kind)) (pick (eqb code (codeOf m .code)) (Is m) (among kind code ms)) (among kind code ms)
 
 unfoldable pub namedBy : ℕ → ℕ → Named
-namedBy kind code = among kind code codes
+namedBy kind code = among kind code eight

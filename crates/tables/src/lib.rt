@@ -1,6 +1,6 @@
 // The eight messages, and the table of elements of each, as 9.3.4 has it.
 ghost use mathlib.Core.Path.{_≡_};
-ghost use Rattle.tables.specs.Tables.{rowsOf, namedBy};
+ghost use Rattle.tables.specs.Tables.{rowsOf, codeOf, namedBy};
 use elements::Row;
 use elements::Rows;
 use kinds::Kind;
@@ -20,6 +20,13 @@ pub enum Message {
 pub enum Named {
     Is(Message),
     Other,
+}
+
+// What the frame of a message says: kind (0 initiating, 1 successful, 2 unsuccessful), procedure code, criticality.
+pub struct Code {
+    pub kind: u8,
+    pub code: u8,
+    pub crit: u8,
 }
 
 const REJECT: u8 = 0;
@@ -402,7 +409,55 @@ pub fn rows_of(m: Message) -> Rows
     }
 }
 
-// The message of a kind (0 initiating, 1 successful, 2 unsuccessful) and a procedure code.
+// The frame of a message.
+pub fn code_of(m: Message) -> Code
+    ensures { λ r. ⌜ r ≡ codeOf m ⌝ }
+{
+    match m {
+        Message::StartRequest => Code {
+            kind: 0,
+            code: 0,
+            crit: REJECT,
+        },
+        Message::StartResponse => Code {
+            kind: 1,
+            code: 0,
+            crit: REJECT,
+        },
+        Message::StartFailure => Code {
+            kind: 2,
+            code: 0,
+            crit: REJECT,
+        },
+        Message::StopRequest => Code {
+            kind: 0,
+            code: 1,
+            crit: REJECT,
+        },
+        Message::StopResponse => Code {
+            kind: 1,
+            code: 1,
+            crit: REJECT,
+        },
+        Message::Reset => Code {
+            kind: 0,
+            code: 4,
+            crit: REJECT,
+        },
+        Message::ResetAcknowledge => Code {
+            kind: 1,
+            code: 4,
+            crit: REJECT,
+        },
+        Message::ErrorIndication => Code {
+            kind: 0,
+            code: 2,
+            crit: IGNORE,
+        },
+    }
+}
+
+// The message of a kind and a procedure code.
 pub fn message_of(kind: u8, code: u8) -> Named
     ensures { λ r. ⌜ r ≡ namedBy kind code ⌝ }
 {

@@ -1,0 +1,61 @@
+-- What the types let anyone hand over: numbers of one octet or two, and for each row a value of its kind.
+use Prim.Native.Nat.{ℕ, _<_}
+use mathlib.Core.Path.{_≡_}
+use mathlib.Core.Bool.{false}
+use mathlib.Core.List.{List, [], _∷_}
+use Rattle.octets.specs.Stands.{Octets}
+use Rattle.octets.proofs.ManyLaws.{Each}
+use Rattle.items.specs.Items.{ResetType, whole, part}
+use Rattle.items.specs.Written.{GoodItem}
+use Rattle.diagnostics.specs.declared.Entry.{Entry}
+use Rattle.diagnostics.specs.Diagnostics.{Diagnostics}
+use Rattle.diagnostics.specs.Written.{Under}
+use Rattle.kinds.specs.declared.Kind.{Kind}
+use Rattle.kinds.specs.declared.Kind.the-variants as kind
+use Rattle.elements.specs.declared.Row.{Row}
+use Rattle.said.specs.Value.{Value, Given, given, absent, carried, mme, mce, tmgi, session, cause, reset, list, diagnostics}
+
+abbrev pub kindOf : Value → Kind
+kindOf (carried os) = kind.Carried
+kindOf (mme v) = kind.Mme
+kindOf (mce v) = kind.Mce
+kindOf (tmgi v) = kind.Tmgi
+kindOf (session v) = kind.Session
+kindOf (cause v) = kind.Cause
+kindOf (reset v) = kind.ResetType
+kindOf (list v) = kind.Acknowledged
+kindOf (diagnostics v) = kind.Diagnostics
+
+abbrev pub ResetRange : ResetType → Type 0
+ResetRange whole = Unit
+ResetRange (part is) = Each GoodItem is
+
+-- entries only where a list is there
+pub record DiagnosticsRange (d : Diagnostics) : Type 0 where
+  pub code : Under 256 (d .head .code)
+  pub ids : Each (λ (e : Entry). e .id < 65536) (d .entries)
+  pub none : d .head .listed ≡ false → d .entries ≡ []
+
+abbrev pub InRange : Value → Type 0
+InRange (carried os) = Octets os
+InRange (mme v) = v .0 < 65536
+InRange (mce v) = v .0 < 65536
+InRange (tmgi v) =
+    (v .plmn .0 < 256) × (v .plmn .1 < 256) × (v .plmn .2 < 256)
+    × (v .service .0 < 256) × (v .service .1 < 256) × (v .service .2 < 256)
+InRange (session v) = v < 256
+InRange (cause v) = Unit
+InRange (reset v) = ResetRange v
+InRange (list v) = Each GoodItem v
+InRange (diagnostics v) = DiagnosticsRange v
+
+abbrev pub RowRange : Row → Given → Type 0
+RowRange r (given v) = (kindOf v ≡ r .kind) × InRange v
+RowRange r absent = Unit
+
+-- a value, or none, for each row
+unfoldable pub Ranged : List Row → List Given → Type 0
+Ranged [] [] = Unit
+Ranged [] (v ∷ vs) = ⊥
+Ranged (r ∷ t) [] = ⊥
+Ranged (r ∷ t) (v ∷ vs) = RowRange r v × Ranged t vs
