@@ -1,0 +1,138 @@
+-- Elements laid out in octets, judged by any table whose ids are distinct: all are read, in order, known, and none is missing.
+-- Assumes nothing.
+use Prim.Native.Nat.{ℕ, zero, suc, _+_, _≤_}
+use mathlib.Core.Path.{_≡_, _∙_, refl, sym, ap}
+use mathlib.Core.Bool.{true}
+use mathlib.Core.List.{List, [], _∷_, _++_, append-assoc}
+use native.Mathlib.Omega.{arith}
+use borrow.Author.Tests.{lt-ltb, le-ltb, eq-eqb}
+use lib.ListN.{length, getD, set, replicate, length-append}
+use lib.Seq.{set-at}
+use Rattle.lists.specs.Lists.{apart}
+use Rattle.octets.specs.Read.{got}
+use Rattle.octets.specs.declared.Span.{Span}
+use Rattle.octets.proofs.Chain.{past}
+use Rattle.octets.proofs.Back.{ends-back}
+use Rattle.kinds.proofs.Laws.{of-kind}
+use Rattle.elements.specs.declared.Row.{Row}
+use Rattle.elements.specs.declared.Head.{Head}
+use Rattle.elements.specs.Table.{find, noRow, kindOf}
+use Rattle.elements.specs.Envelope.{scanAt, headsAt}
+use Rattle.elements.specs.Judge.{Found, front, readInto, noSpan, unknownOf, missingOf, judgedOf, elementsAt}
+use Rattle.said.specs.Value.{Given, given, absent, octetsOf}
+use Rattle.said.specs.Octets.{present}
+use Rattle.said.specs.Reading.{valueIn, valuesIn}
+use Rattle.ties.proofs.ValueBack.{value-read}
+use Rattle.ties.proofs.Placed.{Placed, alike, placed}
+use Rattle.ties.proofs.Laid.{Laid, ends, skip, more, spanOf, headOf}
+
+-- the heads of the elements that are there
+unfoldable pub headsOf : List Row → List Given → ℕ → List Head
+headsOf [] vs at = []
+headsOf (r ∷ t) [] at = []
+headsOf (r ∷ t) (given v ∷ vs) at = headOf r (octetsOf v) at ∷ headsOf t vs (spanOf (octetsOf v) at .to)
+headsOf (r ∷ t) (absent ∷ vs) at = headsOf t vs at
+
+-- where the value of each row stands
+unfoldable pub spansOf : List Given → ℕ → List Span
+spansOf [] at = []
+spansOf (given v ∷ vs) at = spanOf (octetsOf v) at ∷ spansOf vs (spanOf (octetsOf v) at .to)
+spansOf (absent ∷ vs) at = noSpan ∷ spansOf vs at
+
+-- ---- what is read
+
+module _ {s : List ℕ} where
+  heads-laid : {at : ℕ} {t : List Row} {vs : List Given} → Laid s at t vs → headsAt s (present vs) at ≡ headsOf t vs at
+  unfolding headsAt present headsOf
+  heads-laid (ends h) = refl
+  heads-laid (skip h l) = heads-laid l
+  heads-laid (more q h w l) = rw (← q, heads-laid l)
+
+  heads-length : {at : ℕ} {t : List Row} {vs : List Given} → Laid s at t vs → length (headsOf t vs at) ≡ present vs
+  unfolding present headsOf
+  heads-length (ends h) = refl
+  heads-length (skip h l) = heads-length l
+  heads-length (more q h w l) = ap suc (heads-length l)
+
+  -- no more elements than rows
+  pub present-rows : {at : ℕ} {t : List Row} {vs : List Given} → Laid s at t vs → present vs ≤ length t
+  unfolding present
+  present-rows (ends h) = omega arith
+  present-rows (skip h l) = let b = present-rows l in omega arith
+  present-rows (more q h w l) = let b = present-rows l in omega arith
+
+  pub spans-length : {at : ℕ} {t : List Row} {vs : List Given} → Laid s at t vs → length (spansOf vs at) ≡ length t
+  unfolding spansOf
+  spans-length (ends h) = refl
+  spans-length (skip h l) = ap suc (spans-length l)
+  spans-length (more q h w l) = ap suc (spans-length l)
+
+  pub spans-in : {at : ℕ} {t : List Row} {vs : List Given} → Laid s at t vs → (k : ℕ) → getD (spansOf vs at) k noSpan .to ≤ length s
+  unfolding spansOf
+  spans-in (ends h) k = omega arith
+  spans-in (skip h l) zero = omega arith
+  spans-in (skip h l) (suc k) = spans-in l k
+  spans-in (more q h w l) zero = h
+  spans-in (more q h w l) (suc k) = spans-in l k
+
+  pub missing-laid : {at : ℕ} {t : List Row} {vs : List Given} → Laid s at t vs → missingOf t (spansOf vs at) ≡ []
+  unfolding spansOf missingOf
+  missing-laid (ends h) = refl
+  missing-laid (skip h l) = rw h (missing-laid l)
+  missing-laid (more {at} {v = v} q h w l) = rw (lt-ltb 0 (spanOf (octetsOf v) at .to) (omega arith)) (missing-laid l)
+
+  pub values-laid : {at : ℕ} {t : List Row} {vs : List Given} → Laid s at t vs → valuesIn t s (spansOf vs at) ≡ vs
+  unfolding spansOf valuesIn valueIn
+  values-laid (ends h) = refl
+  values-laid (skip h l) = ap (λ (x : List Given). absent ∷ x) (values-laid l)
+  values-laid (more {at} {v = v} q h w l) = rw (lt-ltb 0 (spanOf (octetsOf v) at .to) (omega arith), ← w, values-laid l)
+
+-- ---- by the table
+
+module _ (t : List Row) {s : List ℕ} where
+  scan-laid : (k : ℕ) {at : ℕ} {rs : List Row} {vs : List Given} → Placed t k rs → Laid s at rs vs → got tt ≡ scanAt t s (present vs) at
+  unfolding scanAt present
+  scan-laid k p (ends h) = ends-back s _ h
+  scan-laid k p (skip h l) = scan-laid (suc k) (p .1) l
+  scan-laid k p (more {r = r} q h w l) =
+      let e : kindOf t (r .id) ≡ r .kind = ap (λ (j : ℕ). getD t j noRow .kind) (p .0 .found) ∙ ap (λ (x : Row). x .kind) (p .0 .row) in
+      past _ _ q (past _ tt (of-kind _ _ e (value-read (r .kind) _ _ w)) (scan-laid (suc k) (p .1) l))
+
+  front-laid : (k row : ℕ) → row ≤ k → {at : ℕ} {rs : List Row} {vs : List Given} → Placed t k rs → Laid s at rs vs → front t row (headsOf rs vs at) ≡ headsOf rs vs at
+  unfolding front headsOf
+  front-laid k row b p (ends h) = refl
+  front-laid k row b p (skip h l) = front-laid (suc k) row (omega arith) (p .1) l
+  front-laid k row b p (more q h w l) =
+      rw (p .0 .found, lt-ltb k (length t) (p .0 .within), le-ltb k row b, front-laid (suc k) (k + 1) (omega arith) (p .1) l)
+
+  unknown-laid : (k : ℕ) {at : ℕ} {rs : List Row} {vs : List Given} → Placed t k rs → Laid s at rs vs → unknownOf t (headsOf rs vs at) ≡ []
+  unfolding unknownOf headsOf
+  unknown-laid k p (ends h) = refl
+  unknown-laid k p (skip h l) = unknown-laid (suc k) (p .1) l
+  unknown-laid k p (more q h w l) = rw (p .0 .found, lt-ltb k (length t) (p .0 .within), unknown-laid (suc k) (p .1) l)
+
+  -- behind the places of the k rows before
+  read-laid : (k : ℕ) (before : List Span) → length before ≡ k → {at : ℕ} {rs : List Row} {vs : List Given} → Placed t k rs → Laid s at rs vs
+      → readInto t (before ++ replicate (length rs) noSpan) (headsOf rs vs at) ≡ before ++ spansOf vs at
+  unfolding readInto headsOf spansOf
+  read-laid k before e p (ends h) = refl
+  read-laid k before e p (skip h l) =
+      simp append-assoc at (read-laid (suc k) (before ++ noSpan ∷ []) (length-append before _ ∙ (omega arith)) (p .1) l)
+  read-laid k before e p (more {at} {r} {t = rs} {v} {vs} q h w l) =
+      let x : Span = spanOf (octetsOf v) at in
+      let z : set (before ++ noSpan ∷ replicate (length rs) noSpan) (find (r .id) t) x ≡ (before ++ x ∷ []) ++ replicate (length rs) noSpan =
+      ap (λ (j : ℕ). set (before ++ noSpan ∷ replicate (length rs) noSpan) j x) (p .0 .found)
+      ∙ (set-at before noSpan _ x k e ∙ sym (append-assoc before (x ∷ []) _)) in
+      ap (λ (l : List Span). readInto t l (headsOf rs vs (x .to))) z
+      ∙ (read-laid (suc k) (before ++ x ∷ []) (length-append before _ ∙ (omega arith)) (p .1) l ∙ append-assoc before (x ∷ []) _)
+
+-- ---- the judging
+
+pub elements-back : (t : List Row) → apart alike t ≡ true → {s : List ℕ} {at : ℕ} {vs : List Given} → Laid s at t vs
+    → got (record { place = present vs; spans = spansOf vs at; listed = [] }) ≡ elementsAt t s (present vs) at
+unfolding elementsAt judgedOf
+elements-back t d {s} {at} {vs} l =
+    let p = placed t d in
+    past _ tt (scan-laid t 0 p l)
+    (ap (λ (f : Found). got f)
+    (rw (heads-laid l, front-laid t 0 0 (omega arith) p l, heads-length l, eq-eqb (present vs) (present vs) refl, read-laid t 0 [] refl p l, unknown-laid t 0 p l, missing-laid l)))

@@ -1,0 +1,16 @@
+pub mod Each
+pub mod ValueBack
+pub mod Bridge
+pub mod Placed
+pub mod Laid
+pub mod ElementsBack
+pub mod FrameBack
+pub mod Back
+pub mod ValueAgain
+pub mod EnvelopeAgain
+pub mod Ordered
+pub mod Rows
+pub mod ElementsAgain
+pub mod GoodAgain
+pub mod Accepted
+pub mod Again

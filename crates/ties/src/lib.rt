@@ -1,0 +1,1 @@
+// The ties between reading and writing. No code: theorems over the definitions.
