@@ -281,7 +281,7 @@ fn list_in(s: &[u8], v: Span) -> Listed
     }
 }
 
-fn no_items() -> Items
+pub fn no_items() -> Items
     ensures { λ r. ⌜ r ≡ noItems ⌝ }
 {
     let none = Item {
@@ -294,7 +294,7 @@ fn no_items() -> Items
     }
 }
 
-fn no_entries() -> Entries
+pub fn no_entries() -> Entries
     ensures { λ r. ⌜ r ≡ noEntries ⌝ }
 {
     let none = Entry {
