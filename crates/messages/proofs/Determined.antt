@@ -14,6 +14,8 @@ use Rattle.messages.proofs.inside.Kinds as inside'
 use Rattle.messages.proofs.inside.Reads as inside
 use Rattle.messages.proofs.read.Kinds as read'
 use Rattle.messages.proofs.read.Reads as read
+use Rattle.messages.proofs.bare.Kinds as bare'
+use Rattle.messages.proofs.bare.Reads as bare
 
 one-frame : {x y : FrameRead} → foundFrame x ≡ foundFrame y → x ≡ y
 one-frame = one-found foundFrame back undo
@@ -34,3 +36,6 @@ inside-is κs a p x y e f = (e same f) & refl
 
 pub read-is : Determined read'.ps read'.r read.Asked read.Learnt
 read-is κs a p x y e f = (e same f) & refl
+
+pub bare-is : Determined bare'.ps bare'.r bare.Asked bare.Learnt
+bare-is κs a p x y e f = (e same f) & refl

@@ -3,9 +3,7 @@ ghost use mathlib.Core.Path.{_≡_};
 ghost use Rattle.octets.specs.Found.{foundOctet, foundTwo};
 ghost use Rattle.messages.specs.Frame.{foundFrame, kindAt, frameAt, countAt};
 ghost use Rattle.messages.specs.Verdict.{without, outcomeBy, insideOf, readOf};
-ghost use Rattle.records.specs.Records.{noEntries};
 use diagnostics::Entries;
-use diagnostics::Entry;
 use octets::Gate;
 use octets::Octet;
 use octets::Open;
@@ -136,28 +134,14 @@ fn wide(x: u16) -> usize
     x as usize
 }
 
-fn no_entries() -> Entries
-    ensures { λ r. ⌜ r ≡ noEntries ⌝ }
-{
-    let none = Entry {
-        crit: 0,
-        id: 0,
-        error: 0,
-    };
-    Entries {
-        rows: [none; 256],
-        count: 0,
-    }
-}
-
 // Answers 1 to 4 carry no record.
-fn bare(outcome: Outcome) -> Verdict
+pub fn bare(outcome: Outcome) -> Verdict
     ensures { λ r. ⌜ r ≡ without outcome ⌝ }
 {
     Verdict {
         outcome: outcome,
         message: records::no_record(),
-        noted: no_entries(),
+        noted: records::no_entries(),
     }
 }
 

@@ -19,6 +19,8 @@ use Rattle.table.proofs.stop.Kinds as stop'
 use Rattle.table.proofs.stop.Reads as stop
 use Rattle.table.proofs.identities_apart.Kinds as identities-apart'
 use Rattle.table.proofs.identities_apart.Reads as identities-apart
+use Rattle.table.proofs.is_full.Kinds as is-full'
+use Rattle.table.proofs.is_full.Reads as is-full
 
 pub empty-is : Determined empty'.ps empty'.r empty.Asked empty.Learnt
 empty-is κs a p x y e f = (e same f) & refl
@@ -46,3 +48,6 @@ stop-is κs a p x y e f = (e same f) & refl
 
 pub identities-apart-is : Determined identities-apart'.ps identities-apart'.r identities-apart.Asked identities-apart.Learnt
 identities-apart-is κs a p x y e f = (e same f) & refl
+
+pub is-full-is : Determined is-full'.ps is-full'.r is-full.Asked is-full.Learnt
+is-full-is κs a p x y e f = (e same f) & refl

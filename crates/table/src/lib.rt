@@ -4,7 +4,7 @@ ghost use mathlib.Core.List.{[]};
 ghost use Prim.Native.Nat.{min};
 ghost use lib.ListN.{length};
 ghost use Rattle.lists.specs.Lists.{some};
-ghost use Rattle.table.specs.Table.{held, tableOf, names, unnamed, starting, stopping, holdsMme, holdsMce, holdsPair, distinctHeld};
+ghost use Rattle.table.specs.Table.{held, tableOf, names, unnamed, full, starting, stopping, holdsMme, holdsMce, holdsPair, distinctHeld};
 use identity::Item;
 use identity::Mce;
 use identity::MceId;
@@ -142,6 +142,13 @@ fn without_one(t: Table, item: Item) -> Table
     }
     out.count = k;
     out
+}
+
+// There is no room for one more.
+pub fn is_full(t: Table) -> bool
+    ensures { λ r. ⌜ r ≡ full (held t) ⌝ }
+{
+    256 <= t.count
 }
 
 // The association stands behind those that are held; a full table stays as it is.

@@ -1,0 +1,9 @@
+-- For each public function: any two results that its statement allows are equal.
+-- Assumes nothing.
+use mathlib.Core.Path.{refl}
+use Rattle.lists.proofs.Unique.{Determined, _same_, _&_}
+use Rattle.carry.proofs.decide.Kinds as decide'
+use Rattle.carry.proofs.decide.Reads as decide
+
+pub decide-is : Determined decide'.ps decide'.r decide.Asked decide.Learnt
+decide-is κs a p x y e f = (e same f) & refl

@@ -1,0 +1,16 @@
+-- `carry::rejected` meets its contract. By the case, what was called says it. Assumes nothing.
+use borrow.Author.Needs.{needs}
+use Rattle.carry.proofs.rejected.Statement.{statement}
+use Rattle.carry.proofs.rejected.Tie as tie
+
+rejection-requires : tie.Need-rejection-requires
+rejection-requires c κs = search needs
+
+keeps-requires : tie.Need-keeps-requires
+keeps-requires c κs = search needs
+
+returns : tie.Need-returns
+returns c = rw (c .before .rejection .ensures) at (c .keeps .ensures)
+
+pub rejected-spec : {M : Type 1} → statement M
+rejected-spec = tie.close (tie.spec rejection-requires keeps-requires returns)
