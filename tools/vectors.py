@@ -1,5 +1,6 @@
 #!/usr/bin/env python3
-"""vectors.py FILE..: writes crates/vectors/stdin (each message behind its length in two octets) and crates/vectors/stdout (what must be read of it).
+"""vectors.py FILE..: writes crates/vectors/stdin (each message behind its length in two octets) and crates/vectors/stdout (what must be read of it),
+and crates/rewrite/stdin and stdout: each message that another program encoded, and the same octets in hexadecimal.
 A FILE is one of messages that another program encoded, one JSON object a line (hex, kind, procedure, criticality, octets, the elements' meanings),
 or a text with lines 'read HEX => answer=N offset=K', or '=> answer=N NAME frame=C ID:VALUE .. noted=[..]' with what was read."""
 import json, re, sys
@@ -75,7 +76,7 @@ def read(said):
     front = answer + ''.join(' ' + w for w in words[1:])
     return front + ' none frame=0 items: entries: noted:'
 
-with open('crates/vectors/stdin', 'wb') as data, open('crates/vectors/stdout', 'w') as wanted:
+with open('crates/vectors/stdin', 'wb') as data, open('crates/vectors/stdout', 'w') as wanted, open('crates/rewrite/stdin', 'wb') as again, open('crates/rewrite/stdout', 'w') as same:
     def add(octets, wants):
         data.write(len(octets).to_bytes(2, 'big') + octets)
         wanted.write(wants + '\n')
@@ -84,5 +85,8 @@ with open('crates/vectors/stdin', 'wb') as data, open('crates/vectors/stdout', '
             if path.endswith('.jsonl'):
                 m = json.loads(text)
                 add(bytes.fromhex(m['hex']), line(m))
+                if m['octets'] <= 8192:
+                    again.write(m['octets'].to_bytes(2, 'big') + bytes.fromhex(m['hex']))
+                    same.write('answer=0 ' + m['hex'].lower() + '\n')
             elif m := re.match(r'\s+read ([0-9a-f ]+) => (.*)', text):
                 add(bytes.fromhex(m.group(1)), read(m.group(2)))

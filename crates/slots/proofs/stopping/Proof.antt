@@ -1,0 +1,24 @@
+-- `slots::stopping` meets its contract. It follows from what was called, and by computing. Assumes nothing.
+use borrow.Author.Needs.{needs}
+use Rattle.slots.proofs.stopping.Statement.{statement}
+use Rattle.slots.proofs.stopping.Tie as tie
+
+mme-value-requires : tie.Need-mme-value-requires
+mme-value-requires c κs = search needs
+
+mce-value-requires : tie.Need-mce-value-requires
+mce-value-requires c κs = search needs
+
+carried-value-requires : tie.Need-carried-value-requires
+carried-value-requires c κs = search needs
+
+four-requires : tie.Need-four-requires
+four-requires c κs = search needs
+
+returns : tie.Need-returns
+returns c = rw (c .four .ensures, c .before .carried-value .ensures, c .before .before .mce-value .ensures, c .before .before .before .mme-value .ensures)
+
+pub stopping-spec : {M : Type 1} → statement M
+stopping-spec =
+    tie.close
+    (tie.spec mme-value-requires mce-value-requires carried-value-requires four-requires returns)

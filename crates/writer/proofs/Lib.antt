@@ -1,0 +1,5 @@
+pub mod Steps
+pub mod Rows
+pub mod Plans
+pub mod Messages
+pub mod Determined

@@ -1,0 +1,69 @@
+#!/usr/bin/env python3
+"""calls.py FILE..: writes crates/played/stdin (entries of offer, room, length, message; a length of 65,535 begins anew) and crates/played/stdout (what each call must give):
+the lines 'call OFFERED ROOM HEX => ..' of a FILE, each on an empty table, and 01's bench examples of calls. Encodes by hand, from 000 and X.691."""
+import re, sys
+
+def two(n): return n.to_bytes(2, 'big')
+def length(n): return bytes([n]) if n < 128 else bytes([0x80 | n >> 8, n & 255])
+def element(id, crit, value): return two(id) + bytes([crit << 6]) + length(len(value)) + value
+def message(kind, code, crit, elements):
+    inside = b'\0' + two(len(elements)) + b''.join(elements)
+    return bytes([kind << 5, code, crit << 6]) + length(len(inside)) + inside
+
+REJECT, IGNORE = 0, 1
+def mme(n, crit): return element(0, crit, two(n))
+def mce(n, crit): return element(1, crit, two(n))
+def item(m, c): return bytes([(m is not None) << 6 | (c is not None) << 5]) + b''.join(two(x) for x in (m, c) if x is not None)
+def items(list, crit): return bytes([len(list) - 1]) + b''.join(element(14, crit, item(*i)) for i in list)
+
+def start(m): return message(0, 0, REJECT, [mme(m, REJECT), element(2, REJECT, bytes(7))] + [element(i, REJECT, b'\1') for i in (4, 5, 6, 16, 7)])
+def started(m, c): return message(1, 0, REJECT, [mme(m, IGNORE), mce(c, IGNORE)])
+def failed(m, cause): return message(2, 0, REJECT, [mme(m, IGNORE), element(9, IGNORE, bytes([cause]))])
+def stop(m, c): return message(0, 1, REJECT, [mme(m, REJECT), mce(c, REJECT)])
+def stopped(m, c): return message(1, 1, REJECT, [mme(m, IGNORE), mce(c, IGNORE)])
+def reset(list): return message(0, 4, REJECT, [element(9, IGNORE, b'\x42'), element(13, REJECT, b'\x40' + items(list, REJECT))])
+def acknowledged(list): return message(1, 4, REJECT, [element(15, IGNORE, items(list, IGNORE))] if list else [])
+WHOLE = message(0, 4, REJECT, [element(9, IGNORE, b'\x42'), element(13, REJECT, b'\0')])
+
+with open('crates/played/stdin', 'wb') as data, open('crates/played/stdout', 'w') as wanted:
+    def anew():
+        data.write(two(0) + two(0) + two(65535))
+
+    def call(offered, room, octets, said):
+        data.write(two(offered) + two(room) + two(len(octets)) + octets)
+        wanted.write(said + '\n')
+
+    def gives(offered, room, octets, answer, reply, held):
+        call(offered, room, octets, f'answer={answer} offset=- reply={reply.hex()} held={held}')
+
+    for path in sys.argv[1:]:
+        for text in open(path):
+            if m := re.match(r'\s+call (\d+) (\d+) ([0-9a-f ]+) => (.*)', text):
+                anew()
+                call(int(m.group(1)), int(m.group(2)), bytes.fromhex(m.group(3)), m.group(4))
+    # held (1, 3): the item (1, 2) removes nothing and is acknowledged
+    anew()
+    gives(3, 8192, start(1), 0, started(1, 3), 1)
+    gives(0, 8192, reset([(1, 2)]), 0, acknowledged([(1, 2)]), 1)
+    gives(0, 8192, reset([(1, 3)]), 0, acknowledged([(1, 3)]), 0)
+    # a room of 20 for the 21 octets: 10, and nothing is removed
+    gives(2, 8192, start(1), 0, started(1, 2), 1)
+    gives(0, 20, reset([(1, 2)]), 10, b'', 1)
+    gives(0, 21, reset([(1, 2)]), 0, acknowledged([(1, 2)]), 0)
+    # 255 held and a fresh start: 0; 256 held: 9; both identities held: 6; the offered one: 7
+    anew()
+    for k in range(256):
+        gives(1000 + k, 8192, start(k), 0, started(k, 1000 + k), k + 1)
+    gives(5000, 8192, start(300), 9, failed(300, 0x03), 256)
+    gives(1000, 8192, start(5), 6, failed(5, 0x00), 256)
+    gives(1000, 8192, start(300), 7, b'', 256)
+    # 256 items pass: every other association is named, by one identity, the other or both; items without an identity are left out
+    named = [(k, None) if k % 3 == 0 else (None, 1000 + k) if k % 3 == 1 else (k, 1000 + k) for k in range(0, 256, 2)]
+    rest = [(k, 1001 + k) for k in range(1, 127)] + [(None, None), (None, None)]
+    gives(0, 8192, reset(named + rest), 0, acknowledged(named + rest[:-2]), 128)
+    gives(0, 8192, stop(1, 1001), 0, stopped(1, 1001), 127)
+    gives(0, 8192, stop(0, 1000), 8, message(0, 2, IGNORE, [mme(0, IGNORE), mce(1000, IGNORE), element(9, IGNORE, b'\x02')]), 127)
+    # room that is freed is used again
+    gives(1000, 8192, start(0), 0, started(0, 1000), 128)
+    gives(0, 8192, WHOLE, 0, acknowledged([]), 0)
+    gives(0, 8192, reset([(None, None)]), 0, acknowledged([]), 0)
