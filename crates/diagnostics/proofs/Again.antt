@@ -12,7 +12,7 @@ use Rattle.octets.specs.Read.{got}
 use Rattle.octets.specs.Field.{numberAt, endsAt}
 use Rattle.octets.specs.Write.{numberOctets}
 use Rattle.octets.specs.Stands.{Stands, Octets}
-use Rattle.octets.proofs.ManyLaws.{Each}
+use Rattle.octets.specs.Many.{Each}
 use Rattle.octets.proofs.Chain.{then-got, same-got}
 use Rattle.octets.proofs.Got.{number-got, ends-got}
 use Rattle.octets.proofs.Stood.{stands-none, stands-join}

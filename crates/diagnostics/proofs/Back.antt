@@ -11,7 +11,7 @@ use lib.ListN.{length, length-append, drop-of-length-le}
 use Rattle.octets.specs.Read.{got}
 use Rattle.octets.specs.Write.{numberOctets}
 use Rattle.octets.specs.Stands.{Stands}
-use Rattle.octets.proofs.ManyLaws.{Each}
+use Rattle.octets.specs.Many.{Each}
 use Rattle.octets.proofs.Chain.{past}
 use Rattle.octets.proofs.Stood.{stands-split}
 use Rattle.octets.proofs.Back.{number-back, ends-back, length-number}

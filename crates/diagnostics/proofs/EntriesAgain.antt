@@ -13,9 +13,8 @@ use Rattle.octets.specs.Read.{got}
 use Rattle.octets.specs.Field.{bitsOf, padAt, endsAt}
 use Rattle.octets.specs.Write.{Field, _bits_, bit, widths, packed, numberOctets}
 use Rattle.octets.specs.Stands.{Stands, Octets}
-use Rattle.octets.specs.Many.{Part, many}
+use Rattle.octets.specs.Many.{Part, many, Each}
 use Rattle.octets.proofs.Packed.{fieldsOf}
-use Rattle.octets.proofs.ManyLaws.{Each}
 use Rattle.octets.proofs.Chain.{then-got, same-got}
 use Rattle.octets.proofs.Got.{plain-got, choice-got, pad-got, number-got, ends-got}
 use Rattle.octets.proofs.Stood.{stands-join}

@@ -15,8 +15,7 @@ use Rattle.octets.specs.Read.{got}
 use Rattle.octets.specs.Field.{padAt}
 use Rattle.octets.specs.Write.{Field, _bits_, bit, widths, packed, Fit, numberOctets}
 use Rattle.octets.specs.Stands.{Stands}
-use Rattle.octets.specs.Many.{many}
-use Rattle.octets.proofs.ManyLaws.{Each}
+use Rattle.octets.specs.Many.{many, Each}
 use Rattle.octets.proofs.Chain.{past}
 use Rattle.octets.proofs.Stood.{stands-split}
 use Rattle.octets.proofs.Back.{number-back, ends-back, length-number}

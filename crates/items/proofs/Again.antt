@@ -12,7 +12,7 @@ use lib.Seq.{length-take-le}
 use Rattle.lists.specs.Lists.{pick}
 use Rattle.octets.specs.Read.{Read, got, stop, noMeaning, _>>=_}
 use Rattle.octets.specs.Field.{bitsOf, bitsAt, flagAt, plainAt, choiceAt, padAt, numberAt, sameAt, openAt, endsAt}
-use Rattle.octets.specs.Many.{Part, many}
+use Rattle.octets.specs.Many.{Part, many, eachOctets, Each}
 use Rattle.octets.specs.Write.{_bits_, bit, packed, numberOctets, lengthOctets}
 use Rattle.octets.specs.Stands.{Stands, Fills, Octets}
 use Rattle.octets.specs.declared.Span.{Span}
@@ -21,7 +21,7 @@ use Rattle.octets.proofs.Got.{held, flag-got, plain-got, choice-got, ends-got}
 use Rattle.octets.proofs.Stood.{stands-none, stands-join, stands-split, stands-front, octets-front}
 use Rattle.octets.proofs.Back.{length-number}
 use Rattle.octets.proofs.Again.{packed-again, pad-zero, number-again, open-again, fills-again}
-use Rattle.octets.proofs.ManyLaws.{eachOctets, Each, many-again}
+use Rattle.octets.proofs.ManyLaws.{many-again}
 use Rattle.identity.specs.declared.Item.{Item}
 use Rattle.items.specs.declared.Marks.{Marks}
 use Rattle.items.specs.declared.Maybe.{Maybe}

@@ -12,7 +12,8 @@ use Rattle.octets.specs.Stands.{Stands, Fills}
 use Rattle.octets.proofs.Chain.{past}
 use Rattle.octets.proofs.Stood.{stands-split, fills-front}
 use Rattle.octets.proofs.Back.{length-number, number-back, same-back, flag-back, choice-back, plain-back, rest-back, open-back, ends-back}
-use Rattle.octets.proofs.ManyLaws.{eachOctets, many-back}
+use Rattle.octets.specs.Many.{eachOctets}
+use Rattle.octets.proofs.ManyLaws.{many-back}
 use Rattle.identity.specs.declared.Mme.{Mme}
 use Rattle.identity.specs.declared.Mme.the-variants as mme
 use Rattle.identity.specs.declared.Mce.{Mce}

@@ -6,9 +6,8 @@ use mathlib.Core.List.{List, [], _∷_, _++_}
 use lib.ListN.{length}
 use Rattle.octets.specs.Read.{Read, got, _>>=_}
 use Rattle.octets.specs.Field.{choiceAt, numberAt, openAt}
-use Rattle.octets.specs.Many.{Part, many}
+use Rattle.octets.specs.Many.{Part, many, eachOctets, Each}
 use Rattle.octets.specs.Write.{_bits_, bit, packed, numberOctets, lengthOctets}
-use Rattle.octets.proofs.ManyLaws.{eachOctets, Each}
 use Rattle.identity.specs.declared.Mme.{Mme}
 use Rattle.identity.specs.declared.Mme.the-variants as mme
 use Rattle.identity.specs.declared.Mce.{Mce}

@@ -11,7 +11,7 @@ use native.Mathlib.Omega.{arith}
 use native.Mathlib.Nat.{add-zero}
 use lib.ListN.{length, length-append}
 use Rattle.octets.specs.Read.{Read, got, stop, _>>=_, _>>_}
-use Rattle.octets.specs.Many.{Part, many}
+use Rattle.octets.specs.Many.{Part, many, eachOctets, Each}
 use Rattle.octets.specs.Stands.{Stands}
 use Rattle.octets.specs.declared.Stop.{Stop}
 use Rattle.octets.proofs.Chain.{past, then-got, same-got}
@@ -48,16 +48,6 @@ module _ {A : Type 0} (one : ℕ → Read (Part A)) (ys : List A) (m at : ℕ) w
 
       suc-one : (n : ℕ) → before (ys ++ p .value ∷ []) (many one n (p .next)) ≡ before ys (many one (suc n) at)
       suc-one n = rw (← q) (both (many one n (p .next)))
-
--- the octets of each, one after another
-abbrev pub eachOctets : {A : Type 0} → (A → List ℕ) → List A → List ℕ
-eachOctets octets [] = []
-eachOctets octets (v ∷ vs) = octets v ++ eachOctets octets vs
-
--- each is good
-abbrev pub Each : {A : Type 0} → (A → Type 0) → List A → Type 0
-Each Good [] = Unit
-Each Good (v ∷ vs) = Good v × Each Good vs
 
 pub many-each : {A : Type 0} (one : ℕ → Read (Part A)) (Good : A → Type 0) → ((at : ℕ) (p : Part A) → got p ≡ one at → Good (p .value))
     → (n at : ℕ) (p : Part (List A)) → got p ≡ many one n at → (length (p .value) ≡ n) × Each Good (p .value)

@@ -4,4 +4,3 @@ pub mod Field
 pub mod Many
 pub mod Write
 pub mod Stands
-pub mod Examples

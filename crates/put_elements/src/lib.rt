@@ -6,7 +6,7 @@ ghost use lib.ListN.{length};
 ghost use Rattle.lists.specs.Lists.{pick};
 ghost use Rattle.octets.specs.Write.{lengthOctets, Wrote};
 ghost use Rattle.said.specs.Value.{octetsOf, counted, under3, entryGood, entriesGood};
-ghost use Rattle.said.specs.Said.{itemsSaid, entriesSaid, octetsIn};
+ghost use Rattle.said.specs.Said.{entriesSaid, octetsIn};
 ghost use Rattle.slots.specs.Slots.{plainIn};
 ghost use Rattle.put_elements.specs.Sizes.{sizeOf, listOf, partOf, diagnosticsWith, headOctets};
 use diagnostics::Entries;

@@ -13,7 +13,7 @@ use Rattle.octets.specs.Write.{_bits_, bit, packed, packedIn, placed, numberOct
 use Rattle.octets.proofs.Packed.{together}
 use Rattle.octets.proofs.Back.{length-number}
 use Rattle.octets.proofs.Writing.{wrote-then, length-short}
-use Rattle.octets.proofs.ManyLaws.{eachOctets}
+use Rattle.octets.specs.Many.{eachOctets}
 use Rattle.identity.specs.declared.Item.{Item}
 use Rattle.items.specs.Written.{itemOctets, itemElementOctets, itemsOctets}
 use Rattle.items.proofs.Back.{item-size}

@@ -4,7 +4,7 @@ use mathlib.Core.Path.{_≡_}
 use mathlib.Core.Bool.{false}
 use mathlib.Core.List.{List, [], _∷_}
 use Rattle.octets.specs.Stands.{Octets}
-use Rattle.octets.proofs.ManyLaws.{Each}
+use Rattle.octets.specs.Many.{Each}
 use Rattle.items.specs.Items.{ResetType, whole, part}
 use Rattle.items.specs.Written.{GoodItem}
 use Rattle.diagnostics.specs.declared.Entry.{Entry}

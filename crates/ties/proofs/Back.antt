@@ -14,7 +14,7 @@ use Rattle.octets.specs.Read.{got}
 use Rattle.octets.specs.Stands.{Fills}
 use Rattle.octets.specs.declared.Span.{Span}
 use Rattle.octets.proofs.Chain.{past}
-use Rattle.octets.proofs.ManyLaws.{Each}
+use Rattle.octets.specs.Many.{Each}
 use Rattle.items.specs.Items.{ResetType, whole, part}
 use Rattle.elements.specs.declared.Row.{Row}
 use Rattle.elements.specs.Judge.{Found}

@@ -16,7 +16,7 @@ use Rattle.octets.specs.Stands.{Octets}
 use Rattle.octets.specs.declared.Stop.{Stop}
 use Rattle.octets.specs.declared.Span.{Span}
 use Rattle.octets.proofs.Stood.{octets-front}
-use Rattle.octets.proofs.ManyLaws.{Each}
+use Rattle.octets.specs.Many.{Each}
 use Rattle.identity.specs.declared.Mme.the-variants as mme
 use Rattle.identity.specs.declared.Mce.the-variants as mce
 use Rattle.identity.specs.declared.Session.the-variants as session
@@ -86,7 +86,7 @@ Held (given v) = HeldValue v
 Held absent = Unit
 
 -- an array that a list fills says the list
-said-fill : {A : Type 0} (d : A) (l : List A) → length l ≤ 256 → take (length l) (l ++ replicate (256 - length l) d) ++ replicate (length l - 256) d ≡ l
+pub said-fill : {A : Type 0} (d : A) (l : List A) → length l ≤ 256 → take (length l) (l ++ replicate (256 - length l) d) ++ replicate (length l - 256) d ≡ l
 said-fill d l h =
     let z : length l - 256 ≡ 0 = omega arith in
     rw (z, take-at l (replicate (256 - length l) d) (length l) refl) (append-nil l)

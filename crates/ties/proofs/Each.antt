@@ -6,7 +6,7 @@ use mathlib.Core.List.{List, [], _∷_}
 use borrow.Author.Tests.{not-false}
 use Rattle.lists.specs.Lists.{some}
 use Rattle.lists.proofs.Tests.{or-left, or-right}
-use Rattle.octets.proofs.ManyLaws.{Each}
+use Rattle.octets.specs.Many.{Each}
 
 pub each-pass : {A : Type 0} (p : A → Bool) (l : List A) → some (λ (a : A). not (p a)) l ≡ false → Each (λ (a : A). p a ≡ true) l
 each-pass p [] e = tt

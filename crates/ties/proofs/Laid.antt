@@ -16,7 +16,7 @@ use Rattle.octets.specs.declared.Span.{Span}
 use Rattle.octets.proofs.Chain.{past}
 use Rattle.octets.proofs.Stood.{stands-split, fills-front}
 use Rattle.octets.proofs.Back.{length-number, number-back, choice-back, rest-back, open-back}
-use Rattle.octets.proofs.ManyLaws.{Each}
+use Rattle.octets.specs.Many.{Each}
 use Rattle.elements.specs.declared.Row.{Row}
 use Rattle.elements.specs.declared.Head.{Head}
 use Rattle.elements.specs.Envelope.{criticalityAt, envelopeAt}

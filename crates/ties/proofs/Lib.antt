@@ -14,3 +14,4 @@ pub mod ElementsAgain
 pub mod GoodAgain
 pub mod Accepted
 pub mod Again
+pub mod ExamplesHold

@@ -14,7 +14,7 @@ use Rattle.octets.specs.Read.{Read, got}
 use Rattle.octets.specs.Field.{endsAt}
 use Rattle.octets.specs.declared.Span.{Span}
 use Rattle.octets.proofs.Chain.{then-got}
-use Rattle.octets.proofs.ManyLaws.{Each}
+use Rattle.octets.specs.Many.{Each}
 use Rattle.kinds.specs.Kinds.{valueAt}
 use Rattle.elements.specs.declared.Row.{Row}
 use Rattle.elements.specs.declared.Head.{Head}

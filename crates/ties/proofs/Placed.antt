@@ -11,7 +11,7 @@ use lib.Dec.{ltb, eqb}
 use lib.ListN.{length, getD}
 use Rattle.lists.specs.Lists.{some, apart}
 use Rattle.lists.proofs.Tests.{and-left, and-right, or-left, or-right}
-use Rattle.octets.proofs.ManyLaws.{Each}
+use Rattle.octets.specs.Many.{Each}
 use Rattle.elements.specs.declared.Row.{Row}
 use Rattle.elements.specs.Table.{find, noRow}
 use Rattle.tables.specs.declared.Message.{Message}

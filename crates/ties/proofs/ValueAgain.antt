@@ -13,7 +13,7 @@ use Rattle.lists.specs.Lists.{pick, some}
 use Rattle.octets.specs.Read.{Read, got, _>>=_}
 use Rattle.octets.specs.Stands.{Fills, Octets}
 use Rattle.octets.proofs.Chain.{past, then-got, same-got}
-use Rattle.octets.proofs.ManyLaws.{Each}
+use Rattle.octets.specs.Many.{Each}
 use Rattle.values.specs.Values.{mmeAt, mceAt, tmgiAt, sessionAt, causeAt}
 use Rattle.values.proofs.Again.{mme-again, mce-again, tmgi-again, session-again, cause-again}
 use Rattle.values.proofs.Good.{cause-good}
@@ -77,7 +77,7 @@ module _ (s : List ℕ) (at : ℕ) (o : Octets s) where
 both : {a b : Bool} → a ≡ true → b ≡ true → (a && b) ≡ true
 both e f = rw (e, f)
 
-counted-good : (n : ℕ) → 0 < n → n ≤ 256 → counted n ≡ true
+pub counted-good : (n : ℕ) → 0 < n → n ≤ 256 → counted n ≡ true
 counted-good n a b = both (lt-ltb 0 n a) (le-leb n 256 b)
 
 reset-has : (r : ResetType) → GoodReset r → resetGood r ≡ true
@@ -97,7 +97,7 @@ list-has : (b : Bool) (es : List Entry) → b ≡ ltb 0 (length es) → length e
 list-has false es e n g = refl
 list-has true es e n g = both (counted-good (length es) (ltb-true 0 (length es) (sym e)) n) (entries-has es g)
 
-diagnostics-has : (d : Diagnostics) → Good d → diagnosticsGood d ≡ true
+pub diagnostics-has : (d : Diagnostics) → Good d → diagnosticsGood d ≡ true
 diagnostics-has d g =
     both (both (under-has (d .head .trigger) (g .head .trigger)) (under-has (d .head .crit) (g .head .crit))) (list-has (d .head .listed) (d .entries) (g .listed) (g .count) (g .entries))
 

@@ -17,7 +17,7 @@ use Rattle.octets.specs.Stands.{Fills}
 use Rattle.octets.proofs.Chain.{past, then-got}
 use Rattle.octets.proofs.Stood.{fills-alone}
 use Rattle.octets.proofs.Got.{plain-got, number-got}
-use Rattle.octets.proofs.ManyLaws.{Each}
+use Rattle.octets.specs.Many.{Each}
 use Rattle.identity.specs.declared.MmeId.{MmeId}
 use Rattle.identity.specs.declared.MceId.{MceId}
 use Rattle.identity.specs.declared.Tmgi.{Tmgi}

@@ -6,7 +6,7 @@ use mathlib.Core.List.{List, [], _∷_}
 use lib.ListN.{take, getD}
 use Rattle.octets.specs.Read.{got}
 use Rattle.octets.specs.Stands.{Octets}
-use Rattle.octets.proofs.ManyLaws.{Each}
+use Rattle.octets.specs.Many.{Each}
 use Rattle.items.specs.Items.{ResetType, resetAt}
 use Rattle.items.specs.Written.{ignore, Marked, Rejecting}
 use Rattle.kinds.specs.declared.Kind.{Kind}

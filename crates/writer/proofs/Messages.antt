@@ -205,7 +205,7 @@ module _ (m : Message) (vs : List Given) where
           let y : r ≡ length (messageOctets m vs) = omega (arith, x .next) in
           let z : k ≡ messageOctets m vs ++ drop (length (messageOctets m vs)) l = x .octets ∙ sets-front l (messageOctets m vs) o in
           subst (λ (b : Bool). Writes (writtenIn l (pick b (octets (messageOctets m vs)) none)) (Done r) k) (sym (written h))
-          (rw (le-leb _ _ o) (record { answer = ap Done y; room = z }))
+          (rw (le-leb _ _ o) (record { answer = cc; room = z }))
 
 -- ---- what the record says
 

@@ -16,7 +16,7 @@ use Rattle.octets.proofs.Back.{length-number}
 use Rattle.values.specs.Written.{tmgiOctets, causeOctets}
 use Rattle.items.specs.Items.{whole, part}
 use Rattle.items.specs.Written.{ignore, itemElementOctets, itemsOctets, resetOctets}
-use Rattle.octets.proofs.ManyLaws.{eachOctets}
+use Rattle.octets.specs.Many.{eachOctets}
 use Rattle.diagnostics.specs.declared.Head.{Head}
 use Rattle.diagnostics.specs.Diagnostics.{after, behindTrigger, behindCode}
 use Rattle.diagnostics.specs.Written.{marksOf, headOctets, listOctets, diagnosticsOctets}

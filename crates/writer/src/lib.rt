@@ -1,10 +1,9 @@
 // A record, written: its octets stand in front of the lent room, and the rest of it keeps its own. Sizes are known before the first octet is put.
 ghost use mathlib.Core.Path.{_≡_};
 ghost use Prim.Native.Nat.{ℕ, _<_, _≤_};
-ghost use lib.ListN.{length, getD};
+ghost use lib.ListN.{length};
 ghost use Rattle.octets.specs.Write.{Wrote};
-ghost use Rattle.elements.specs.Table.{noRow};
-ghost use Rattle.said.specs.Said.{itemsSaid, entriesSaid, saidBy};
+ghost use Rattle.said.specs.Said.{saidBy};
 ghost use Rattle.said.specs.Written.{encoded, encodedAs};
 ghost use Rattle.writer.specs.Plan.{fitted, sizesOf, Small, stepOf, planTo, messageSize, frontOctets, Ready, rowOctets, joinTo, frameOctets};
 ghost use Rattle.writer.specs.Written.{writtenIn, Writes, givenIn};
@@ -208,11 +207,11 @@ fn write_message(
     match plan_of(rows, sizes) {
         Plan::None => Written::NotWritten,
         Plan::Is(count, sum) => {
-            let size = message_size(sum);
-            if 8192 < size {
+            let whole = message_size(sum);
+            if 8192 < whole {
                 return Written::NotWritten;
             }
-            if room.len() < size {
+            if room.len() < whole {
                 return Written::NoRoom;
             }
             let first = put_frame(room, m, sum + 3, count);

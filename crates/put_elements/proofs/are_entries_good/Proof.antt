@@ -1,14 +1,12 @@
 -- `put_elements::are_entries_good` meets its contract: the loop's invariant: none of the first i entries is bad. Assumes nothing.
-use borrow.Author.Tests.{not-true, not-false}
+use borrow.Author.Tests.{not-true, not-false, leb-true}
 use borrow.Author.Needs.{needs}
-use borrow.Author.Tests.{leb-true}
 use mathlib.Core.Bool.{not}
 use Rattle.lists.proofs.Tests.{and-right}
-use lib.Dec.{ltb}
+use lib.Dec.{ltb, leb}
 use mathlib.Core.Path.{_≡_, _∙_, sym, ap}
 use native.Mathlib.Omega.{arith}
 use Prim.Native.Nat.{_≤_, _-_}
-use lib.Dec.{leb}
 use lib.ListN.{length}
 use Rattle.lists.proofs.Slices.{length-of}
 use Rattle.lists.proofs.Search.{Sought, sought-none, sought-more, sought-found, sought-all}

@@ -8,7 +8,7 @@ use Prim.Native.Nat.{_≤_, _-_}
 use native.Mathlib.Omega.{arith}
 use Rattle.lists.proofs.Slices.{length-of}
 use Rattle.octets.specs.Write.{Wrote}
-use Rattle.octets.proofs.ManyLaws.{eachOctets}
+use Rattle.octets.specs.Many.{eachOctets}
 use Rattle.items.specs.Written.{itemElementOctets}
 use Rattle.put_values.specs.Put.{critOf}
 use Rattle.put_values.proofs.put_items.Statement.{statement}

@@ -1,5 +1,4 @@
 -- `writer::put_rows` meets its contract: the loop's invariant: the elements of the first i rows are written. Assumes nothing.
-use Rattle.writer.proofs.Steps.{wrote-within}
 use borrow.Author.Needs.{needs}
 use denote.Ref.{now}
 use mathlib.Core.Path.{_≡_}
@@ -12,7 +11,7 @@ use Rattle.lists.proofs.Slices.{length-of}
 use Rattle.octets.specs.Write.{Wrote}
 use Rattle.octets.proofs.Writing.{wrote-none, wrote-then, wrote-length}
 use Rattle.writer.specs.Plan.{rowOctets, joinTo}
-use Rattle.writer.proofs.Steps.{wrote-to}
+use Rattle.writer.proofs.Steps.{wrote-to, wrote-within}
 use Rattle.writer.proofs.Rows.{row-none, row-plain, row-part, row-list, row-diagnostics}
 use Rattle.writer.proofs.put_rows.Statement.{statement}
 use Rattle.writer.proofs.put_rows.Tie as tie

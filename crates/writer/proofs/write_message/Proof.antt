@@ -1,7 +1,7 @@
 -- `writer::write_message` meets its contract: by its plan the message is not written, has no room, or stands in front of the room. Assumes nothing.
 use Rattle.said.specs.Value.{Given}
 use mathlib.Core.List.{List}
-use Rattle.writer.proofs.Plans.{planned}
+use Rattle.writer.proofs.Plans.{planned, planned-is}
 use denote.Ref.{now}
 use mathlib.Core.Path.{_≡_, _∙_, sym}
 use lib.ListN.{length}
@@ -11,7 +11,6 @@ use Rattle.put_diagnostics.proofs.Putting.{wrote-as}
 use Rattle.tables.specs.Tables.{tableOf}
 use Rattle.writer.specs.Written.{givenIn}
 use Rattle.writer.proofs.Steps.{wrote-within}
-use Rattle.writer.proofs.Plans.{planned-is}
 use Rattle.writer.proofs.Messages.{planned-by, ready-by, joined-by, rows-short, plan-refuses, too-long, no-room, done}
 use borrow.Author.Needs.{needs}
 use Rattle.writer.proofs.write_message.Statement.{statement}

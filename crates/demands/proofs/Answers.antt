@@ -1,0 +1,167 @@
+-- The answers are those of 01's table: the first that is due is given, or 10 where its reply does not fit.
+-- Assumes nothing.
+use Prim.Native.Nat.{ℕ}
+use mathlib.Core.Path.{_≡_, refl}
+use mathlib.Core.Bool.{Bool, true, false, not}
+use mathlib.Core.List.{List}
+use lib.Dec.{ltb}
+use lib.ListN.{length}
+use Rattle.lists.specs.Lists.{pick}
+use Rattle.octets.specs.Read.{Read, got, stop}
+use Rattle.octets.specs.declared.Stop.the-variants.{Fault, Extension}
+use Rattle.identity.specs.declared.MceId.{MceId}
+use Rattle.identity.specs.declared.Mme.{Mme}
+use Rattle.identity.specs.declared.Mme.the-variants as mme
+use Rattle.identity.specs.declared.Mce.{Mce}
+use Rattle.identity.specs.declared.Mce.the-variants as mce
+use Rattle.diagnostics.specs.declared.Entries.{Entries}
+use Rattle.tables.specs.declared.Message.{Message}
+use Rattle.tables.specs.declared.Named.{Named}
+use Rattle.tables.specs.declared.Named.the-variants as named
+use Rattle.tables.specs.Tables.{namedBy}
+use Rattle.records.specs.declared.MaybeTmgi.{MaybeTmgi}
+use Rattle.records.specs.declared.MaybeTmgi.the-variants as tmgi
+use Rattle.records.specs.declared.MaybeReset.{MaybeReset}
+use Rattle.records.specs.declared.MaybeReset.the-variants as reset
+use Rattle.records.specs.declared.Start.{Start}
+use Rattle.records.specs.declared.Stopping.{Stopping}
+use Rattle.records.specs.declared.Resetting.{Resetting}
+use Rattle.records.specs.declared.Body.{Body}
+use Rattle.records.specs.declared.Body.the-variants as body
+use Rattle.records.specs.declared.Record.{Record}
+use Rattle.messages.specs.declared.Frame.{Frame}
+use Rattle.messages.specs.declared.Outcome.{Outcome}
+use Rattle.messages.specs.declared.Outcome.the-variants as outcome
+use Rattle.messages.specs.declared.Verdict.{Verdict}
+use Rattle.messages.specs.Frame.{frameAt}
+use Rattle.messages.specs.Verdict.{without, insideOf}
+use Rattle.table.specs.Table.{State, full, holdsMme, holdsMce, holdsPair}
+use Rattle.lent.specs.Lent.{Lent, Held, NoTable, readTable}
+use Rattle.judge.specs.declared.Judged.{Judged}
+use Rattle.judge.specs.Judge.{asks, noFrame, judgedBy, verdictBy, judgedIn, judgedOf}
+use Rattle.carry.specs.Carry.{Decided, started, stopped, carriedOut, decided}
+use Rattle.unit.specs.Answers.{numbered}
+use Rattle.unit.specs.Unit.{answerOf, settledIf, fits, settled, onTable, call}
+use Rattle.demands.specs.Due.{firstDue, dueFor, due, fitsIn, AnswersAs}
+use Rattle.demands.proofs.Settle.{judged}
+use Rattle.demands.proofs.Accepted.{IsMme, IsMce, IsTmgi, IsReset, Complete, Usual, inside-judged}
+
+abbrev number : Decided → ℕ
+number x = numbered (answerOf x) .number
+
+-- ---- the rules
+
+of-three : (a b d : Bool) (w x y z : Decided) → number (pick a w (pick b x (pick d y z))) ≡ pick a (number w) (pick b (number x) (pick d (number y) (number z)))
+of-three true b d w x y z = refl
+of-three false true d w x y z = refl
+of-three false false true w x y z = refl
+of-three false false false w x y z = refl
+
+of-two : (a : Bool) (x y : Decided) → number (pick a x y) ≡ pick (not a) (number y) (number x)
+of-two true x y = refl
+of-two false x y = refl
+
+-- over a table that holds l; of a message of at most 8,192 octets with the frame of a request
+module _ (l : State) (c : MceId) (s : List ℕ) (small : ltb 8192 (length s) ≡ false)
+    (f : Frame) (m : Message) (name : namedBy (f .kind) (f .code) ≡ named.Is m) (request : asks m ≡ true) (noted : Entries) where
+  start-due : (r : Record) (b : Start) (x : Mme) (i : MaybeTmgi) → IsMme x → IsTmgi i
+      → number (carriedOut l c f noted (record { body = body.StartRequest (record { mme = x; tmgi = i; session = b .session; carried = b .carried }); crit = r .crit; items = r .items; entries = r .entries }))
+      ≡ firstDue (dueFor (Held l) s (got f) outcome.Accepted (body.StartRequest (record { mme = x; tmgi = i; session = b .session; carried = b .carried })) c)
+  unfolding carriedOut started
+  start-due r b (mme.Is x) (tmgi.Is i) g h = rw (small, name, request) (of-three (holdsMme x l) (holdsMce c l) (full l) _ _ _ _)
+  start-due r b (mme.Is x) tmgi.Absent g h = absurd h
+  start-due r b mme.Absent i g h = absurd g
+
+  stop-due : (r : Record) (b : Stopping) (x : Mme) (y : Mce) → IsMme x → IsMce y
+      → number (carriedOut l c f noted (record { body = body.StopRequest (record { mme = x; mce = y; time = b .time }); crit = r .crit; items = r .items; entries = r .entries }))
+      ≡ firstDue (dueFor (Held l) s (got f) outcome.Accepted (body.StopRequest (record { mme = x; mce = y; time = b .time })) c)
+  unfolding carriedOut stopped
+  stop-due r b (mme.Is x) (mce.Is y) g h = rw (small, name, request) (of-two (holdsPair x y l) _ _)
+  stop-due r b (mme.Is x) mce.Absent g h = absurd h
+  stop-due r b mme.Absent y g h = absurd g
+
+  reset-due : (r : Record) (b : Resetting) (x : MaybeReset) → IsReset x
+      → number (carriedOut l c f noted (record { body = body.Reset (record { cause = b .cause; reset = x }); crit = r .crit; items = r .items; entries = r .entries }))
+      ≡ firstDue (dueFor (Held l) s (got f) outcome.Accepted (body.Reset (record { cause = b .cause; reset = x })) c)
+  unfolding carriedOut
+  reset-due r b reset.Whole g = rw (small, name, request)
+  reset-due r b reset.Part g = rw (small, name, request)
+  reset-due r b reset.Absent g = absurd g
+
+  asked-due : (r : Record) (b : Body) → Complete b
+      → number (carriedOut l c f noted (record { body = b; crit = r .crit; items = r .items; entries = r .entries })) ≡ firstDue (dueFor (Held l) s (got f) outcome.Accepted b c)
+  unfolding carriedOut
+  asked-due r (body.StartRequest b) g = start-due r b (b .mme) (b .tmgi) (g .0) (g .1)
+  asked-due r (body.StopRequest b) g = stop-due r b (b .mme) (b .mce) (g .0) (g .1)
+  asked-due r (body.Reset b) g = reset-due r b (b .reset) g
+  asked-due r (body.ErrorIndication b) g = rw (small, name, request)
+  asked-due r (body.StartResponse b) g = absurd g
+  asked-due r (body.StartFailure b) g = absurd g
+  asked-due r (body.StopResponse b) g = absurd g
+  asked-due r (body.ResetAcknowledge b) g = absurd g
+  asked-due r body.None g = absurd g
+
+  ruled-due : (r : Record) (o : Outcome) → Usual o → (o ≡ outcome.Accepted → Complete (r .body))
+      → number (decided l c (judged f r noted o)) ≡ firstDue (dueFor (Held l) s (got f) o (r .body) c)
+  unfolding decided
+  ruled-due r outcome.Accepted u g = asked-due r (r .body) (g refl)
+  ruled-due r outcome.TooLong u g = absurd u
+  ruled-due r (outcome.Stopped (Fault p)) u g = rw (small, name, request)
+  ruled-due r (outcome.Stopped (Extension p)) u g = rw (small, name, request)
+  ruled-due r outcome.NotAmong u g = absurd u
+  ruled-due r (outcome.Misplaced k) u g = rw (small, name, request)
+  ruled-due r outcome.Rejected u g = rw (small, name, request)
+
+-- ---- what is judged
+
+module _ (l : State) (c : MceId) (s : List ℕ) where
+  -- the first that is due, by what is judged
+  abbrev first : Read Frame → Judged → ℕ
+  first r j = firstDue (dueFor (Held l) s r (j .verdict .outcome) (j .verdict .message .body) c)
+
+  module _ (small : ltb 8192 (length s) ≡ false) (f : Frame) where
+    asking-due : (m : Message) → namedBy (f .kind) (f .code) ≡ named.Is m → (b : Bool) → asks m ≡ b
+        → number (decided l c (judgedBy f (pick b (insideOf m s (f .from) (f .crit)) (without outcome.NotAmong)))) ≡ first (got f) (judgedBy f (pick b (insideOf m s (f .from) (f .crit)) (without outcome.NotAmong)))
+    unfolding decided
+    asking-due m name true a =
+        let v : Verdict = insideOf m s (f .from) (f .crit) in
+        let g = inside-judged m s (f .from) (f .crit) a in
+        ruled-due l c s small f m name a (v .noted) (v .message) (v .outcome) (g .usual) (g .complete)
+    asking-due m name false a = rw (small, name, a)
+
+    named-due : (n : Named) → namedBy (f .kind) (f .code) ≡ n → number (decided l c (judgedBy f (verdictBy s f n))) ≡ first (got f) (judgedBy f (verdictBy s f n))
+    unfolding decided
+    named-due (named.Is m) name = asking-due m name (asks m) refl
+    named-due named.Other name = rw (small, name)
+
+  framed-due : ltb 8192 (length s) ≡ false → (r : Read Frame) → number (decided l c (judgedIn s r)) ≡ first r (judgedIn s r)
+  unfolding decided
+  framed-due small (got f) = named-due small f (namedBy (f .kind) (f .code)) refl
+  framed-due small (stop (Fault p)) = rw small
+  framed-due small (stop (Extension p)) = rw small
+
+  judged-due : number (decided l c (judgedOf s)) ≡ first (frameAt s) (judgedOf s)
+  unfolding judgedOf decided
+  judged-due = by (ltb 8192 (length s)) refl
+    where
+      by : (b : Bool) → ltb 8192 (length s) ≡ b
+          → number (decided l c (pick b (judgedBy noFrame (without outcome.TooLong)) (judgedIn s (frameAt s)))) ≡ first (frameAt s) (pick b (judgedBy noFrame (without outcome.TooLong)) (judgedIn s (frameAt s)))
+      by true e = rw e
+      by false e = framed-due e (frameAt s)
+
+-- ---- the call
+
+settled-due : (t d : List ℕ) (b : Bool) (x : Decided) {n : ℕ} → number x ≡ n → numbered (settledIf b t d x .answer) .number ≡ pick b n 10
+settled-due t d true x e = e
+settled-due t d false x e = refl
+
+pub answers-as : AnswersAs
+unfolding call settled due
+answers-as t c = by (readTable t)
+  where
+    by : (x : Lent) → numbered (onTable t c x .answer) .number
+        ≡ pick (fitsIn x c) (firstDue (dueFor x (c .message) (frameAt (c .message)) (judgedOf (c .message) .verdict .outcome) (judgedOf (c .message) .verdict .message .body) (c .offered))) 10
+    by (Held l) =
+        let x : Decided = decided l (c .offered) (judgedOf (c .message)) in
+        settled-due t (c .room) (fits (c .room) x) x (judged-due l (c .offered) (c .message))
+    by NoTable = refl

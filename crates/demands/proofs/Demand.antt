@@ -1,0 +1,37 @@
+-- Demand 1: one answer of 01's list, what is lent is left as 01 says, a table in is a table out, and a reply reads back.
+-- Assumes nothing.
+use Prim.Native.Nat.{ℕ}
+use mathlib.Core.Path.{_≡_, refl}
+use mathlib.Core.Bool.{Bool, true, false}
+use mathlib.Core.List.{List, []}
+use Rattle.records.specs.declared.Record.{Record}
+use Rattle.lent.specs.Lent.{Lent, Held, NoTable, readTable}
+use Rattle.judge.specs.Judge.{judgedOf}
+use Rattle.carry.specs.Carry.{Decided, keeps, changes, decided}
+use Rattle.unit.specs.Unit.{Call, replyOctets, settledIf, fits, settled, onTable, call}
+use Rattle.demands.specs.Answered.{Handed, ReadsBack, Demand1}
+use Rattle.demands.proofs.Settle.{answered}
+use Rattle.demands.proofs.Decisions.{Reply, nothing, says, Sure}
+use Rattle.demands.proofs.TableOut.{sure, table-out}
+
+reads-back : (r : Record) → Reply r → (replyOctets r ≡ [] → ⊥) → ReadsBack (replyOctets r)
+reads-back r (nothing e) h = absurd (h e)
+reads-back r (says m vs w) h = w .back .accepted
+
+settled-back : (t d : List ℕ) (b : Bool) (x : Decided) → Sure x → (settledIf b t d x .reply ≡ [] → ⊥) → ReadsBack (settledIf b t d x .reply)
+settled-back t d true (keeps a r) s h = reads-back r s h
+settled-back t d true (changes l r) s h = reads-back r (s .0) h
+settled-back t d false x s h = absurd (h refl)
+
+reply-back : (t : List ℕ) (c : Call) → Handed t c → (call t c .reply ≡ [] → ⊥) → ReadsBack (call t c .reply)
+unfolding call settled
+reply-back t c h = by (readTable t) refl
+  where
+    by : (x : Lent) → readTable t ≡ x → (onTable t c x .reply ≡ [] → ⊥) → ReadsBack (onTable t c x .reply)
+    by (Held l) q k =
+        let x : Decided = decided l (c .offered) (judgedOf (c .message)) in
+        settled-back t (c .room) (fits (c .room) x) x (sure t c l h q) k
+    by NoTable q k = absurd (k refl)
+
+pub demand-1 : Demand1
+demand-1 = record { answered = answered; table = table-out; reply = reply-back }

@@ -1,0 +1,103 @@
+-- What a call that is answered 0 does: its decision, carried out; and of partial resets, starts and stops what is decided.
+-- Assumes nothing.
+use Prim.Native.Nat.{ℕ, _≤_, _<_}
+use mathlib.Core.Path.{_≡_, refl, ap, sym, subst, _∙_}
+use mathlib.Core.Bool.{Bool, true, false}
+use mathlib.Core.List.{List}
+use native.Mathlib.Omega.{arith}
+use borrow.Author.Tests.{leb-false, le-leb}
+use lib.ListN.{length}
+use Rattle.identity.specs.declared.MmeId.{MmeId}
+use Rattle.identity.specs.declared.MceId.{MceId}
+use Rattle.identity.specs.declared.Tmgi.{Tmgi}
+use Rattle.identity.specs.declared.Session.{Session}
+use Rattle.identity.specs.declared.Item.{Item}
+use Rattle.diagnostics.specs.declared.Entries.{Entries}
+use Rattle.messages.specs.declared.Frame.{Frame}
+use Rattle.table.specs.declared.Association.{Association}
+use Rattle.table.specs.Table.{State, without, full, starting, stopping, holdsMme, holdsMce, holdsPair}
+use Rattle.lent.specs.Lent.{Held, readTable}
+use Rattle.replies.specs.Replies.{startResponse, stopResponse, acknowledge}
+use Rattle.judge.specs.declared.Judged.{Judged}
+use Rattle.judge.specs.Judge.{judgedOf}
+use Rattle.carry.specs.Carry.{Decided, changes, started, stopped, carriedOut, decided}
+use Rattle.unit.specs.Answers.{numbered}
+use Rattle.unit.specs.Unit.{Call, Back, call, settled, settledIf, fits, replyOf, answerOf, tableAfter}
+use Rattle.demands.specs.Answered.{numberOf}
+use Rattle.demands.specs.Words.{PartialReset, Starts, Stops}
+use Rattle.demands.proofs.TableOut.{call-on}
+
+-- there is room for one more
+few : (l : State) → full l ≡ false → length l < 256
+unfolding full
+few l e = leb-false 256 (length l) e
+
+abbrev pub number : Decided → ℕ
+number x = numbered (answerOf x) .number
+
+-- ---- the call does what was decided
+
+pub record Does (t : List ℕ) (b : Back) (x : Decided) : Type 0 where
+  pub answer : number x ≡ 0
+  pub table : b .table ≡ tableAfter t x
+  pub reply : b .reply ≡ replyOf x
+
+settles : (t d : List ℕ) (x : Decided) (b : Bool) → numbered (settledIf b t d x .answer) .number ≡ 0 → Does t (settledIf b t d x) x
+settles t d x true h = record { answer = h; table = refl; reply = refl }
+settles t d x false h = absurd (omega arith)
+
+module _ (t : List ℕ) (c : Call) (l : State) (e : readTable t ≡ Held l) where
+  abbrev made : Decided
+  made = decided l (c .offered) (judgedOf (c .message))
+
+  called : call t c ≡ settledIf (fits (c .room) made) t (c .room) made
+  unfolding settled
+  called = call-on t c l e
+
+  pub done : numberOf t c ≡ 0 → Does t (call t c) made
+  done = subst (λ (b : Back). numbered (b .answer) .number ≡ 0 → Does t b made) (sym called) (settles t (c .room) made (fits (c .room) made))
+
+  -- with room for its reply, the answer is the decision's
+  pub fitting : length (replyOf made) ≤ length (c .room) → numberOf t c ≡ number made
+  fitting h = ap (λ (b : Back). numbered (b .answer) .number) (called ∙ ap (λ (b : Bool). settledIf b t (c .room) made) (le-leb _ _ h))
+
+-- ---- the rules, where they accept
+
+module _ (l : State) (x : MceId) (j : Judged) where
+  pub reset-decided : {is : List Item} → PartialReset (j .verdict) is → decided l x j ≡ changes (without is l) (acknowledge (j .verdict .message .items) (j .verdict .noted))
+  unfolding decided carriedOut
+  reset-decided p = rw (p .accepted, p .body, p .items)
+
+  pub start-decided : {m : MmeId} {t : Tmgi} {s : Session} → Starts (j .verdict) m t s → decided l x j ≡ started l x (j .verdict .noted) m t s
+  unfolding decided carriedOut
+  start-decided p = rw (p .accepted, p .body)
+
+  pub stop-decided : {m : MmeId} {y : MceId} → Stops (j .verdict) m y → decided l x j ≡ stopped l (j .frame) (j .verdict .noted) m y
+  unfolding decided carriedOut
+  stop-decided p = rw (p .accepted, p .body)
+
+-- an accepted start: neither identity is held, and there is room
+pub record Started (l : State) (a : Association) (noted : Entries) : Type 0 where
+  pub mme : holdsMme (a .mme) l ≡ false
+  pub mce : holdsMce (a .mce) l ≡ false
+  pub few : length l < 256
+  pub decision : started l (a .mce) noted (a .mme) (a .tmgi) (a .session) ≡ changes (starting a l) (startResponse (a .mme) (a .mce) noted)
+
+pub start-accepted : (l : State) (a : Association) (noted : Entries) → number (started l (a .mce) noted (a .mme) (a .tmgi) (a .session)) ≡ 0 → Started l a noted
+unfolding started
+start-accepted l a noted = by (holdsMme (a .mme) l) (holdsMce (a .mce) l) (full l) refl refl refl
+  where
+    by : (p q r : Bool) → holdsMme (a .mme) l ≡ p → holdsMce (a .mce) l ≡ q → full l ≡ r → number (started l (a .mce) noted (a .mme) (a .tmgi) (a .session)) ≡ 0 → Started l a noted
+    by true q r e f g h = absurd (omega (arith, rw e at h))
+    by false true r e f g h = absurd (omega (arith, rw (e, f) at h))
+    by false false true e f g h = absurd (omega (arith, rw (e, f, g) at h))
+    by false false false e f g h = record { mme = e; mce = f; few = few l g; decision = rw (e, f, g) }
+
+pub stop-accepted : (l : State) (f : Frame) (noted : Entries) (m : MmeId) (y : MceId) → number (stopped l f noted m y) ≡ 0 →
+    stopped l f noted m y ≡ changes (stopping m y l) (stopResponse m y noted)
+unfolding stopped
+stop-accepted l f noted m y = by (holdsPair m y l) refl
+  where
+    by : (p : Bool) → holdsPair m y l ≡ p → number (stopped l f noted m y) ≡ 0 → stopped l f noted m y ≡ changes (stopping m y l) (stopResponse m y noted)
+    by true e h = rw e
+    by false e h = absurd (omega (arith, rw e at h))

@@ -1,0 +1,217 @@
+-- Each answer of the table call occurs: messages and tables that get it. And a room of 3,200 octets is always enough.
+-- Assumes nothing.
+use Prim.Native.Nat.{ℕ, zero, suc, _+_, _<_, _≤_}
+use mathlib.Core.Path.{_≡_, _∙_, refl, ap}
+use mathlib.Core.Bool.{true, false, not}
+use mathlib.Core.List.{List, [], _∷_, List·Memᴰ, List·Memᴰ·head, List·Memᴰ·tail, List·Memᴰ·eq-of-singleton, List·Memᴰ·not-nil}
+use native.Mathlib.Omega.{arith}
+use borrow.Author.Tests.{ltb-true, lt-ltb, le-leb, lt-leb, not-false}
+use lib.Dec.{ltb}
+use lib.ListN.{length}
+use Rattle.lists.specs.Lists.{some}
+use Rattle.lists.proofs.Tests.{or-left, or-right}
+use Rattle.octets.specs.Read.{_>>=_, cutShort, noMeaning, leftOver, extended}
+use Rattle.octets.specs.Field.{bitsOf, flagAt, plainAt, choiceAt, padAt, numberAt, stringAt, longLengthAt, lengthAt, openAt, endsAt}
+use Rattle.octets.specs.Write.{packedIn, numberOctets, lengthOctets}
+use Rattle.octets.specs.Stands.{Octets}
+use Rattle.identity.specs.declared.MceId.{MceId}
+use Rattle.identity.specs.declared.Session.the-variants as session
+use Rattle.values.specs.Values.{mmeAt, mceAt, tmgiAt}
+use Rattle.items.specs.Items.{resetAt}
+use Rattle.kinds.specs.Kinds.{valueAt}
+use Rattle.elements.specs.Table.{find}
+use Rattle.elements.specs.Envelope.{criticalityAt, envelopeAt, scanAt, headsAt}
+use Rattle.elements.specs.Judge as elements
+use Rattle.elements.specs.Judge.{front, readInto, unknownOf, missingOf, elementsAt}
+use Rattle.tables.specs.Tables.{tableOf, namedBy}
+use Rattle.records.specs.declared.Record.{Record}
+use Rattle.records.specs.Values.{mmeIn, mceIn, tmgiIn, resetIn}
+use Rattle.records.specs.Records.{noRecord, recordOf}
+use Rattle.messages.specs.Frame.{kindAt, frameAt, countAt}
+use Rattle.messages.specs.declared.Outcome.the-variants as outcome
+use Rattle.messages.specs.Verdict.{without, insideOf}
+use Rattle.said.specs.Said.{saidBy}
+use Rattle.said.specs.Octets.{elementsOctets, present, insideOctets, messageOctets}
+use Rattle.said.specs.Written.{elementsGood, encoded}
+use Rattle.table.specs.declared.Association.{Association}
+use Rattle.table.specs.Table.{State, full, holdsMme, holdsMce, distinctHeld}
+use Rattle.lent.specs.Lent.{rowsOctets, tableOctets, rowsOf, same, Lent, Held, NoTable, readTable, InRange, Good}
+use Rattle.lent.proofs.OneForm.{one-form}
+use Rattle.replies.specs.Replies.{listOnly, withIdentity, acknowledge}
+use Rattle.judge.specs.declared.Judged.{Judged}
+use Rattle.judge.specs.Judge.{noFrame, judgedBy, judgedOf}
+use Rattle.carry.specs.declared.Answer.{Answer}
+use Rattle.carry.specs.declared.Answer.the-variants as answer
+use Rattle.carry.specs.Carry.{Decided, keeps, changes, started, stopped, carriedOut, decided}
+use Rattle.unit.specs.Answers.{numbered}
+use Rattle.unit.specs.Unit.{Back, replyOctets, replyOf, answerOf, fits, settled, onTable, call}
+use Rattle.demands.proofs.Settle.{no-record}
+use Rattle.demands.proofs.Sound.{judged-sound}
+use Rattle.demands.proofs.Decisions.{none-good, Reply, nothing, says, Sure, decided-sure}
+use Rattle.demands.proofs.TableOut.{call-on}
+
+-- ---- a room of 3,200 octets is enough
+
+reply-small : (r : Record) → Reply r → length (replyOctets r) ≤ 3200
+reply-small r (nothing e) = rw e (omega arith)
+reply-small r (says m vs w) = w .size
+
+decided-small : (x : Decided) → Sure x → length (replyOf x) ≤ 3200
+decided-small (keeps a r) s = reply-small r s
+decided-small (changes l r) s = reply-small r (s .0)
+
+abbrev number : Decided → ℕ
+number x = numbered (answerOf x) .number
+
+pub with-room : (l : State) (s : List ℕ) (o : MceId) (d : List ℕ) → Good l → Octets s → o .0 < 65536 → 3200 ≤ length d
+    → numbered (call (tableOctets l) (record { message = s; offered = o; room = d }) .answer) .number ≡ number (decided l o (judgedOf s))
+unfolding settled
+with-room l s o d g m w h =
+    let x : Decided = decided l o (judgedOf s) in
+    let k = decided-small x (decided-sure l o (judgedOf s) g w (judged-sound s m)) in
+    let f : fits d x ≡ true = le-leb (length (replyOf x)) (length d) (omega arith) in
+    ap (λ (b : Back). numbered (b .answer) .number) (call-on (tableOctets l) (record { message = s; offered = o; room = d }) l (one-form .back l g)) ∙ rw f
+
+-- ---- octets, by a test
+
+octets-by : (s : List ℕ) → some (λ (x : ℕ). not (ltb x 256)) s ≡ false → Octets s
+octets-by [] e i = omega arith
+octets-by (x ∷ s) e zero = ltb-true x 256 (not-false (ltb x 256) (or-left (not (ltb x 256)) (some (λ (y : ℕ). not (ltb y 256)) s) e))
+octets-by (x ∷ s) e (suc i) = octets-by s (or-right (not (ltb x 256)) (some (λ (y : ℕ). not (ltb y 256)) s) e) i
+
+-- ---- on a table in a state, with the MCE identity 9 offered
+
+abbrev offer : MceId
+offer = record { 0 = 9 }
+
+-- whatever the room, if it is large enough
+abbrev Gives : State → List ℕ → ℕ → Type 0
+Gives l s n = (d : List ℕ) → 3200 ≤ length d → numbered (call (tableOctets l) (record { message = s; offered = offer; room = d }) .answer) .number ≡ n
+
+gives : (l : State) (s : List ℕ) {n : ℕ} → Good l → some (λ (x : ℕ). not (ltb x 256)) s ≡ false → number (decided l offer (judgedOf s)) ≡ n → Gives l s n
+gives l s g m e d h = with-room l s offer d g (octets-by s m) (omega arith) h ∙ e
+
+-- MME and MCE identity, and a TMGI of zeros
+abbrev pair : ℕ → ℕ → Association
+pair m c = record {
+  mme = record { 0 = m };
+  mce = record { 0 = c };
+  tmgi = record { plmn = record { 0 = 0; 1 = 0; 2 = 0 }; service = record { 0 = 0; 1 = 0; 2 = 0 } };
+  session = session.Absent;
+}
+
+one-good : (m c : ℕ) → m < 65536 → c < 65536 → Good (pair m c ∷ [])
+unfolding distinctHeld
+one-good m c g h = record { few = omega arith; apart = refl; each = λ a k. rw (List·Memᴰ·eq-of-singleton k) (record { mme = g; mce = h }) }
+
+-- n associations, of the identities from 100 on
+unfoldable pub many : ℕ → State
+many zero = []
+many (suc n) = pair (n + 100) (n + 100) ∷ many n
+
+many-range : (n : ℕ) → n ≤ 256 → (a : Association) → List·Memᴰ a (many n) → InRange a
+unfolding many
+many-range zero h a k = absurd (List·Memᴰ·not-nil k)
+many-range (suc n) h a (List·Memᴰ·head e) = rw e (record { mme = omega arith; mce = omega arith })
+many-range (suc n) h a (List·Memᴰ·tail k) = many-range n (omega arith) a k
+
+many-good : Good (many 256)
+unfolding many distinctHeld
+many-good = record { few = omega arith; apart = refl; each = many-range 256 (omega arith) }
+
+-- START REQUEST of MME identity 5, with what is mandatory; STOP REQUEST of the pair 5 and 9; RESET of the whole
+abbrev start : List ℕ
+start =
+    0x00 ∷ 0x00 ∷ 0x00 ∷ 0x2d ∷ 0x00 ∷ 0x00 ∷ 0x07
+    ∷ 0x00 ∷ 0x00 ∷ 0x00 ∷ 0x02 ∷ 0x00 ∷ 0x05
+    ∷ 0x00 ∷ 0x02 ∷ 0x00 ∷ 0x07 ∷ 0x00 ∷ 0x00 ∷ 0x00 ∷ 0x00 ∷ 0x00 ∷ 0x00 ∷ 0x00
+    ∷ 0x00 ∷ 0x04 ∷ 0x00 ∷ 0x01 ∷ 0x00
+    ∷ 0x00 ∷ 0x05 ∷ 0x00 ∷ 0x01 ∷ 0x00
+    ∷ 0x00 ∷ 0x06 ∷ 0x00 ∷ 0x01 ∷ 0x00
+    ∷ 0x00 ∷ 0x10 ∷ 0x00 ∷ 0x01 ∷ 0x00
+    ∷ 0x00 ∷ 0x07 ∷ 0x00 ∷ 0x01 ∷ 0x00 ∷ []
+
+abbrev stop : List ℕ
+stop = 0x00 ∷ 0x01 ∷ 0x00 ∷ 0x0f ∷ 0x00 ∷ 0x00 ∷ 0x02 ∷ 0x00 ∷ 0x00 ∷ 0x00 ∷ 0x02 ∷ 0x00 ∷ 0x05 ∷ 0x00 ∷ 0x01 ∷ 0x00 ∷ 0x02 ∷ 0x00 ∷ 0x09 ∷ []
+
+abbrev whole : List ℕ
+whole = 0x00 ∷ 0x04 ∷ 0x00 ∷ 0x08 ∷ 0x00 ∷ 0x00 ∷ 0x01 ∷ 0x00 ∷ 0x0d ∷ 0x00 ∷ 0x01 ∷ 0x00 ∷ []
+
+abbrev error : List ℕ
+error = 0x00 ∷ 0x02 ∷ 0x40 ∷ 0x08 ∷ 0x00 ∷ 0x00 ∷ 0x01 ∷ 0x00 ∷ 0x62 ∷ 0x00 ∷ 0x01 ∷ 0xff ∷ []
+
+-- ---- every answer
+
+abbrev numberOf : List ℕ → List ℕ → List ℕ → ℕ
+numberOf t s d = numbered (call t (record { message = s; offered = offer; room = d }) .answer) .number
+
+pub record EveryAnswer : Type 0 where
+  -- a start, on an empty table
+  pub carried-out : Gives [] start 0
+  -- any message of over 8,192 octets, on any table
+  pub too-long : (t s d : List ℕ) (l : State) → readTable t ≡ Held l → 8192 < length s → numberOf t s d ≡ 1
+  -- no octets; an octet with the extension bit
+  pub fault : Gives [] [] 2
+  pub extension : Gives [] (0x80 ∷ []) 3
+  -- a procedure code that none of the messages has
+  pub no-request : Gives [] (0x00 ∷ 0x03 ∷ 0x00 ∷ 0x01 ∷ 0x00 ∷ []) 4
+  -- ERROR INDICATION with an unknown element of reject
+  pub rejected : Gives [] error 5
+  -- the start, where its MME identity is held, or only the offered one is
+  pub mme-held : Gives (pair 5 1 ∷ []) start 6
+  pub offer-held : Gives (pair 1 9 ∷ []) start 7
+  -- the stop, where its identities are held, but by no one association
+  pub pair-not-held : Gives (pair 5 1 ∷ []) stop 8
+  -- the start, where 256 are held, and neither identity
+  pub all-held : (l : State) → Good l → length l ≡ 256 → holdsMme (record { 0 = 5 }) l ≡ false → holdsMce offer l ≡ false → Gives l start 9
+  pub so-many : Gives (many 256) start 9
+  -- the whole reset, whose reply has seven octets
+  pub no-room : (d : List ℕ) → length d < 7 → numberOf (tableOctets []) whole d ≡ 10
+  -- any call on octets that are no table; no octets are none
+  pub no-table : (t s d : List ℕ) → readTable t ≡ NoTable → numberOf t s d ≡ 21
+  pub not-a-table : readTable [] ≡ NoTable
+
+-- a decision without a reply is settled in any room
+silent-number : (t d : List ℕ) (a : Answer) → numbered (settled t d (keeps a noRecord) .answer) .number ≡ numbered a .number
+unfolding settled
+silent-number t d a = rw (no-record, le-leb 0 (length d) (omega arith))
+
+long-number : (t s d : List ℕ) (l : State) → readTable t ≡ Held l → 8192 < length s → numberOf t s d ≡ 1
+unfolding decided judgedOf
+long-number t s d l q h =
+    let e : judgedOf s ≡ judgedBy noFrame (without outcome.TooLong) = rw (lt-ltb 8192 (length s) h) in
+    ap (λ (b : Back). numbered (b .answer) .number) (call-on t (record { message = s; offered = offer; room = d }) l q)
+    ∙ (ap (λ (j : Judged). numbered (settled t d (decided l offer j) .answer) .number) e ∙ silent-number t d answer.TooLong)
+
+none-number : (t s d : List ℕ) → readTable t ≡ NoTable → numberOf t s d ≡ 21
+unfolding call
+none-number t s d q = ap (λ (x : Lent). numbered (onTable t (record { message = s; offered = offer; room = d }) x .answer) .number) q
+
+room-number : length (replyOf (decided [] offer (judgedOf whole))) ≡ 7 → (d : List ℕ) → length d < 7 → numberOf (tableOctets []) whole d ≡ 10
+unfolding settled
+room-number k d h =
+    let f : fits d (decided [] offer (judgedOf whole)) ≡ false = lt-leb _ (length d) (omega arith) in
+    ap (λ (b : Back). numbered (b .answer) .number) (call-on (tableOctets []) (record { message = whole; offered = offer; room = d }) [] (one-form .back [] none-good)) ∙ rw f
+
+-- the rest is computed
+pub every-answer : EveryAnswer
+unfolding many decided carriedOut started stopped full judgedOf frameAt kindAt countAt insideOf elementsAt elements.judgedOf front find readInto unknownOf missingOf scanAt headsAt envelopeAt criticalityAt valueAt mmeAt mceAt tmgiAt resetAt recordOf mmeIn mceIn tmgiIn resetIn tableOf namedBy flagAt plainAt choiceAt padAt numberAt stringAt openAt lengthAt longLengthAt endsAt bitsOf cutShort noMeaning leftOver extended _>>=_ readTable same rowsOf rowsOctets numberOctets distinctHeld replyOctets saidBy encoded acknowledge withIdentity listOnly elementsGood elementsOctets messageOctets insideOctets present lengthOctets packedIn
+every-answer = record {
+  carried-out = gives [] start none-good refl refl;
+  too-long = long-number;
+  fault = gives [] [] none-good refl refl;
+  extension = gives [] (0x80 ∷ []) none-good refl refl;
+  no-request = gives [] (0x00 ∷ 0x03 ∷ 0x00 ∷ 0x01 ∷ 0x00 ∷ []) none-good refl refl;
+  rejected = gives [] error none-good refl refl;
+  mme-held = gives (pair 5 1 ∷ []) start (one-good 5 1 (omega arith) (omega arith)) refl refl;
+  offer-held = gives (pair 1 9 ∷ []) start (one-good 1 9 (omega arith) (omega arith)) refl refl;
+  pair-not-held = gives (pair 5 1 ∷ []) stop (one-good 5 1 (omega arith) (omega arith)) refl refl;
+  all-held = λ l g n h k. gives l start g refl (nine l n h k);
+  so-many = gives (many 256) start many-good refl (nine (many 256) refl refl refl);
+  no-room = room-number refl;
+  no-table = none-number;
+  not-a-table = refl;
+}
+  where
+    nine : (l : State) → length l ≡ 256 → holdsMme (record { 0 = 5 }) l ≡ false → holdsMce offer l ≡ false → number (decided l offer (judgedOf start)) ≡ 9
+    nine l n h k = rw (h, k, n)

@@ -1,0 +1,197 @@
+-- What the table call does with what is decided: the answer is of 01's list, refusals leave the table, the reply stands in front of the room,
+-- and an answer without a reply leaves the room.
+-- Assumes nothing.
+use Prim.Native.Nat.{ℕ, _≤_}
+use mathlib.Core.Path.{_≡_, refl, ap, _∙_}
+use mathlib.Core.Bool.{Bool, true, false}
+use mathlib.Core.List.{List, [], _++_}
+use native.Mathlib.Omega.{arith}
+use borrow.Author.Tests.{leb-true}
+use lib.ListN.{length, drop}
+use Rattle.lists.proofs.Tests.{on-pick}
+use Rattle.octets.specs.declared.Stop.the-variants.{Fault, Extension}
+use Rattle.identity.specs.declared.MmeId.{MmeId}
+use Rattle.identity.specs.declared.MceId.{MceId}
+use Rattle.identity.specs.declared.Mme.{Mme}
+use Rattle.identity.specs.declared.Mme.the-variants as mme
+use Rattle.identity.specs.declared.Mce.{Mce}
+use Rattle.identity.specs.declared.Mce.the-variants as mce
+use Rattle.identity.specs.declared.Session.{Session}
+use Rattle.identity.specs.declared.Tmgi.{Tmgi}
+use Rattle.identity.specs.declared.Items.{Items}
+use Rattle.diagnostics.specs.declared.Entries.{Entries}
+use Rattle.records.specs.declared.MaybeTmgi.{MaybeTmgi}
+use Rattle.records.specs.declared.MaybeTmgi.the-variants as tmgi
+use Rattle.records.specs.declared.MaybeReset.{MaybeReset}
+use Rattle.records.specs.declared.MaybeReset.the-variants as reset
+use Rattle.records.specs.declared.Body.{Body}
+use Rattle.records.specs.declared.Body.the-variants as body
+use Rattle.records.specs.declared.Record.{Record}
+use Rattle.records.specs.Records.{noRecord}
+use Rattle.messages.specs.declared.Frame.{Frame}
+use Rattle.messages.specs.declared.Outcome.{Outcome}
+use Rattle.messages.specs.declared.Outcome.the-variants as outcome
+use Rattle.said.specs.Said.{saidBy}
+use Rattle.said.specs.Written.{encoded}
+use Rattle.table.specs.Table.{State, full, holdsMme, holdsMce, holdsPair}
+use Rattle.lent.specs.Lent.{Lent, Held, NoTable, readTable}
+use Rattle.judge.specs.declared.Judged.{Judged}
+use Rattle.judge.specs.Judge.{judgedOf}
+use Rattle.carry.specs.declared.Answer.{Answer}
+use Rattle.carry.specs.declared.Answer.the-variants as answer
+use Rattle.carry.specs.Carry.{Decided, keeps, changes, started, startedBy, stopped, stoppedBy, resetBy, carriedOut, decided}
+use Rattle.unit.specs.Answers.{numbered}
+use Rattle.unit.specs.Unit.{Call, Back, replyOctets, replyOf, answerOf, settledIf, fits, settled, onTable, call}
+use Rattle.demands.specs.Answered.{isAmong, numbers, silentNumbers, Answered}
+
+-- ---- answers
+
+pub listed : (a : Answer) → isAmong numbers (numbered a .number) ≡ true
+listed answer.CarriedOut = refl
+listed answer.TooLong = refl
+listed (answer.Stopped (Fault p)) = refl
+listed (answer.Stopped (Extension p)) = refl
+listed answer.NoRequest = refl
+listed answer.Rejected = refl
+listed answer.MmeHeld = refl
+listed answer.OfferHeld = refl
+listed answer.PairNotHeld = refl
+listed answer.Full = refl
+listed answer.NoRoom = refl
+listed answer.NoTable = refl
+
+pub no-place : (a : Answer) → (numbered a .number ≡ 2 → ⊥) → (numbered a .number ≡ 3 → ⊥) → numbered a .place ≡ 0
+no-place answer.CarriedOut h k = refl
+no-place answer.TooLong h k = refl
+no-place (answer.Stopped (Fault p)) h k = absurd (h refl)
+no-place (answer.Stopped (Extension p)) h k = absurd (k refl)
+no-place answer.NoRequest h k = refl
+no-place answer.Rejected h k = refl
+no-place answer.MmeHeld h k = refl
+no-place answer.OfferHeld h k = refl
+no-place answer.PairNotHeld h k = refl
+no-place answer.Full h k = refl
+no-place answer.NoRoom h k = refl
+no-place answer.NoTable h k = refl
+
+-- ---- settling, for any decision
+
+abbrev number : Back → ℕ
+number b = numbered (b .answer) .number
+
+module _ (t d : List ℕ) where
+  refused-table : (b : Bool) (x : Decided) → (number (settledIf b t d x) ≡ 0 → ⊥) → settledIf b t d x .table ≡ t
+  refused-table true (keeps a r) h = refl
+  refused-table true (changes l r) h = absurd (h refl)
+  refused-table false x h = refl
+
+  reply-fits : (b : Bool) (x : Decided) → fits d x ≡ b → length (settledIf b t d x .reply) ≤ length d
+  reply-fits true x e = leb-true (length (replyOf x)) (length d) e
+  reply-fits false x e = omega arith
+
+  reply-front : (b : Bool) (x : Decided) → settledIf b t d x .room ≡ settledIf b t d x .reply ++ drop (length (settledIf b t d x .reply)) d
+  reply-front true x = refl
+  reply-front false x = refl
+
+  no-reply : (b : Bool) (x : Decided) → (isAmong silentNumbers (numbered (answerOf x) .number) ≡ true → replyOf x ≡ [])
+      → isAmong silentNumbers (number (settledIf b t d x)) ≡ true → settledIf b t d x .reply ≡ []
+  no-reply true x h e = h e
+  no-reply false x h e = refl
+
+-- ---- decisions: an answer of those that never have a reply has none
+
+abbrev Silent : Decided → Type 0
+Silent x = isAmong silentNumbers (numbered (answerOf x) .number) ≡ true → replyOf x ≡ []
+
+-- what is judged, by its parts
+abbrev pub judged : Frame → Record → Entries → Outcome → Judged
+judged f r noted o = record { frame = f; verdict = record { outcome = o; message = r; noted = noted } }
+
+pub no-record : replyOctets noRecord ≡ []
+unfolding replyOctets encoded saidBy
+no-record = refl
+
+module _ (l : State) where
+  started-silent : (c : MceId) (noted : Entries) (m : MmeId) (t : Tmgi) (s : Session) → Silent (started l c noted m t s)
+  unfolding started
+  started-silent c noted m t s =
+      on-pick Silent (holdsMme m l) (λ e. cc) (on-pick Silent (holdsMce c l) (λ e. no-record) (on-pick Silent (full l) (λ e. cc) (λ e. cc)))
+
+  stopped-silent : (f : Frame) (noted : Entries) (m : MmeId) (c : MceId) → Silent (stopped l f noted m c)
+  unfolding stopped
+  stopped-silent f noted m c = on-pick Silent (holdsPair m c l) (λ e. cc) (λ e. cc)
+
+  module _ (c : MceId) (f : Frame) (noted : Entries) where
+    start-silent : (b : Body) (x : Mme) (t : MaybeTmgi) (s : Session) → Silent (startedBy l c f b noted x t s)
+    start-silent b (mme.Is m) (tmgi.Is t) s = started-silent c noted m t s
+    start-silent b (mme.Is m) tmgi.Absent s = λ e. cc
+    start-silent b mme.Absent t s = λ e. cc
+
+    stop-silent : (b : Body) (x : Mme) (y : Mce) → Silent (stoppedBy l f b noted x y)
+    stop-silent b (mme.Is m) (mce.Is x) = stopped-silent f noted m x
+    stop-silent b (mme.Is m) mce.Absent = λ e. cc
+    stop-silent b mme.Absent y = λ e. cc
+
+    reset-silent : (b : Body) (items : Items) (x : MaybeReset) → Silent (resetBy l f b noted items x)
+    reset-silent b items reset.Whole = λ e. cc
+    reset-silent b items reset.Part = λ e. cc
+    reset-silent b items reset.Absent = λ e. cc
+
+    asked-silent : (r : Record) (b : Body) → Silent (carriedOut l c f noted (record { body = b; crit = r .crit; items = r .items; entries = r .entries }))
+    unfolding carriedOut
+    asked-silent r (body.StartRequest b) = start-silent (body.StartRequest b) (b .mme) (b .tmgi) (b .session)
+    asked-silent r (body.StopRequest b) = stop-silent (body.StopRequest b) (b .mme) (b .mce)
+    asked-silent r (body.Reset b) = reset-silent (body.Reset b) (r .items) (b .reset)
+    asked-silent r (body.ErrorIndication b) = λ e. no-record
+    asked-silent r (body.StartResponse b) = λ e. no-record
+    asked-silent r (body.StartFailure b) = λ e. no-record
+    asked-silent r (body.StopResponse b) = λ e. no-record
+    asked-silent r (body.ResetAcknowledge b) = λ e. no-record
+    asked-silent r body.None = λ e. no-record
+
+    ruled-silent : (r : Record) (o : Outcome) → Silent (decided l c (judged f r noted o))
+    unfolding decided
+    ruled-silent r outcome.Accepted = asked-silent r (r .body)
+    ruled-silent r outcome.TooLong = λ e. no-record
+    ruled-silent r (outcome.Stopped x) = λ e. no-record
+    ruled-silent r outcome.NotAmong = λ e. no-record
+    ruled-silent r (outcome.Misplaced k) = λ e. cc
+    ruled-silent r outcome.Rejected = λ e. cc
+
+  pub decided-silent : (c : MceId) (j : Judged) → Silent (decided l c j)
+  decided-silent c j = ruled-silent c (j .frame) (j .verdict .noted) (j .verdict .message) (j .verdict .outcome)
+
+-- ---- the call
+
+module _ (t : List ℕ) (c : Call) where
+  record Left (b : Back) : Type 0 where
+    refused : (number b ≡ 0 → ⊥) → b .table ≡ t
+    fits : length (b .reply) ≤ length (c .room)
+    room : b .room ≡ b .reply ++ drop (length (b .reply)) (c .room)
+    silent : isAmong silentNumbers (number b) ≡ true → b .reply ≡ []
+
+  left : (x : Lent) → Left (onTable t c x)
+  unfolding settled
+  left (Held l) =
+      let x : Decided = decided l (c .offered) (judgedOf (c .message)) in
+      let b : Bool = fits (c .room) x in
+      record {
+        refused = refused-table t (c .room) b x;
+        fits = reply-fits t (c .room) b x refl;
+        room = reply-front t (c .room) b x;
+        silent = no-reply t (c .room) b x (decided-silent l (c .offered) (judgedOf (c .message)));
+      }
+  left NoTable = record { refused = λ h. refl; fits = omega arith; room = refl; silent = λ e. refl }
+
+  pub answered : Answered t c
+  unfolding call
+  answered =
+      let x = left (readTable t) in
+      record {
+        answer = listed (call t c .answer);
+        refused = x .refused;
+        fits = x .fits;
+        room = x .room;
+        silent = λ e. (x .silent e, x .room ∙ ap (λ (r : List ℕ). r ++ drop (length r) (c .room)) (x .silent e));
+        place = no-place (call t c .answer);
+      }

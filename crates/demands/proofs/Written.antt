@@ -1,0 +1,237 @@
+-- Every reply is written, whatever identities, items, entries and frame it is made of, if they are in range: what it says, and that its octets read back.
+-- Assumes nothing.
+use Prim.Native.Nat.{ℕ, _+_, _<_, _≤_}
+use mathlib.Core.Path.{_≡_, _∙_, refl, sym}
+use mathlib.Core.Bool.{Bool, true, false}
+use mathlib.Core.List.{List, [], _∷_, _++_}
+use native.Mathlib.Omega.{arith}
+use borrow.Author.Tests.{lt-ltb, ltb-true, ltb-false}
+use lib.Dec.{ltb}
+use lib.ListN.{length, length-append, drop-of-length-le}
+use Rattle.lists.specs.Lists.{pick, keep, fill}
+use Rattle.lists.proofs.Tests.{on-pick}
+use Rattle.lists.proofs.Keep.{length-keep}
+use Rattle.lists.proofs.Fill.{length-fill, take-fill}
+use Rattle.octets.proofs.Back.{length-number}
+use Rattle.octets.specs.Many.{Each}
+use Rattle.identity.specs.declared.MmeId.{MmeId}
+use Rattle.identity.specs.declared.MceId.{MceId}
+use Rattle.identity.specs.declared.Mme.{Mme}
+use Rattle.identity.specs.declared.Mme.the-variants as mme
+use Rattle.identity.specs.declared.Mce.{Mce}
+use Rattle.identity.specs.declared.Mce.the-variants as mce
+use Rattle.identity.specs.declared.Item.{Item}
+use Rattle.identity.specs.declared.Items.{Items}
+use Rattle.identity.specs.Items.{emptyItem, listed}
+use Rattle.values.specs.declared.Cause.{Cause}
+use Rattle.values.specs.Written.{GoodCause, causeOctets}
+use Rattle.items.specs.Written.{ignore, itemsOctets, mmeIn, mceIn, GoodMaybe, GoodItem}
+use Rattle.diagnostics.specs.declared.Entry.{Entry}
+use Rattle.diagnostics.specs.declared.Head.{Head}
+use Rattle.diagnostics.specs.declared.Number.the-variants as number
+use Rattle.diagnostics.specs.Diagnostics.{Diagnostics, emptyEntry, entriesOf}
+use Rattle.diagnostics.specs.Written.{headOctets, listOctets, diagnosticsOctets, GoodEntry, GoodHead, Good}
+use Rattle.put_values.proofs.Put.{list-small}
+use Rattle.put_diagnostics.proofs.Sizes.{head-small, list-size}
+use Rattle.kinds.specs.declared.Kind.the-variants as kind
+use Rattle.elements.specs.declared.Row.{Row}
+use Rattle.tables.specs.declared.Message.the-variants as message
+use Rattle.tables.specs.Tables.{tableOf}
+use Rattle.records.specs.declared.MaybeDiagnostics.{MaybeDiagnostics}
+use Rattle.records.specs.declared.MaybeDiagnostics.the-variants as diagnosed
+use Rattle.messages.specs.declared.Frame.{Frame}
+use Rattle.said.specs.Value as value
+use Rattle.said.specs.Value.{Given, given, octetsOf, hasOctets}
+use Rattle.said.specs.Said.{saidBy, entriesSaid, givenMme, givenMce, givenList, givenDiagnostics}
+use Rattle.ties.proofs.ValueAgain.{counted-good, diagnostics-has}
+use Rattle.ties.proofs.Bridge.{said-fill}
+use Rattle.replies.specs.Replies.{unknownPair, listOnly, ofFrame, startResponse, startFailure, stopResponse, hasIdentity, withIdentity, acknowledge, errorIndication, pairNotHeld}
+use Rattle.demands.proofs.Taken.{Takes, taken-none, taken-more, takes-value, takes-absent, Written, written}
+
+-- ---- what is in range
+
+-- a list of diagnostics
+pub record GoodEntries (es : List Entry) : Type 0 where
+  pub few : length es ≤ 256
+  pub each : Each GoodEntry es
+
+pub record GoodFrame (f : Frame) : Type 0 where
+  pub kind : f .kind < 3
+  pub code : f .code < 256
+  pub crit : f .crit < 3
+
+-- an identity, if it is there
+abbrev pub GoodMme : Mme → Type 0
+GoodMme x = GoodMaybe (mmeIn x)
+
+abbrev pub GoodMce : Mce → Type 0
+GoodMce y = GoodMaybe (mceIn y)
+
+-- items as an array has them
+pub record GoodList (items : Items) : Type 0 where
+  pub few : length (listed items) ≤ 256
+  pub each : Each GoodItem (listed items)
+
+-- ---- values
+
+-- what stands before the list, where there is nothing else, and of a frame
+abbrev listHead : Head
+listHead = record { code = number.Absent; trigger = number.Absent; crit = number.Absent; listed = true }
+
+abbrev frameHead : Frame → ℕ → Head
+frameHead f n = record { code = number.Is (f .code); trigger = number.Is (f .kind); crit = number.Is (f .crit); listed = ltb 0 n }
+
+items-size : (is : List Item) → length is ≤ 256 → length (itemsOctets ignore is) ≤ 2305
+items-size is h = rw (take-fill emptyItem 256 is) at (list-small ignore (fill emptyItem 256 is) (length is) (length-fill emptyItem 256 is h))
+
+diagnostics-size : (d : Diagnostics) → Good d → length (diagnosticsOctets d) ≤ 773
+unfolding diagnosticsOctets
+diagnostics-size d g = rw length-append (by (d .head .listed))
+  where
+    by : (t : Bool) → length (headOctets (d .head)) + length (listOctets t (d .entries)) ≤ 773
+    by true = let a = head-small (d .head) in let b = list-size (d .entries) in let c = g .count in omega arith
+    by false = let a = head-small (d .head) in omega arith
+
+module _ {r : Row} where
+  pub takes-mme : (m : MmeId) → kind.Mme ≡ r .kind → m .0 < 65536 → Takes r (given (value.mme m)) 7
+  unfolding hasOctets octetsOf
+  takes-mme m k g = takes-value (value.mme m) 2 k g refl (let n = length-number 2 (m .0) in omega arith)
+
+  pub takes-mce : (c : MceId) → kind.Mce ≡ r .kind → c .0 < 65536 → Takes r (given (value.mce c)) 7
+  unfolding hasOctets octetsOf
+  takes-mce c k g = takes-value (value.mce c) 2 k g refl (let n = length-number 2 (c .0) in omega arith)
+
+  maybe-mme : (x : Mme) → kind.Mme ≡ r .kind → r .mandatory ≡ false → GoodMme x → Takes r (givenMme x) 7
+  maybe-mme (mme.Is m) k e g = takes-mme m k g
+  maybe-mme mme.Absent k e g = takes-absent 7 e
+
+  maybe-mce : (y : Mce) → kind.Mce ≡ r .kind → r .mandatory ≡ false → GoodMce y → Takes r (givenMce y) 7
+  maybe-mce (mce.Is c) k e g = takes-mce c k g
+  maybe-mce mce.Absent k e g = takes-absent 7 e
+
+  pub takes-cause : (c : Cause) → kind.Cause ≡ r .kind → GoodCause c → Takes r (given (value.cause c)) 6
+  unfolding hasOctets octetsOf causeOctets
+  takes-cause c k g = let e = lt-ltb _ _ g in takes-value (value.cause c) 1 k tt e (rw e (omega arith))
+
+  takes-list : (is : List Item) → kind.Acknowledged ≡ r .kind → r .mandatory ≡ false → length is ≤ 256 → Each GoodItem is
+      → Takes r (givenList is (ltb 0 (length is))) 2310
+  unfolding hasOctets octetsOf
+  takes-list is k e b g = by (ltb 0 (length is)) refl
+    where
+      by : (t : Bool) → ltb 0 (length is) ≡ t → Takes r (givenList is t) 2310
+      by true q = takes-value (value.list is) 2305 k g (counted-good (length is) (ltb-true 0 (length is) q) b) (items-size is b)
+      by false q = takes-absent 2310 e
+
+  takes-diagnostics : (d : Diagnostics) → kind.Diagnostics ≡ r .kind → Good d → Takes r (given (value.diagnostics d)) 778
+  unfolding hasOctets octetsOf
+  takes-diagnostics d k g =
+      takes-value (value.diagnostics d) 773 k
+      (record { code = g .head .code; ids = ids (d .entries) (g .entries); none = none })
+      (diagnostics-has d g) (diagnostics-size d g)
+    where
+      ids : (es : List Entry) → Each GoodEntry es → Each (λ (e : Entry). e .id < 65536) es
+      ids [] h = tt
+      ids (e ∷ es) h = (h .0 .id, ids es (h .1))
+
+      none : d .head .listed ≡ false → d .entries ≡ []
+      none e = drop-of-length-le (d .entries) {i = 0} (ltb-false 0 (length (d .entries)) (sym (g .listed) ∙ e))
+
+  -- with entries where a list is there
+  takes-head : (h : Head) (es : List Entry) → kind.Diagnostics ≡ r .kind → GoodHead h → h .listed ≡ ltb 0 (length es) → GoodEntries es
+      → Takes r (givenDiagnostics es (diagnosed.Is h)) 778
+  takes-head h es k g e n = takes-diagnostics (record { head = h; entries = pick (h .listed) es [] }) k (by (h .listed) e)
+    where
+      by : (t : Bool) → t ≡ ltb 0 (length es) → Good (record { head = record { code = h .code; trigger = h .trigger; crit = h .crit; listed = t }; entries = pick t es [] })
+      by true q = record { head = record { code = g .code; trigger = g .trigger; crit = g .crit }; entries = n .each; listed = q; count = n .few }
+      by false q = record { head = record { code = g .code; trigger = g .trigger; crit = g .crit }; entries = tt; listed = refl; count = omega arith }
+
+  takes-only : (es : List Entry) → kind.Diagnostics ≡ r .kind → r .mandatory ≡ false → GoodEntries es → Takes r (givenDiagnostics es (listOnly (length es))) 778
+  unfolding listOnly
+  takes-only es k e n = by (ltb 0 (length es)) refl
+    where
+      by : (t : Bool) → ltb 0 (length es) ≡ t → Takes r (givenDiagnostics es (pick t (diagnosed.Is listHead) diagnosed.Absent)) 778
+      by true q = takes-head listHead es k (record { code = tt; trigger = tt; crit = tt }) (sym q) n
+      by false q = takes-absent 778 e
+
+  takes-frame : (f : Frame) (es : List Entry) → kind.Diagnostics ≡ r .kind → GoodFrame f → GoodEntries es → Takes r (givenDiagnostics es (ofFrame f (length es))) 778
+  unfolding ofFrame
+  takes-frame f es k g n = takes-head (frameHead f (length es)) es k (record { code = g .code; trigger = g .kind; crit = g .crit }) refl n
+
+-- an array that a list of entries fills says the list
+entries-said : (es : List Entry) → GoodEntries es → entriesSaid (entriesOf es) ≡ es
+entries-said es n = said-fill emptyEntry es (n .few)
+
+-- ---- the replies, with the list of diagnostics es
+
+-- what is said of the list: nothing, if it has no entry
+abbrev pub listSaid : List Entry → Given
+listSaid es = givenDiagnostics es (listOnly (length es))
+
+-- of the frame as well
+abbrev pub frameSaid : Frame → List Entry → Given
+frameSaid f es = givenDiagnostics es (ofFrame f (length es))
+
+each-keep : {A : Type 0} (P : A → Type 0) (p : A → Bool) (l : List A) → Each P l → Each P (keep p l)
+each-keep P p [] g = tt
+each-keep P p (a ∷ l) g = by (p a) (each-keep P p l (g .1))
+  where
+    by : (b : Bool) → Each P (keep p l) → Each P (pick b (a ∷ []) [] ++ keep p l)
+    by true h = (g .0, h)
+    by false h = h
+
+module _ (es : List Entry) (n : GoodEntries es) where
+  pub start-response-written : (m : MmeId) (c : MceId) → m .0 < 65536 → c .0 < 65536
+      → Written (startResponse m c (entriesOf es)) message.StartResponse (given (value.mme m) ∷ given (value.mce c) ∷ listSaid es ∷ [])
+  unfolding saidBy startResponse tableOf
+  start-response-written m c g h =
+      written (startResponse m c (entriesOf es)) message.StartResponse _ 792 (rw (entries-said es n))
+      (taken-more (takes-mme m refl g) (taken-more (takes-mce c refl h) (taken-more (takes-only es refl refl n) taken-none))) (omega arith)
+
+  pub stop-response-written : (m : MmeId) (c : MceId) → m .0 < 65536 → c .0 < 65536
+      → Written (stopResponse m c (entriesOf es)) message.StopResponse (given (value.mme m) ∷ given (value.mce c) ∷ listSaid es ∷ [])
+  unfolding saidBy stopResponse tableOf
+  stop-response-written m c g h =
+      written (stopResponse m c (entriesOf es)) message.StopResponse _ 792 (rw (entries-said es n))
+      (taken-more (takes-mme m refl g) (taken-more (takes-mce c refl h) (taken-more (takes-only es refl refl n) taken-none))) (omega arith)
+
+  pub start-failure-written : (m : MmeId) (why : Cause) → m .0 < 65536 → GoodCause why
+      → Written (startFailure m why (entriesOf es)) message.StartFailure (given (value.mme m) ∷ given (value.cause why) ∷ listSaid es ∷ [])
+  unfolding saidBy startFailure tableOf
+  start-failure-written m why g h =
+      written (startFailure m why (entriesOf es)) message.StartFailure _ 791 (rw (entries-said es n))
+      (taken-more (takes-mme m refl g) (taken-more (takes-cause why refl h) (taken-more (takes-only es refl refl n) taken-none))) (omega arith)
+
+  -- the acknowledgement lists the items that have an identity, in received order; without one it has no list
+  pub acknowledge-written : (items : Items) → GoodList items
+      → Written (acknowledge items (entriesOf es)) message.ResetAcknowledge
+      (givenList (keep hasIdentity (listed items)) (ltb 0 (length (keep hasIdentity (listed items)))) ∷ listSaid es ∷ [])
+  unfolding saidBy acknowledge withIdentity tableOf
+  acknowledge-written items g =
+      let is : List Item = keep hasIdentity (listed items) in
+      let k = length-keep hasIdentity (listed items) in
+      let f = g .few in
+      let b : length (keep hasIdentity (listed items)) ≤ 256 = omega arith in
+      written (acknowledge items (entriesOf es)) message.ResetAcknowledge _ 3088 (rw (entries-said es n, said-fill emptyItem is b))
+      (taken-more (takes-list is refl refl b (each-keep GoodItem hasIdentity (listed items) (g .each))) (taken-more (takes-only es refl refl n) taken-none)) (omega arith)
+
+  -- of whatever diagnostics suit the row
+  error-written : (x : Mme) (y : Mce) (why : Cause) (d : MaybeDiagnostics) → GoodMme x → GoodMce y → GoodCause why
+      → ((r : Row) → kind.Diagnostics ≡ r .kind → r .mandatory ≡ false → Takes r (givenDiagnostics es d) 778)
+      → Written (errorIndication x y why d (entriesOf es)) message.ErrorIndication (givenMme x ∷ givenMce y ∷ given (value.cause why) ∷ givenDiagnostics es d ∷ [])
+  unfolding saidBy errorIndication tableOf
+  error-written x y why d g h k t =
+      written (errorIndication x y why d (entriesOf es)) message.ErrorIndication _ 798 (rw (entries-said es n))
+      (taken-more (maybe-mme x refl refl g) (taken-more (maybe-mce y refl refl h) (taken-more (takes-cause why refl k) (taken-more (t _ refl refl) taken-none)))) (omega arith)
+
+  pub error-indication-written : (x : Mme) (y : Mce) (why : Cause) (f : Frame) → GoodMme x → GoodMce y → GoodCause why → GoodFrame f
+      → Written (errorIndication x y why (ofFrame f (length es)) (entriesOf es)) message.ErrorIndication (givenMme x ∷ givenMce y ∷ given (value.cause why) ∷ frameSaid f es ∷ [])
+  error-indication-written x y why f g h k u = error-written x y why (ofFrame f (length es)) g h k (λ r e z. takes-frame f es e u n)
+
+  -- diagnostics only with a list
+  pub pair-not-held-written : (f : Frame) (m : MmeId) (c : MceId) → GoodFrame f → m .0 < 65536 → c .0 < 65536
+      → Written (pairNotHeld f m c (entriesOf es)) message.ErrorIndication
+      (given (value.mme m) ∷ given (value.mce c) ∷ given (value.cause unknownPair) ∷ givenDiagnostics es (pick (ltb 0 (length es)) (ofFrame f (length es)) diagnosed.Absent) ∷ [])
+  unfolding pairNotHeld
+  pair-not-held-written f m c u g h =
+      error-written (mme.Is m) (mce.Is c) unknownPair (pick (ltb 0 (length es)) (ofFrame f (length es)) diagnosed.Absent) g h (omega arith)
+      (λ r e z. on-pick (λ (d : MaybeDiagnostics). Takes r (givenDiagnostics es d) 778) (ltb 0 (length es)) (takes-frame f es e u n) (takes-absent 778 z))

@@ -1,0 +1,4 @@
+pub mod Due
+pub mod Answered
+pub mod Words
+pub mod Resets

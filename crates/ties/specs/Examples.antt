@@ -1,0 +1,105 @@
+-- 01's bench examples, as one table: what each is, and its octets.
+use Prim.Native.Nat.{ℕ}
+use mathlib.Core.List.{List, [], _∷_}
+use mathlib.Core.Path.{_≡_}
+use lib.ListN.{length}
+use Rattle.octets.specs.Read.{got, stop}
+use Rattle.octets.specs.declared.Stop.the-variants as stopped
+use Rattle.octets.specs.Field.{lengthAt}
+use Rattle.octets.specs.Write.{lengthOctets}
+use Rattle.octets.specs.Many.{Each}
+use Rattle.identity.specs.declared.Mme.the-variants as mme
+use Rattle.identity.specs.declared.Mce.the-variants as mce
+use Rattle.identity.specs.declared.Item.{Item}
+use Rattle.values.specs.declared.Cause.{Cause}
+use Rattle.values.specs.Values.{causeAt}
+use Rattle.values.specs.Written.{causeOctets}
+use Rattle.items.specs.Items.{ResetType, whole, part, itemAt, resetAt}
+use Rattle.items.specs.Written.{itemOctets, resetOctets}
+use Rattle.tables.specs.declared.Message.{Message}
+use Rattle.tables.specs.declared.Message.the-variants.{Reset, ResetAcknowledge}
+use Rattle.tables.specs.declared.Named.the-variants as named
+use Rattle.said.specs.Value as value
+use Rattle.said.specs.Value.{Given, given, absent}
+use Rattle.said.specs.Said.{Said}
+use Rattle.said.specs.Written as written
+use Rattle.said.specs.Written.{encoded}
+use Rattle.ties.specs.Ties.{ReadAs, Rewritable}
+
+-- what octets are: a length, no length, with the octet at fault, a value, or a message
+pub data What : Type 0 where
+  number : ℕ → What
+  noNumber : ℕ → What
+  item : Item → What
+  cause : Cause → What
+  reset : ResetType → What
+  message : Message → List Given → What
+
+pub record Example : Type 0 where
+  pub what : What
+  pub octets : List ℕ
+
+abbrev saying : Message → List Given → Said
+saying m vs = record { message = named.Is m; values = vs }
+
+-- the octets are read as what they are, all of them
+abbrev pub Reads : What → List ℕ → Type 0
+Reads (number n) s = lengthAt s 0 ≡ got (record { count = n; next = length s })
+Reads (noNumber at) s = lengthAt s 0 ≡ stop (stopped.Fault (record { octet = at }))
+Reads (item i) s = itemAt s 0 ≡ got i
+Reads (cause c) s = causeAt s 0 ≡ got c
+Reads (reset r) s = resetAt s 0 ≡ got r
+Reads (message m vs) s = ReadAs s (saying m vs)
+
+-- it is written as the octets; what is no length is not written
+abbrev pub Writes : What → List ℕ → Type 0
+Writes (number n) s = lengthOctets n ≡ s
+Writes (noNumber at) s = (n : ℕ) → lengthOctets n ≡ s → ⊥
+Writes (item i) s = itemOctets i ≡ s
+Writes (cause c) s = causeOctets c ≡ s
+Writes (reset r) s = resetOctets r ≡ s
+Writes (message m vs) s = encoded (saying m vs) ≡ written.octets s
+
+abbrev both : ℕ → ℕ → Item
+both m c = record { mme = mme.Is (record { 0 = m }); mce = mce.Is (record { 0 = c }) }
+
+abbrev hardwareFailure : Cause
+hardwareFailure = record { group = 4; value = 2 }
+
+-- a RESET of one item, and its acknowledgement
+abbrev pub partialReset : List ℕ
+partialReset =
+    0x00 ∷ 0x04 ∷ 0x00 ∷ 0x17
+    ∷ 0x00 ∷ 0x00 ∷ 0x02
+    ∷ 0x00 ∷ 0x09 ∷ 0x40 ∷ 0x01 ∷ 0x42
+    ∷ 0x00 ∷ 0x0D ∷ 0x00 ∷ 0x0B ∷ 0x40 ∷ 0x00 ∷ 0x00 ∷ 0x0E ∷ 0x00 ∷ 0x05 ∷ 0x60 ∷ 0x00 ∷ 0x01 ∷ 0x00 ∷ 0x02 ∷ []
+
+abbrev pub acknowledgement : List ℕ
+acknowledgement =
+    0x20 ∷ 0x04 ∷ 0x00 ∷ 0x11
+    ∷ 0x00 ∷ 0x00 ∷ 0x01
+    ∷ 0x00 ∷ 0x0F ∷ 0x40 ∷ 0x0A ∷ 0x00 ∷ 0x00 ∷ 0x0E ∷ 0x40 ∷ 0x05 ∷ 0x60 ∷ 0x00 ∷ 0x01 ∷ 0x00 ∷ 0x02 ∷ []
+
+abbrev pub examples : List Example
+examples =
+    record { what = number 127; octets = 0x7F ∷ [] }
+    ∷ record { what = number 128; octets = 0x80 ∷ 0x80 ∷ [] }
+    ∷ record { what = number 16383; octets = 0xBF ∷ 0xFF ∷ [] }
+    ∷ record { what = noNumber 0; octets = 0x80 ∷ 0x05 ∷ [] }
+    ∷ record { what = item (both 1 2); octets = 0x60 ∷ 0x00 ∷ 0x01 ∷ 0x00 ∷ 0x02 ∷ [] }
+    ∷ record { what = item (record { mme = mme.Is (record { 0 = 1 }); mce = mce.Absent }); octets = 0x40 ∷ 0x00 ∷ 0x01 ∷ [] }
+    ∷ record { what = item (record { mme = mme.Absent; mce = mce.Is (record { 0 = 2 }) }); octets = 0x20 ∷ 0x00 ∷ 0x02 ∷ [] }
+    ∷ record { what = item (record { mme = mme.Absent; mce = mce.Absent }); octets = 0x00 ∷ [] }
+    ∷ record { what = cause hardwareFailure; octets = 0x42 ∷ [] }
+    ∷ record { what = reset whole; octets = 0x00 ∷ [] }
+    ∷ record { what = message Reset (given (value.cause hardwareFailure) ∷ given (value.reset (part (both 1 2 ∷ []))) ∷ []); octets = partialReset }
+    ∷ record { what = message ResetAcknowledge (given (value.list (both 1 2 ∷ [])) ∷ absent ∷ []); octets = acknowledgement }
+    ∷ record { what = message ResetAcknowledge (absent ∷ absent ∷ []); octets = 0x20 ∷ 0x04 ∷ 0x00 ∷ 0x03 ∷ 0x00 ∷ 0x00 ∷ 0x00 ∷ [] } ∷ []
+
+-- Each example is written as its octets, and read from them.
+abbrev pub Hold : Type 0
+Hold = Each (λ (e : Example). Writes (e .what) (e .octets) × Reads (e .what) (e .octets)) examples
+
+-- The rewriting theorem speaks of this RESET.
+abbrev pub ResetRewritable : Type 0
+ResetRewritable = Rewritable partialReset
