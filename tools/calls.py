@@ -1,6 +1,7 @@
 #!/usr/bin/env python3
 """calls.py FILE..: writes crates/played/stdin (entries of offer, room, length, message; a length of 65,535 begins anew) and crates/played/stdout (what each call must give):
-the lines 'call OFFERED ROOM HEX => ..' of a FILE, each on an empty table, and 01's bench examples of calls. Encodes by hand, from 000 and X.691."""
+the lines 'call OFFERED ROOM HEX => ..' of a FILE (each on an empty table where they are indented, else a line 'table' begins anew), and 01's bench
+examples of calls, encoded by hand from 000 and X.691."""
 import re, sys
 
 def two(n): return n.to_bytes(2, 'big')
@@ -38,9 +39,12 @@ with open('crates/played/stdin', 'wb') as data, open('crates/played/stdout', 'w'
 
     for path in sys.argv[1:]:
         for text in open(path):
-            if m := re.match(r'\s+call (\d+) (\d+) ([0-9a-f ]+) => (.*)', text):
+            if text == 'table\n':
                 anew()
-                call(int(m.group(1)), int(m.group(2)), bytes.fromhex(m.group(3)), m.group(4))
+            if m := re.match(r'(\s*)call (\d+) (\d+) ([0-9a-f ]*) => (.*)', text):
+                if m.group(1):
+                    anew()
+                call(int(m.group(2)), int(m.group(3)), bytes.fromhex(m.group(4)), m.group(5))
     # held (1, 3): the item (1, 2) removes nothing and is acknowledged
     anew()
     gives(3, 8192, start(1), 0, started(1, 3), 1)

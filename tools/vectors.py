@@ -2,7 +2,7 @@
 """vectors.py FILE..: writes crates/vectors/stdin (each message behind its length in two octets) and crates/vectors/stdout (what must be read of it),
 and crates/rewrite/stdin and stdout: each message that another program encoded, and the same octets in hexadecimal.
 A FILE is one of messages that another program encoded, one JSON object a line (hex, kind, procedure, criticality, octets, the elements' meanings),
-or a text with lines 'read HEX => answer=N offset=K', or '=> answer=N NAME frame=C ID:VALUE .. noted=[..]' with what was read."""
+or a text with lines 'HEX => answer=N offset=K', or '=> answer=N NAME frame=C ID:VALUE .. noted=[..]' with what was read ('read' may stand in front)."""
 import json, re, sys
 NAMES = {(0, 0): 'start-request', (1, 0): 'start-response', (2, 0): 'start-failure', (0, 1): 'stop-request', (1, 1): 'stop-response', (0, 4): 'reset', (1, 4): 'reset-acknowledge', (0, 2): 'error-indication'}
 
@@ -49,32 +49,43 @@ def line(m):
     out += ' entries:' + ''.join(f' {e[0]}.{e[1]}.{e[2]}' for e in (d or {}).get('list') or [])
     return out + ' noted:'
 
-ID = {0: 'mme', 1: 'mce'}
+def number(x):
+    return None if x == '-' else int(x)
+
+def entries(text):
+    return [[int(n) for n in x.split('.')] for x in text.strip('[]').split(',') if x]
+
+def pairs(text):
+    return [[number(x) for x in i] for i in re.findall(r'\(([^,]*),([^)]*)\)', text)]
+
+def element(id, text):
+    """An element as a witness has it: ID:VALUE."""
+    e = {'id': id, 'hex': text}
+    if id == 0: e['mme'] = int(text, 16)
+    if id == 1: e['mce'] = int(text, 16)
+    if id == 2: e['tmgi'] = text.split('.')
+    if id == 3: e['session'] = int(text, 16)
+    if id == 9: e['cause'] = [int(n) for n in text.split('.')]
+    if id == 13: e['reset'] = 'all' if text == 'all' else pairs(text)
+    if id == 15: e['ack'] = pairs(text)
+    if id == 8:
+        code, trigger, crit, list = re.match(r'\{(.*?),(.*?),(.*?),(.*)\}', text).groups()
+        e['diagnostics'] = {'procedure': number(code), 'trigger': number(trigger), 'criticality': number(crit), 'list': None if list == '-' else entries(list)}
+    return e
 
 def read(said):
-    """What is said behind '=>' of a witness, as a message for line() and the words in front."""
+    """What is said behind '=>' of a witness, as a line."""
     words = said.split()
     answer = words[0]
-    if words[0] in ('answer=0', 'answer=5'):
+    if answer in ('answer=0', 'answer=5'):
         name = re.sub(r'(?<!^)([A-Z])', r'-\1', words[1]).lower()
         kind, procedure = next(k for k, v in NAMES.items() if v == name)
-        elements = []
-        for w in words[3:]:
-            m = re.match(r'(\d+):(.*)', w)
-            if not m: continue
-            e = {'id': int(m.group(1)), 'hex': m.group(2)}
-            if e['id'] in ID: e[ID[e['id']]] = int(e['hex'], 16)
-            if e['id'] == 8:
-                c, t, k, l = re.match(r'\{(.*?),(.*?),(.*?),(.*)\}', m.group(2)).groups()
-                number = lambda x: None if x == '-' else int(x)
-                entries = [[int(n) for n in x.split('.')] for x in l.strip('[]').split(',')] if l != '-' else None
-                e['diagnostics'] = {'procedure': number(c), 'trigger': number(t), 'criticality': number(k), 'list': entries}
-            elements.append(e)
+        elements = [element(int(m.group(1)), m.group(2)) for w in words[3:] if (m := re.match(r'(\d+):(.*)', w))]
         m = {'octets': 0, 'kind': kind, 'procedure': procedure, 'criticality': int(words[2].split('=')[1]), 'elements': elements}
-        front = answer + ''.join(' ' + w for w in words if w.startswith(('cause=', 'place=')))
-        return front + line(m)[len('answer=0'):]
-    front = answer + ''.join(' ' + w for w in words[1:])
-    return front + ' none frame=0 items: entries: noted:'
+        noted = next(w for w in words if w.startswith('noted='))[len('noted='):]
+        front = answer + ''.join(' ' + w for w in words if w.startswith(('cause=', 'place=')) and w != 'place=-')
+        return front + line(m)[len('answer=0'):] + ''.join(f' {e[0]}.{e[1]}.{e[2]}' for e in entries(noted))
+    return ' '.join(words) + ' none frame=0 items: entries: noted:'
 
 with open('crates/vectors/stdin', 'wb') as data, open('crates/vectors/stdout', 'w') as wanted, open('crates/rewrite/stdin', 'wb') as again, open('crates/rewrite/stdout', 'w') as same:
     def add(octets, wants):
@@ -88,5 +99,5 @@ with open('crates/vectors/stdin', 'wb') as data, open('crates/vectors/stdout', '
                 if m['octets'] <= 8192:
                     again.write(m['octets'].to_bytes(2, 'big') + bytes.fromhex(m['hex']))
                     same.write('answer=0 ' + m['hex'].lower() + '\n')
-            elif m := re.match(r'\s+read ([0-9a-f ]+) => (.*)', text):
+            elif m := re.match(r'(?:\s+read )?([0-9a-f ]*) => (.*)', text):
                 add(bytes.fromhex(m.group(1)), read(m.group(2)))

@@ -1,0 +1,105 @@
+#![deny(warnings)]
+#![forbid(unsafe_code)]
+
+use second::text::{call_parts, call_verdict, read_verdict, unhex};
+use second::{capture, check, make, TABLE_OCTETS};
+use std::io::{self, BufRead, BufWriter, Write};
+use std::process::ExitCode;
+
+const USAGE: &str = "usage:
+  second check READINGS.md [VECTORS.jsonl ..]
+  second make SEED COUNT reads|calls|calls-table|calls-binary
+  second judge < LINES
+  second capture FILE";
+
+fn main() -> ExitCode {
+    let args: Vec<String> = std::env::args().skip(1).collect();
+    let args: Vec<&str> = args.iter().map(String::as_str).collect();
+    let done = match args[..] {
+        ["check", ref paths @ ..] if !paths.is_empty() => check_all(paths),
+        ["make", seed, count, kind] => make_all(seed, count, kind),
+        ["judge"] => judge(),
+        ["capture", path] => play(path),
+        _ => Err(USAGE.into()),
+    };
+    match done {
+        Ok(true) => ExitCode::SUCCESS,
+        Ok(false) => ExitCode::FAILURE,
+        Err(why) => {
+            eprintln!("{why}");
+            ExitCode::from(2)
+        }
+    }
+}
+
+type Done = Result<bool, String>;
+
+fn check_all(paths: &[&str]) -> Done {
+    let mut result = check::Result::default();
+    for path in paths {
+        let text = std::fs::read_to_string(path).map_err(|e| format!("{path}: {e}"))?;
+        if path.ends_with(".jsonl") {
+            check::vectors(path, &text, &mut result);
+        } else {
+            check::readings(&text, &mut result);
+        }
+    }
+    for difference in &result.differences {
+        println!("{difference}");
+    }
+    println!("read witnesses: {}", result.reads);
+    println!("call witnesses: {}", result.calls);
+    println!("messages: {} ({} over the limit)", result.messages, result.over);
+    println!("differences: {}", result.differences.len());
+    Ok(result.differences.is_empty())
+}
+
+fn make_all(seed: &str, count: &str, kind: &str) -> Done {
+    let seed = seed.parse().map_err(|_| USAGE)?;
+    let count = count.parse().map_err(|_| USAGE)?;
+    let mut out = BufWriter::new(io::stdout().lock());
+    match kind {
+        "reads" => make::reads(seed, count, &mut out),
+        "calls" => make::calls(seed, count, make::Form::Text, &mut out),
+        "calls-table" => make::calls(seed, count, make::Form::Digest, &mut out),
+        "calls-binary" => make::calls(seed, count, make::Form::Binary, &mut out),
+        _ => return Err(USAGE.into()),
+    }
+    .and_then(|()| out.flush())
+    .map_err(|e| e.to_string())?;
+    Ok(true)
+}
+
+/// Gives our verdict on cases from elsewhere: lines as `make` prints them (what stands behind
+/// ` =>` is dropped).
+fn judge() -> Done {
+    let mut table = vec![0; TABLE_OCTETS];
+    let mut out = BufWriter::new(io::stdout().lock());
+    for line in io::stdin().lock().lines() {
+        let line = line.map_err(|e| e.to_string())?;
+        let shown = line.split_once(" => ").map_or(&line[..], |(case, _)| case);
+        let case = shown.trim();
+        let verdict = if case == "table" {
+            table.fill(0);
+            writeln!(out, "table").map_err(|e| e.to_string())?;
+            continue;
+        } else if let Some(text) = case.strip_prefix("call ") {
+            let (offered, room, octets) = call_parts(text).ok_or_else(|| format!("not understood: {case}"))?;
+            call_verdict(&mut table, offered, room, &octets)
+        } else {
+            let octets = unhex(case.strip_prefix("read ").unwrap_or(case));
+            read_verdict(&octets.ok_or_else(|| format!("not understood: {case}"))?)
+        };
+        writeln!(out, "{shown} => {verdict}").map_err(|e| e.to_string())?;
+    }
+    out.flush().map_err(|e| e.to_string())?;
+    Ok(true)
+}
+
+fn play(path: &str) -> Done {
+    let input = std::fs::read(path).map_err(|e| format!("{path}: {e}"))?;
+    let mut text = String::new();
+    capture(&input, &mut text);
+    print!("{text}");
+    Ok(true)
+}

@@ -1,0 +1,669 @@
+//! A slow model, written a second time and bit by bit, held against the library on made cases.
+#![deny(warnings)]
+
+use second::make::{Calls, Reads, Step};
+use second::text::{hex, read_verdict};
+use second::{call, read, write, Read, TABLE_OCTETS};
+
+type Pair = (Option<u16>, Option<u16>);
+type Note = (u8, u16, u8);
+type Bad = (u8, usize);
+
+#[derive(Clone, Debug)]
+enum Value {
+    Identity(u16),
+    Tmgi(Vec<u8>),
+    Session(u8),
+    Cause(u8, u8),
+    All,
+    Part(Vec<Pair>),
+    Acknowledged(Vec<Pair>),
+    Diagnostics(Option<u8>, Option<u8>, Option<u8>, Option<Vec<Note>>),
+    Carried(Vec<u8>),
+}
+
+struct Message {
+    name: &'static str,
+    frame: u8,
+    procedure: u8,
+    elements: Vec<(u16, Value)>,
+    noted: Vec<Note>,
+    rejected: Option<(u8, u8, Option<usize>)>,
+    /// Only its table's elements and criticalities, none missing.
+    plain: bool,
+}
+
+enum Verdict {
+    Bare(u8),
+    At(Bad),
+    Message(Message),
+}
+
+/// kind, procedure, frame's criticality, name, elements (id, presence, criticality).
+const TABLES: [(u64, u64, u8, &str, &str); 8] = [
+    (0, 0, 0, "StartRequest", "0mr 2mr 3oi 4mr 5mr 6mr 16mr 7mr 21oi 23oi 24oi 25or"),
+    (1, 0, 0, "StartResponse", "0mi 1mi 8oi"),
+    (2, 0, 0, "StartFailure", "0mi 9mi 8oi"),
+    (0, 1, 0, "StopRequest", "0mr 1mr 22oi"),
+    (1, 1, 0, "StopResponse", "0mi 1mi 8oi"),
+    (0, 4, 0, "Reset", "9mi 13mr"),
+    (1, 4, 0, "ResetAcknowledge", "15oi 8oi"),
+    (0, 2, 1, "ErrorIndication", "0oi 1oi 9oi 8oi"),
+];
+
+fn rows(text: &str) -> Vec<(u16, bool, u8)> {
+    text.split(' ')
+        .map(|row| {
+            let (id, rest) = row.split_at(row.len() - 2);
+            (id.parse().unwrap(), rest.starts_with('m'), rest.ends_with('i') as u8)
+        })
+        .collect()
+}
+
+/// Bits of `o` from `bit` up to the octet `end`.
+struct Cursor<'a> {
+    o: &'a [u8],
+    bit: usize,
+    end: usize,
+}
+
+impl<'a> Cursor<'a> {
+    fn at(&self) -> usize {
+        self.bit / 8
+    }
+
+    fn take(&mut self, width: usize) -> Result<u64, Bad> {
+        if self.bit + width > 8 * self.end {
+            return Err((2, self.at()));
+        }
+        let mut value = 0;
+        for _ in 0..width {
+            value = value << 1 | (self.o[self.bit / 8] >> (7 - self.bit % 8) & 1) as u64;
+            self.bit += 1;
+        }
+        Ok(value)
+    }
+
+    fn extension(&mut self) -> Result<(), Bad> {
+        let at = self.at();
+        match self.take(1)? {
+            0 => Ok(()),
+            _ => Err((3, at)),
+        }
+    }
+
+    fn below(&mut self, width: usize, limit: u64) -> Result<u8, Bad> {
+        let at = self.at();
+        let value = self.take(width)?;
+        if value < limit {
+            Ok(value as u8)
+        } else {
+            Err((2, at))
+        }
+    }
+
+    fn align(&mut self) -> Result<(), Bad> {
+        let at = self.at();
+        match self.take((8 - self.bit % 8) % 8)? {
+            0 => Ok(()),
+            _ => Err((2, at)),
+        }
+    }
+
+    fn finish(&mut self) -> Result<(), Bad> {
+        self.align()?;
+        if self.at() < self.end {
+            return Err((2, self.at()));
+        }
+        Ok(())
+    }
+
+    /// A length; the value's own cursor. This one goes on behind it.
+    fn open(&mut self) -> Result<Cursor<'a>, Bad> {
+        let at = self.at();
+        let bad = Err((2, at));
+        let Ok(first) = self.take(8) else { return bad };
+        let size = match first {
+            0..=127 => first,
+            128..=191 => match self.take(8) {
+                Ok(second) => (first - 128) * 256 + second,
+                Err(_) => return bad,
+            },
+            _ => return bad,
+        } as usize;
+        if first >= 128 && size < 128 || size == 0 || self.at() + size > self.end {
+            return bad;
+        }
+        let value = Cursor { o: self.o, bit: self.bit, end: self.at() + size };
+        self.bit = 8 * value.end;
+        Ok(value)
+    }
+}
+
+fn pairs(c: &mut Cursor) -> Result<Vec<Pair>, Bad> {
+    let mut list = Vec::new();
+    for _ in 0..c.take(8)? + 1 {
+        let at = c.at();
+        if c.take(16)? != 14 {
+            return Err((2, at));
+        }
+        c.below(2, 3)?;
+        c.align()?;
+        let mut item = c.open()?;
+        item.extension()?;
+        let (mme, mce) = (item.take(1)?, item.take(1)?);
+        item.extension()?;
+        item.align()?;
+        let mut pair = (None, None);
+        if mme == 1 {
+            pair.0 = Some(item.take(16)? as u16);
+        }
+        if mce == 1 {
+            pair.1 = Some(item.take(16)? as u16);
+        }
+        item.finish()?;
+        list.push(pair);
+    }
+    Ok(list)
+}
+
+fn value(id: u16, mut c: Cursor) -> Result<Value, Bad> {
+    let c = &mut c;
+    let value = match id {
+        0 | 1 => Value::Identity(c.take(16)? as u16),
+        2 => {
+            c.extension()?;
+            c.align()?;
+            let both = [c.take(24)?, c.take(24)?];
+            Value::Tmgi(both.iter().flat_map(|v| v.to_be_bytes()[5..].to_vec()).collect())
+        }
+        3 => Value::Session(c.take(8)? as u8),
+        9 => {
+            c.extension()?;
+            let group = c.below(3, 5)?;
+            c.extension()?;
+            let number = match group {
+                0 => c.below(3, 8)?,
+                1 => c.below(1, 2)?,
+                2 => 0,
+                3 => c.below(3, 7)?,
+                _ => c.below(3, 5)?,
+            };
+            Value::Cause(group, number)
+        }
+        13 => {
+            c.extension()?;
+            if c.take(1)? == 0 {
+                c.extension()?;
+                Value::All
+            } else {
+                c.align()?;
+                Value::Part(pairs(c)?)
+            }
+        }
+        15 => Value::Acknowledged(pairs(c)?),
+        8 => {
+            c.extension()?;
+            let (code, trigger, criticality, list) = (c.take(1)?, c.take(1)?, c.take(1)?, c.take(1)?);
+            c.extension()?;
+            let mut parts = (None, None, None, None);
+            if code == 1 {
+                c.align()?;
+                parts.0 = Some(c.take(8)? as u8);
+            }
+            if trigger == 1 {
+                parts.1 = Some(c.below(2, 3)?);
+            }
+            if criticality == 1 {
+                parts.2 = Some(c.below(2, 3)?);
+            }
+            if list == 1 {
+                c.align()?;
+                let mut entries = Vec::new();
+                for _ in 0..c.take(8)? + 1 {
+                    c.extension()?;
+                    c.extension()?;
+                    let criticality = c.below(2, 3)?;
+                    c.align()?;
+                    let id = c.take(16)? as u16;
+                    c.extension()?;
+                    entries.push((criticality, id, c.take(1)? as u8));
+                }
+                parts.3 = Some(entries);
+            }
+            Value::Diagnostics(parts.0, parts.1, parts.2, parts.3)
+        }
+        _ => {
+            let octets = c.o[c.at()..c.end].to_vec();
+            c.bit = 8 * c.end;
+            Value::Carried(octets)
+        }
+    };
+    c.finish()?;
+    Ok(value)
+}
+
+fn model_read(o: &[u8], requests_only: bool) -> Verdict {
+    if o.len() > 8192 {
+        return Verdict::Bare(1);
+    }
+    let framed = || {
+        let mut c = Cursor { o, bit: 0, end: o.len() };
+        c.extension()?;
+        let kind = c.below(2, 3)?;
+        c.align()?;
+        let procedure = c.take(8)?;
+        let criticality = c.below(2, 3)?;
+        c.align()?;
+        let message = c.open()?;
+        c.finish()?;
+        Ok((kind as u64, procedure, criticality, message))
+    };
+    let (kind, procedure, criticality, message) = match framed() {
+        Ok(frame) => frame,
+        Err(bad) => return Verdict::At(bad),
+    };
+    let Some(&(.., own, name, table)) = TABLES.iter().find(|t| t.0 == kind && t.1 == procedure) else {
+        return Verdict::Bare(4);
+    };
+    if requests_only && kind != 0 {
+        return Verdict::Bare(4);
+    }
+    let rows = rows(table);
+
+    // All elements first, then judging.
+    let elements = (|| {
+        let mut c = message;
+        let mut list = Vec::new();
+        c.extension()?;
+        c.align()?;
+        for _ in 0..c.take(16)? {
+            let id = c.take(16)? as u16;
+            let criticality = c.below(2, 3)?;
+            c.align()?;
+            let open = c.open()?;
+            let row = rows.iter().position(|row| row.0 == id);
+            list.push((id, criticality, row, match row {
+                Some(_) => Some(value(id, open)?),
+                None => None,
+            }));
+        }
+        c.finish()?;
+        Ok(list)
+    })();
+    let elements = match elements {
+        Ok(elements) => elements,
+        Err(bad) => return Verdict::At(bad),
+    };
+
+    let known: Vec<(usize, usize)> = elements.iter().enumerate().filter_map(|(i, e)| e.2.map(|row| (i, row))).collect();
+    let place = known.windows(2).find(|w| w[1].1 <= w[0].1).map(|w| w[1].0);
+    let before = &elements[..place.unwrap_or(elements.len())];
+    let mut noted: Vec<Note> =
+        before.iter().filter(|e| e.2.is_none() && e.1 != 1).map(|e| (e.1, e.0, 0)).collect();
+    let absent: Vec<_> = rows.iter().filter(|row| row.1 && before.iter().all(|e| e.0 != row.0)).collect();
+    if place.is_none() {
+        noted.extend(absent.iter().filter(|row| row.2 == 0).map(|row| (0, row.0, 1)));
+    }
+    let rejected = match place {
+        Some(_) => Some((3, 5, place)),
+        None if noted.iter().any(|n| n.0 == 0) => Some((3, 1, None)),
+        None => None,
+    };
+    noted.truncate(256);
+    let items_plain = {
+        // Criticalities of items: found by looking at the octets of the known elements again.
+        let wanted = if kind == 0 { 0 } else { 0x40 };
+        let mut plain = true;
+        let mut at = o.len() - elements_size(o);
+        for _ in 0..elements.len() {
+            let id = u16::from_be_bytes([o[at], o[at + 1]]);
+            let (size, start) = length(o, at + 3);
+            if id == 13 && o[start] == 0x40 || id == 15 {
+                let mut item = start + if id == 13 { 2 } else { 1 };
+                while item < start + size && rows.iter().any(|row| row.0 == id) {
+                    plain &= o[item + 2] == wanted;
+                    item += 4 + o[item + 3] as usize;
+                }
+            }
+            at = start + size;
+        }
+        plain
+    };
+    let plain = rejected.is_none()
+        && own == criticality
+        && absent.is_empty()
+        && elements.iter().all(|e| e.2.is_some_and(|row| rows[row].2 == e.1))
+        && items_plain;
+    let elements = before.iter().filter_map(|e| e.3.clone().map(|value| (e.0, value))).collect();
+    Verdict::Message(Message { name, frame: criticality, procedure: procedure as u8, elements, noted, rejected, plain })
+}
+
+fn length(o: &[u8], at: usize) -> (usize, usize) {
+    match o[at] {
+        n @ 0..=127 => (n as usize, at + 1),
+        n => ((n as usize - 128) * 256 + o[at + 1] as usize, at + 2),
+    }
+}
+
+fn elements_size(o: &[u8]) -> usize {
+    o.len() - length(o, 3).1 - 3
+}
+
+fn show(n: Option<impl ToString>) -> String {
+    n.map_or("-".into(), |n| n.to_string())
+}
+
+fn show_pairs(list: &[Pair]) -> String {
+    let list: Vec<String> = list.iter().map(|p| format!("({},{})", show(p.0), show(p.1))).collect();
+    format!("[{}]", list.join(","))
+}
+
+fn show_notes(list: &[Note]) -> String {
+    let list: Vec<String> = list.iter().map(|n| format!("{}.{}.{}", n.0, n.1, n.2)).collect();
+    format!("[{}]", list.join(","))
+}
+
+fn show_value(value: &Value) -> String {
+    match value {
+        Value::Identity(n) => format!("{n:04x}"),
+        Value::Tmgi(o) => format!("{}.{}", hex(&o[..3]), hex(&o[3..])),
+        Value::Session(n) => format!("{n:02x}"),
+        Value::Cause(group, number) => format!("{group}.{number}"),
+        Value::All => "all".into(),
+        Value::Part(list) => format!("part{}", show_pairs(list)),
+        Value::Acknowledged(list) => show_pairs(list),
+        Value::Diagnostics(a, b, c, list) => {
+            let list = list.as_ref().map(|list| show_notes(list));
+            format!("{{{},{},{},{}}}", show(*a), show(*b), show(*c), show(list))
+        }
+        Value::Carried(o) => hex(o),
+    }
+}
+
+fn show_verdict(verdict: &Verdict) -> String {
+    match verdict {
+        Verdict::Bare(answer) => format!("answer={answer}"),
+        Verdict::At((answer, at)) => format!("answer={answer} offset={at}"),
+        Verdict::Message(m) => {
+            let mut s = format!("answer={} {} frame={}", if m.rejected.is_some() { 5 } else { 0 }, m.name, m.frame);
+            for (id, value) in &m.elements {
+                s += &format!(" {id}:{}", show_value(value));
+            }
+            s += &format!(" noted={}", show_notes(&m.noted));
+            if let Some((group, number, place)) = m.rejected {
+                s += &format!(" cause={group}.{number} place={}", show(place));
+            }
+            s
+        }
+    }
+}
+
+#[test]
+fn reads_agree() {
+    let mut rewritten = 0;
+    for seed in 0..10 {
+        for octets in Reads::new(seed).take(4000) {
+            let verdict = model_read(&octets, false);
+            assert_eq!(show_verdict(&verdict), read_verdict(&octets), "{}", hex(&octets));
+            let (Verdict::Message(model), Read::Message(reading)) = (verdict, read(&octets)) else { continue };
+            let mut room = [0x77; 8192];
+            let written = write(&reading.record, &mut room);
+            if model.plain {
+                assert_eq!(written, Ok(octets.len()), "{}", hex(&octets));
+                assert_eq!(room[..octets.len()], octets, "{}", hex(&octets));
+                rewritten += 1;
+            } else if let Ok(size) = written {
+                // What was written reads as the same record.
+                let Read::Message(again) = read(&room[..size]) else { panic!("{}", hex(&octets)) };
+                let (mut a, mut b) = (String::new(), String::new());
+                second::text::push_record(&mut a, &reading.record);
+                second::text::push_record(&mut b, &again.record);
+                assert_eq!(a, b);
+                assert!(again.rejected.is_none() && again.noted.is_empty());
+            }
+        }
+    }
+    assert!(rewritten > 3000, "{rewritten}");
+}
+
+/// An association: MME and MCE identity, TMGI, Session Identity.
+type Held = (u16, u16, Vec<u8>, Option<u8>);
+
+fn lent(state: &[Held]) -> Vec<u8> {
+    let mut o = (state.len() as u16).to_be_bytes().to_vec();
+    for (mme, mce, tmgi, session) in state {
+        o.extend(mme.to_be_bytes());
+        o.extend(mce.to_be_bytes());
+        o.extend(tmgi);
+        o.extend(match session {
+            Some(session) => [1, *session],
+            None => [0, 0],
+        });
+    }
+    o.resize(TABLE_OCTETS, 0);
+    o
+}
+
+fn element(id: u16, value: &[u8], out: &mut Vec<u8>) {
+    out.extend(id.to_be_bytes());
+    out.push(0x40);
+    sized(value, out);
+}
+
+fn sized(value: &[u8], out: &mut Vec<u8>) {
+    if value.len() > 127 {
+        out.push(128 + (value.len() / 256) as u8);
+    }
+    out.push((value.len() % 256) as u8);
+    out.extend(value);
+}
+
+/// Replies hold ignore elements only, in the order given.
+fn message(first: u8, procedure: u8, criticality: u8, elements: &[(u16, Vec<u8>)]) -> Vec<u8> {
+    let mut body = vec![0, 0, elements.len() as u8];
+    for (id, value) in elements {
+        element(*id, value, &mut body);
+    }
+    let mut out = vec![first, procedure, criticality];
+    sized(&body, &mut out);
+    out
+}
+
+fn bits_of(notes: &[Note], frame: Option<(u8, u8)>) -> Vec<u8> {
+    let mut bits = String::new();
+    let align = |bits: &mut String| {
+        while !bits.len().is_multiple_of(8) {
+            bits.push('0');
+        }
+    };
+    let list = if notes.is_empty() { "00" } else { "10" };
+    match frame {
+        Some((procedure, criticality)) => bits += &format!("0111{list}00{procedure:08b}00{criticality:02b}"),
+        None => bits += &format!("0000{list}"),
+    }
+    if !notes.is_empty() {
+        align(&mut bits);
+        bits += &format!("{:08b}", notes.len() - 1);
+        for (criticality, id, error) in notes {
+            bits += &format!("00{criticality:02b}");
+            align(&mut bits);
+            bits += &format!("{id:016b}0{error}");
+        }
+    }
+    align(&mut bits);
+    bits.as_bytes().chunks(8).map(|c| u8::from_str_radix(std::str::from_utf8(c).unwrap(), 2).unwrap()).collect()
+}
+
+fn acknowledged(items: &[Pair]) -> Vec<u8> {
+    let mut value = vec![(items.len() - 1) as u8];
+    for item in items {
+        let mut o = vec![0];
+        if let Some(mme) = item.0 {
+            o[0] |= 0x40;
+            o.extend(mme.to_be_bytes());
+        }
+        if let Some(mce) = item.1 {
+            o[0] |= 0x20;
+            o.extend(mce.to_be_bytes());
+        }
+        element(14, &o, &mut value);
+    }
+    value
+}
+
+/// The model's call: answer, offset, reply.
+fn model_call(state: &mut Vec<Held>, offered: u16, room: usize, o: &[u8]) -> (u8, usize, Vec<u8>) {
+    let m = match model_read(o, true) {
+        Verdict::Bare(answer) => return (answer, 0, vec![]),
+        Verdict::At((answer, at)) => return (answer, at, vec![]),
+        Verdict::Message(m) => m,
+    };
+    let mut new = state.clone();
+    let find = |id| m.elements.iter().find(|e| e.0 == id).map(|e| e.1.clone());
+    let number = |id| match find(id) {
+        Some(Value::Identity(n)) => Some(n),
+        _ => None,
+    };
+    let (mme, mce) = (number(0), number(1));
+    let named = |id: u16, n: Option<u16>| n.map(|n| (id, n.to_be_bytes().to_vec()));
+    let list = |elements: Vec<Option<(u16, Vec<u8>)>>| {
+        let mut elements: Vec<_> = elements.into_iter().flatten().collect();
+        if !m.noted.is_empty() {
+            elements.push((8, bits_of(&m.noted, None)));
+        }
+        elements
+    };
+    let failure = |cause: u8| message(0x40, 0, 0, &list(vec![named(0, mme), Some((9, vec![cause]))]));
+    let indication = |cause: u8, always: bool| {
+        let mut elements: Vec<_> = vec![named(0, mme), named(1, mce), Some((9, vec![cause]))];
+        if always || !m.noted.is_empty() {
+            elements.push(Some((8, bits_of(&m.noted, Some((m.procedure, m.frame))))));
+        }
+        let elements: Vec<_> = elements.into_iter().flatten().collect();
+        message(0, 2, 0x40, &elements)
+    };
+    let (answer, reply) = if let Some((group, n, _)) = m.rejected {
+        let cause = group * 16 + n;
+        match m.name {
+            "ErrorIndication" => (5, vec![]),
+            "StartRequest" if mme.is_some() => (5, failure(cause)),
+            _ => (5, indication(cause, true)),
+        }
+    } else {
+        match m.name {
+            "StartRequest" => {
+                let mme = mme.unwrap();
+                if state.iter().any(|a| a.0 == mme) {
+                    (6, failure(0))
+                } else if state.iter().any(|a| a.1 == offered) {
+                    (7, vec![])
+                } else if state.len() == 256 {
+                    (9, failure(3))
+                } else {
+                    let Some(Value::Tmgi(tmgi)) = find(2) else { panic!() };
+                    let session = match find(3) {
+                        Some(Value::Session(n)) => Some(n),
+                        _ => None,
+                    };
+                    new.push((mme, offered, tmgi, session));
+                    (0, message(0x20, 0, 0, &list(vec![named(0, Some(mme)), named(1, Some(offered))])))
+                }
+            }
+            "StopRequest" => {
+                new.retain(|a| (Some(a.0), Some(a.1)) != (mme, mce));
+                if new.len() == state.len() {
+                    (8, indication(2, false))
+                } else {
+                    (0, message(0x20, 1, 0, &list(vec![named(0, mme), named(1, mce)])))
+                }
+            }
+            "Reset" => match find(13) {
+                Some(Value::All) => {
+                    new.clear();
+                    (0, message(0x20, 4, 0, &list(vec![])))
+                }
+                Some(Value::Part(items)) => {
+                    new.retain(|a| {
+                        !items.iter().any(|item| match *item {
+                            (Some(mme), Some(mce)) => mme == a.0 && mce == a.1,
+                            (Some(mme), None) => mme == a.0,
+                            (None, Some(mce)) => mce == a.1,
+                            (None, None) => false,
+                        })
+                    });
+                    let items: Vec<Pair> = items.into_iter().filter(|item| *item != (None, None)).collect();
+                    let value = (!items.is_empty()).then(|| (15, acknowledged(&items)));
+                    (0, message(0x20, 4, 0, &list(vec![value])))
+                }
+                _ => panic!(),
+            },
+            _ => (0, vec![]),
+        }
+    };
+    if reply.len() > room {
+        return (10, 0, vec![]);
+    }
+    if answer == 0 {
+        *state = new;
+    }
+    (answer, 0, reply)
+}
+
+#[test]
+fn calls_agree() {
+    let mut seen = [0usize; 11];
+    for seed in 0..8 {
+        let mut state = Vec::new();
+        let mut table = vec![0; TABLE_OCTETS];
+        for step in Calls::new(seed).take(4000) {
+            let Step::Call { offered, room, message, .. } = step else {
+                state.clear();
+                table.fill(0);
+                continue;
+            };
+            let before = state.len();
+            let (answer, offset, reply) = model_call(&mut state, offered, room as usize, &message);
+            let mut lend = vec![0xa5; room as usize];
+            let done = call(&mut table, &message, offered, &mut lend);
+            assert_eq!((answer, offset), (done.answer, done.offset), "{offered} {room} {}", hex(&message));
+            assert_eq!(hex(&reply), hex(&lend[..done.reply]), "{offered} {room} {}", hex(&message));
+            assert!(lend[done.reply..].iter().all(|&b| b == 0xa5));
+            assert_eq!(lent(&state), table, "{before} {}", hex(&message));
+            seen[answer as usize] += 1;
+            if !reply.is_empty() {
+                // Every reply is a message of ours, read with 0 and written alike.
+                let Read::Message(reading) = read(&reply) else { panic!("{}", hex(&reply)) };
+                assert!(reading.rejected.is_none() && reading.noted.is_empty());
+                let mut again = vec![0; reply.len()];
+                assert_eq!(write(&reading.record, &mut again), Ok(reply.len()));
+                assert_eq!(again, reply);
+            }
+        }
+    }
+    for answer in [0, 2, 3, 4, 5, 6, 7, 8, 9, 10] {
+        assert!(seen[answer] > 20, "answer {answer}: {}", seen[answer]);
+    }
+}
+
+#[test]
+fn binary_form() {
+    use second::make::{calls, Form};
+    let (mut text, mut binary) = (Vec::new(), Vec::new());
+    calls(7, 3000, Form::Text, &mut text).unwrap();
+    calls(7, 3000, Form::Binary, &mut binary).unwrap();
+    let mut rest = &binary[..];
+    for line in std::str::from_utf8(&text).unwrap().lines() {
+        let n = |i: usize| u16::from_be_bytes([rest[i], rest[i + 1]]);
+        let (offered, room, size) = (n(0), n(2), n(4));
+        rest = &rest[6..];
+        if size == 0xffff {
+            assert_eq!((line, offered, room), ("table", 0, 0));
+            continue;
+        }
+        let (message, behind) = rest.split_at(size as usize);
+        rest = behind;
+        assert!(line.starts_with(&format!("call {offered} {room} {} => ", hex(message))));
+    }
+    assert!(rest.is_empty());
+}
