@@ -71,3 +71,41 @@ with open('crates/played/stdin', 'wb') as data, open('crates/played/stdout', 'w'
     gives(1000, 8192, start(0), 0, started(0, 1000), 128)
     gives(0, 8192, WHOLE, 0, acknowledged([]), 0)
     gives(0, 8192, reset([(None, None)]), 0, acknowledged([]), 0)
+
+    # Resets dealt out afresh on a full table: one message, or three with the items the other way about. What is held then is asked for by stops.
+    ids = [(k * 257 % 65536, 65535 - k) for k in range(256)]
+    named = [(m, None) if i % 3 == 0 else (None, c) if i % 3 == 1 else (m, c) for i, (m, c) in enumerate(ids) if i % 5 < 2]
+    back = named[::-1]
+    for runs in ([named], [back[:50], back[50:51], back[51:]]):
+        anew()
+        for i, (m, c) in enumerate(ids):
+            gives(c, 8192, start(m), 0, started(m, c), i + 1)
+        held = 256
+        for run in runs:
+            held -= len(run)
+            gives(0, 8192, reset(run), 0, acknowledged(run), held)
+        for i, (m, c) in enumerate(ids):
+            if i % 5 < 2:
+                gives(0, 8192, stop(m, c), 8, message(0, 2, IGNORE, [mme(m, IGNORE), mce(c, IGNORE), element(9, IGNORE, b'\x02')]), held)
+            else:
+                held -= 1
+                gives(0, 8192, stop(m, c), 0, stopped(m, c), held)
+    # A start and a reset, a stop and a reset, in either order.
+    for first in (0, 1):
+        anew()
+        for i, (m, c) in enumerate(ids[:255]):
+            gives(c, 8192, start(m), 0, started(m, c), i + 1)
+        held = 255
+        def reset_two():
+            gives(0, 8192, reset([ids[3], ids[7]]), 0, acknowledged([ids[3], ids[7]]), held - 2)
+            return held - 2
+        if first: held = reset_two()
+        held += 1
+        gives(ids[255][1], 8192, start(ids[255][0]), 0, started(*ids[255]), held)
+        if not first: held = reset_two()
+        held -= 1
+        gives(0, 8192, stop(*ids[9]), 0, stopped(*ids[9]), held)
+        for i, (m, c) in enumerate(ids):
+            if i not in (3, 7, 9):
+                held -= 1
+                gives(0, 8192, stop(m, c), 0, stopped(m, c), held)
