@@ -2,7 +2,7 @@
 -- Assumes nothing.
 use Prim.Native.Nat.{ℕ, zero, suc, _+_, _^_, _<_, _≤_}
 use mathlib.Core.Path.{_≡_, _∙_, refl, sym, ap, subst}
-use mathlib.Core.List.{List, [], _∷_, _++_}
+use mathlib.Core.List.{List, [], _∷_}
 use native.Mathlib.Omega.{arith}
 use lib.Dec.{ltb, eqb}
 use lib.ListN.{length, take, length-take}
@@ -52,6 +52,7 @@ use Rattle.messages.specs.declared.Outcome.the-variants as outcome
 use Rattle.messages.specs.declared.Verdict.{Verdict}
 use Rattle.messages.specs.Frame.{kindAt, frameAt, countAt}
 use Rattle.messages.specs.Verdict.{without, verdictOf, orStopped, insideOf}
+use Rattle.ties.proofs.Each.{each-append}
 use Rattle.judge.specs.declared.Judged.{Judged}
 use Rattle.judge.specs.Judge.{asks, noFrame, verdictBy, judgedIn, judgedOf}
 use Rattle.ties.proofs.Placed.{Fits, table-lawful}
@@ -85,10 +86,6 @@ pub record Sound (j : Judged) : Type 0 where
 -- ---- each of a list
 
 module _ {A : Type 0} (P : A → Type 0) where
-  each-append : (l m : List A) → Each P l → Each P m → Each P (l ++ m)
-  each-append [] m g h = h
-  each-append (a ∷ l) m g h = (g .0, each-append l m (g .1) h)
-
   each-take : (n : ℕ) (l : List A) → Each P l → Each P (take n l)
   each-take zero l g = tt
   each-take (suc n) [] g = tt

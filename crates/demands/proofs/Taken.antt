@@ -22,7 +22,7 @@ use Rattle.said.specs.Octets.{envelopeOctets, elementOctets, elementsOctets, pr
 use Rattle.said.specs.Written.{elementGood, elementsGood, isWritten, octets, encoded}
 use Rattle.said.specs.Ranges.{kindOf, InRange, RowRange, Ranged}
 use Rattle.ties.specs.Ties.{InTypes, ReadAs}
-use Rattle.ties.proofs.Back.{read-back}
+use Rattle.ties.proofs.Back.{in-range-back}
 use Rattle.unit.specs.Unit.{replyOctets}
 
 -- ---- rows and tables
@@ -117,5 +117,5 @@ module _ (r : Record) (m : Message) (vs : List Given) (n : ℕ) (q : saidBy r []
     octets = has-octets;
     reply = is-reply;
     size = rw is-reply small;
-    back = rw is-reply (read-back r [] (messageOctets m vs) in-types has-octets);
+    back = rw is-reply (in-range-back r [] (messageOctets m vs) in-types has-octets);
   }

@@ -23,6 +23,7 @@ use Rattle.tables.specs.declared.Message.the-variants as message
 use Rattle.tables.specs.declared.Named.{Named}
 use Rattle.tables.specs.declared.Named.the-variants as named
 use Rattle.tables.specs.Tables.{tableOf, codeOf, namedBy}
+use Rattle.records.specs.declared.Record.{Record}
 use Rattle.records.specs.Records.{rowIn, recordOf}
 use Rattle.messages.specs.declared.Verdict.{Verdict}
 use Rattle.messages.specs.Frame.{frameAt}
@@ -34,6 +35,7 @@ use Rattle.said.specs.Written.{elementsGood, isWritten, octets, none, encodedAs
 use Rattle.said.specs.Reading.{valuesIn}
 use Rattle.said.specs.Ranges.{InRange, Ranged}
 use Rattle.ties.specs.Ties.{InTypes, ReadAs, ReadBack, RecordsDiffer}
+use Rattle.ties.proofs.InTypes.{in-types}
 use Rattle.ties.proofs.ValueBack.{counted-bounds, diagnostics-has}
 use Rattle.ties.proofs.Bridge.{HeldReset, HeldValue, Held, bridge-held}
 use Rattle.ties.proofs.Placed.{table-lawful}
@@ -192,9 +194,12 @@ said-back (named.Is m) vs os g q = by (isWritten m vs) refl q
     by true e q = let z : messageOctets m vs ≡ os = cc in subst (λ (x : List ℕ). ReadAs x (record { message = named.Is m; values = vs })) z (message-back m vs (g m refl) e)
     by false e q = absurd (no-octets q)
 
-pub read-back : ReadBack
+pub in-range-back : (r : Record) (s os : List ℕ) → InTypes (saidBy r s) → encoded (saidBy r s) ≡ octets os → ReadAs os (saidBy r s)
 unfolding encoded
-read-back r s os g q = said-back (saidBy r s .message) (saidBy r s .values) os g q
+in-range-back r s os g q = said-back (saidBy r s .message) (saidBy r s .values) os g q
+
+pub read-back : ReadBack
+read-back r s os t o q = in-range-back r s os (in-types r s t o) q
 
 pub records-differ : RecordsDiffer
-records-differ r q s z os g h a b = sym (read-back r s os g a .said) ∙ read-back q z os h b .said
+records-differ r q s z os t u o p a b = sym (read-back r s os t o a .said) ∙ read-back q z os u p b .said

@@ -5,6 +5,7 @@ pub mod Placed
 pub mod Laid
 pub mod ElementsBack
 pub mod FrameBack
+pub mod InTypes
 pub mod Back
 pub mod ValueAgain
 pub mod EnvelopeAgain

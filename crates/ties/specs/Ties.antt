@@ -28,8 +28,9 @@ use Rattle.said.specs.Value.{Given, given, absent}
 use Rattle.said.specs.Said.{Said, saidBy}
 use Rattle.said.specs.Written.{octets, encoded}
 use Rattle.said.specs.Ranges.{Ranged}
+use Rattle.ties.specs.Typed.{Typed}
 
--- what a record says can be handed over by its types
+-- what is said has, for each row of its message's table, none or a value of that row's kind, in range (so it is with any record: proofs/InTypes.antt)
 abbrev pub InTypes : Said → Type 0
 InTypes w = (m : Message) → named.Is m ≡ w .message → Ranged (tableOf m) (w .values)
 
@@ -42,7 +43,7 @@ pub record ReadAs (os : List ℕ) (w : Said) : Type 0 where
 
 -- Reading what the writer wrote gives the record.
 abbrev pub ReadBack : Type 0
-ReadBack = (r : Record) (s os : List ℕ) → InTypes (saidBy r s) → encoded (saidBy r s) ≡ octets os → ReadAs os (saidBy r s)
+ReadBack = (r : Record) (s os : List ℕ) → Typed r → Octets s → encoded (saidBy r s) ≡ octets os → ReadAs os (saidBy r s)
 
 -- the criticalities in the envelopes of items are the tables'
 abbrev pub itemsMarked : Kind → List ℕ → ℕ → Type 0
@@ -93,7 +94,7 @@ Rewritten = (s : List ℕ) → Rewritable s → encoded (saidBy (readOf s .messa
 -- Two records that differ have octets that differ.
 abbrev pub RecordsDiffer : Type 0
 RecordsDiffer =
-    (r q : Record) (s z os : List ℕ) → InTypes (saidBy r s) → InTypes (saidBy q z) → encoded (saidBy r s) ≡ octets os → encoded (saidBy q z) ≡ octets os
+    (r q : Record) (s z os : List ℕ) → Typed r → Typed q → Octets s → Octets z → encoded (saidBy r s) ≡ octets os → encoded (saidBy q z) ≡ octets os
     → saidBy r s ≡ saidBy q z
 
 -- Octets that differ, and meet the conditions, have records that differ.
