@@ -1,0 +1,5 @@
+pub mod Counting
+pub mod Gathered
+pub mod Steps
+pub mod Examples
+pub mod Determined
