@@ -1,0 +1,4 @@
+pub mod Near
+pub mod Sizes
+pub mod Determined
+pub mod Exported

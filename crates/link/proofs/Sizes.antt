@@ -1,0 +1,227 @@
+-- The numbers of a call are small: its place is at most the number of the message's octets, and at most 8,192; so is the number of the reply's.
+-- Assumes nothing.
+use Prim.Native.Nat.{ℕ, _+_, _^_, _<_, _≤_}
+use mathlib.Core.Path.{_≡_, refl, sym, subst}
+use mathlib.Core.Bool.{Bool, true, false}
+use mathlib.Core.List.{List, []}
+use native.Mathlib.Omega.{arith}
+use borrow.Author.Tests.{leb-true, ltb-false}
+use lib.Dec.{ltb, leb, eqb}
+use lib.ListN.{length}
+use Rattle.lists.specs.Lists.{pick, some}
+use Rattle.lists.proofs.Tests.{on-pick, and-right}
+use Rattle.octets.specs.Read.{Read, got, stop}
+use Rattle.octets.specs.declared.Stop.the-variants.{Fault, Extension}
+use Rattle.identity.specs.declared.MmeId.{MmeId}
+use Rattle.identity.specs.declared.MceId.{MceId}
+use Rattle.identity.specs.declared.Mme.{Mme}
+use Rattle.identity.specs.declared.Mme.the-variants as mme
+use Rattle.identity.specs.declared.Mce.{Mce}
+use Rattle.identity.specs.declared.Mce.the-variants as mce
+use Rattle.identity.specs.declared.Session.{Session}
+use Rattle.identity.specs.declared.Tmgi.{Tmgi}
+use Rattle.identity.specs.declared.Items.{Items}
+use Rattle.diagnostics.specs.declared.Entry.{Entry}
+use Rattle.diagnostics.specs.declared.Entries.{Entries}
+use Rattle.elements.specs.Envelope.{headsAt}
+use Rattle.elements.specs.Judge as elements
+use Rattle.tables.specs.declared.Message.{Message}
+use Rattle.tables.specs.declared.Named.{Named}
+use Rattle.tables.specs.declared.Named.the-variants as named
+use Rattle.tables.specs.Tables.{tableOf, namedBy}
+use Rattle.records.specs.declared.MaybeTmgi.{MaybeTmgi}
+use Rattle.records.specs.declared.MaybeTmgi.the-variants as tmgi
+use Rattle.records.specs.declared.MaybeReset.{MaybeReset}
+use Rattle.records.specs.declared.MaybeReset.the-variants as reset
+use Rattle.records.specs.declared.Body.{Body}
+use Rattle.records.specs.declared.Body.the-variants as body
+use Rattle.records.specs.declared.Record.{Record}
+use Rattle.messages.specs.declared.Frame.{Frame}
+use Rattle.messages.specs.declared.Outcome.{Outcome}
+use Rattle.messages.specs.declared.Outcome.the-variants as outcome
+use Rattle.messages.specs.declared.Verdict.{Verdict}
+use Rattle.messages.specs.Frame.{frameAt}
+use Rattle.messages.specs.Verdict.{verdictOf, without, orStopped, insideOf}
+use Rattle.said.specs.Said.{saidBy}
+use Rattle.said.specs.Value.{Given}
+use Rattle.said.specs.Octets.{messageOctets}
+use Rattle.said.specs.Written.{octets, none, elementsGood, isWritten, encodedAs, encoded}
+use Rattle.table.specs.Table.{State, full, holdsMme, holdsMce, holdsPair}
+use Rattle.lent.specs.Lent.{Lent, Held, NoTable, readTable}
+use Rattle.judge.specs.declared.Judged.{Judged}
+use Rattle.judge.specs.Judge.{asks, noFrame, judgedBy, verdictBy, judgedIn, judgedOf}
+use Rattle.carry.specs.Carry.{Decided, keeps, changes, started, startedBy, stopped, stoppedBy, resetBy, carriedOut, decided}
+use Rattle.unit.specs.Answers.{numbered}
+use Rattle.unit.specs.Unit.{Call, octetsIn, replyOctets, answerOf, settledIf, fits, settled, onTable, call, Called}
+use Rattle.unit.specs.declared.Back as unit
+use Rattle.demands.proofs.Settle.{judged}
+use Rattle.demands.proofs.Sound.{insideRead, inside-got}
+use Rattle.link.specs.Link.{Handed}
+use Rattle.link.proofs.Near.{Near, inside-near, frame-near, frame-in}
+
+-- ---- outcomes
+
+abbrev PlacedBy : ℕ → Outcome → Type 0
+PlacedBy n (outcome.Stopped (Fault p)) = p .octet ≤ n
+PlacedBy n (outcome.Stopped (Extension p)) = p .octet ≤ n
+PlacedBy n outcome.Accepted = Unit
+PlacedBy n outcome.TooLong = Unit
+PlacedBy n outcome.NotAmong = Unit
+PlacedBy n (outcome.Misplaced k) = Unit
+PlacedBy n outcome.Rejected = Unit
+
+module _ (n : ℕ) (s : List ℕ) (l : length s ≤ n) where
+  verdict-placed : (m : Message) (crit k : ℕ) (f : elements.Found) → PlacedBy n (verdictOf m s crit k f .outcome)
+  verdict-placed m crit k f = on-pick (PlacedBy n) (ltb (f .place) k) tt (on-pick (PlacedBy n) (some (λ (e : Entry). eqb (e .crit) 0) (f .listed)) tt tt)
+
+  inside-placed : (m : Message) (from crit : ℕ) → from ≤ n → PlacedBy n (insideOf m s from crit .outcome)
+  unfolding insideOf
+  inside-placed m from crit i = by (insideRead m s from crit) refl (inside-near n s l m from crit i)
+    where
+      by : (r : Read Verdict) → r ≡ insideRead m s from crit → Near n r → PlacedBy n (orStopped r .outcome)
+      by (got v) q h =
+          let g = inside-got m s from crit q in
+          subst (λ (x : Verdict). PlacedBy n (x .outcome)) (sym (g .judged))
+          (verdict-placed m crit (g .count) (elements.judgedOf (tableOf m) (g .count) (headsAt s (g .count) (from + 3))))
+      by (stop (Fault p)) q h = h
+      by (stop (Extension p)) q h = h
+
+  by-placed : (f : Frame) (m : Named) → f .from ≤ n → PlacedBy n (verdictBy s f m .outcome)
+  by-placed f (named.Is m) i = on-pick (λ (v : Verdict). PlacedBy n (v .outcome)) (asks m) (inside-placed m (f .from) (f .crit) i) tt
+  by-placed f named.Other i = tt
+
+  in-placed : (r : Read Frame) → r ≡ frameAt s → Near n r → PlacedBy n (judgedIn s r .verdict .outcome)
+  in-placed (got f) q h = by-placed f (namedBy (f .kind) (f .code)) (frame-in n s l q)
+  in-placed (stop (Fault p)) q h = h
+  in-placed (stop (Extension p)) q h = h
+
+-- over 8,192 octets there is no place
+judged-placed : (n : ℕ) (s : List ℕ) → (length s ≤ 8192 → length s ≤ n) → PlacedBy n (judgedOf s .verdict .outcome)
+unfolding judgedOf
+judged-placed n s h = by (ltb 8192 (length s)) refl
+  where
+    by : (b : Bool) → ltb 8192 (length s) ≡ b → PlacedBy n (pick b (judgedBy noFrame (without outcome.TooLong)) (judgedIn s (frameAt s)) .verdict .outcome)
+    by true e = tt
+    by false e = let l = h (ltb-false 8192 (length s) e) in in-placed n s l (frameAt s) refl (frame-near n s l)
+
+-- ---- decisions
+
+module _ (n : ℕ) where
+  abbrev Placed : Decided → Type 0
+  Placed x = numbered (answerOf x) .place ≤ n
+
+  -- what has no place has 0
+  nowhere : 0 ≤ n
+  nowhere = omega arith
+
+  module _ (l : State) where
+    started-placed : (c : MceId) (noted : Entries) (m : MmeId) (t : Tmgi) (s : Session) → Placed (started l c noted m t s)
+    unfolding started
+    started-placed c noted m t s = on-pick Placed (holdsMme m l) nowhere (on-pick Placed (holdsMce c l) nowhere (on-pick Placed (full l) nowhere nowhere))
+
+    stopped-placed : (f : Frame) (noted : Entries) (m : MmeId) (c : MceId) → Placed (stopped l f noted m c)
+    unfolding stopped
+    stopped-placed f noted m c = on-pick Placed (holdsPair m c l) nowhere nowhere
+
+    module _ (c : MceId) (f : Frame) (noted : Entries) where
+      start-placed : (b : Body) (x : Mme) (t : MaybeTmgi) (s : Session) → Placed (startedBy l c f b noted x t s)
+      start-placed b (mme.Is m) (tmgi.Is t) s = started-placed c noted m t s
+      start-placed b (mme.Is m) tmgi.Absent s = nowhere
+      start-placed b mme.Absent t s = nowhere
+
+      stop-placed : (b : Body) (x : Mme) (y : Mce) → Placed (stoppedBy l f b noted x y)
+      stop-placed b (mme.Is m) (mce.Is x) = stopped-placed f noted m x
+      stop-placed b (mme.Is m) mce.Absent = nowhere
+      stop-placed b mme.Absent y = nowhere
+
+      reset-placed : (b : Body) (items : Items) (x : MaybeReset) → Placed (resetBy l f b noted items x)
+      reset-placed b items reset.Whole = nowhere
+      reset-placed b items reset.Part = nowhere
+      reset-placed b items reset.Absent = nowhere
+
+      asked-placed : (r : Record) (b : Body) → Placed (carriedOut l c f noted (record { body = b; crit = r .crit; items = r .items; entries = r .entries }))
+      unfolding carriedOut
+      asked-placed r (body.StartRequest b) = start-placed (body.StartRequest b) (b .mme) (b .tmgi) (b .session)
+      asked-placed r (body.StopRequest b) = stop-placed (body.StopRequest b) (b .mme) (b .mce)
+      asked-placed r (body.Reset b) = reset-placed (body.Reset b) (r .items) (b .reset)
+      asked-placed r (body.ErrorIndication b) = nowhere
+      asked-placed r (body.StartResponse b) = nowhere
+      asked-placed r (body.StartFailure b) = nowhere
+      asked-placed r (body.StopResponse b) = nowhere
+      asked-placed r (body.ResetAcknowledge b) = nowhere
+      asked-placed r body.None = nowhere
+
+      ruled-placed : (r : Record) (o : Outcome) → PlacedBy n o → Placed (decided l c (judged f r noted o))
+      unfolding decided
+      ruled-placed r outcome.Accepted h = asked-placed r (r .body)
+      ruled-placed r outcome.TooLong h = nowhere
+      ruled-placed r (outcome.Stopped (Fault p)) h = h
+      ruled-placed r (outcome.Stopped (Extension p)) h = h
+      ruled-placed r outcome.NotAmong h = nowhere
+      ruled-placed r (outcome.Misplaced k) h = nowhere
+      ruled-placed r outcome.Rejected h = nowhere
+
+    decided-placed : (c : MceId) (j : Judged) → PlacedBy n (j .verdict .outcome) → Placed (decided l c j)
+    decided-placed c j h = ruled-placed c (j .frame) (j .verdict .noted) (j .verdict .message) (j .verdict .outcome) h
+
+-- ---- replies
+
+encoded-size : (m : Named) (vs : List Given) → length (octetsIn (encodedAs m vs)) ≤ 8192
+encoded-size (named.Is m) vs = by (isWritten m vs) refl
+  where
+    by : (b : Bool) → isWritten m vs ≡ b → length (octetsIn (pick b (octets (messageOctets m vs)) none)) ≤ 8192
+    by true e = leb-true (length (messageOctets m vs)) 8192 (and-right (elementsGood (tableOf m) vs) (leb (length (messageOctets m vs)) 8192) e)
+    by false e = omega arith
+encoded-size named.Other vs = omega arith
+
+reply-size : (r : Record) → length (replyOctets r) ≤ 8192
+unfolding replyOctets encoded
+reply-size r = encoded-size (saidBy r [] .message) (saidBy r [] .values)
+
+-- ---- the call
+
+settled-placed : (n : ℕ) (t d : List ℕ) (b : Bool) (x : Decided) → Placed n x → numbered (settledIf b t d x .answer) .place ≤ n
+settled-placed n t d true x h = h
+settled-placed n t d false x h = nowhere n
+
+settled-size : (t d : List ℕ) (b : Bool) (x : Decided) → length (settledIf b t d x .reply) ≤ 8192
+settled-size t d true (keeps a r) = reply-size r
+settled-size t d true (changes l r) = reply-size r
+settled-size t d false x = omega arith
+
+module _ (t : List ℕ) (c : Call) where
+  placed : (n : ℕ) → (length (c .message) ≤ 8192 → length (c .message) ≤ n) → numbered (call t c .answer) .place ≤ n
+  unfolding call settled
+  placed n h = by (readTable t)
+    where
+      by : (x : Lent) → numbered (onTable t c x .answer) .place ≤ n
+      by (Held l) =
+          let x : Decided = decided l (c .offered) (judgedOf (c .message)) in
+          settled-placed n t (c .room) (fits (c .room) x) x (decided-placed n l (c .offered) (judgedOf (c .message)) (judged-placed n (c .message) h))
+      by NoTable = nowhere n
+
+  pub place-inside : numbered (call t c .answer) .place ≤ length (c .message)
+  place-inside = placed (length (c .message)) (λ h. omega arith)
+
+  pub place-small : numbered (call t c .answer) .place ≤ 8192
+  place-small = placed 8192 (λ h. h)
+
+  pub reply-small : length (call t c .reply) ≤ 8192
+  unfolding call settled
+  reply-small = by (readTable t)
+    where
+      by : (x : Lent) → length (onTable t c x .reply) ≤ 8192
+      by (Held l) = let x : Decided = decided l (c .offered) (judgedOf (c .message)) in settled-size t (c .room) (fits (c .room) x) x
+      by NoTable = omega arith
+
+-- what the call handed back, as numbers
+module _ (t : List ℕ) (c : Call) {r : unit.Back} {t′ d′ : List ℕ} (h : Called (call t c) r t′ d′) where
+  pub place-fits : (p : ℕ) → p ≡ numbered (r .answer) .place → p < 2 ^ 32
+  place-fits p e = let s = place-small t c in rw (e, h .answer) (omega arith)
+
+  pub octets-fit : r .octets < 2 ^ 32
+  octets-fit = let s = reply-small t c in rw (h .octets) (omega arith)
+
+  pub handed : (k p : ℕ) → k ≡ numbered (r .answer) .number → p ≡ numbered (r .answer) .place
+      → Handed (call t c) (record { answer = k; place = p; octets = r .octets }) t′ d′
+  handed k p e f = record { answer = rw (e, h .answer); place = rw (f, h .answer) (omega arith); octets = h .octets; table = h .table; room = h .room }
