@@ -1,5 +1,5 @@
 //! `bench`: times of the table call as ratios to the second program, in one run, on the same inputs.
-//! `bench compare SEED COUNT`: made runs of calls, both programs on tables of their own; every answer, place, reply, room and table octet compared.
+//! `bench compare < LINES`: runs of calls as `second make SEED COUNT calls` writes them, both programs on tables of their own; every answer, place, reply, room and table octet compared.
 #![deny(warnings)]
 use std::hint::black_box;
 use std::time::Instant;
