@@ -1,0 +1,125 @@
+-- Laws of the play: in two parts it is the play whole; nothing that is whole is left over; and what stood in the room does not matter.
+-- Assumes nothing.
+use Prim.Native.Nat.{ℕ, zero, suc, _+_, _≤_}
+use mathlib.Core.Path.{_≡_, refl, sym, ap, subst, _∙_}
+use mathlib.Core.Bool.{Bool, true, false}
+use mathlib.Core.List.{List, [], _∷_}
+use native.Mathlib.Nat.{zero-add, suc-add}
+use native.Mathlib.Omega.{arith}
+use lib.Dec.{leb}
+use lib.ListN.{length, drop, length-append, length-drop, replicate}
+use lib.Seq.{drop-drop}
+use Rattle.lists.specs.Lists.{pick}
+use Rattle.lent.specs.Lent.{Lent, Held, NoTable, readTable, tableOctets}
+use Rattle.judge.specs.Judge.{judgedOf}
+use Rattle.carry.specs.Carry.{Decided, decided}
+use Rattle.unit.specs.Answers.{numbered}
+use Rattle.unit.specs.Unit.{Back, replyOf, settledIf, fits, settled, onTable, call}
+use Rattle.evening.specs.declared.Turn.{Turn}
+use Rattle.evening.specs.declared.Played as own
+use Rattle.evening.specs.Capture.{sizeIn, whole, callIn, heldIn, turnOf, Played, behind, nothing, playedIn, captured, Plays}
+use Rattle.evening.proofs.Playing.{four, not-whole, within, behind-behind, behind-none, played-more, played-not}
+
+-- what is played of s behind a first part
+abbrev pub after : ℕ → List ℕ → Played → Played
+after k s p = behind (p .turns) (p .octets) (playedIn k (drop (p .octets) s) (p .table) (p .room))
+
+-- the first j entries, and then k more from where they end
+pub in-parts : (j k : ℕ) (s t d : List ℕ) → playedIn (j + k) s t d ≡ after k s (playedIn j s t d)
+unfolding playedIn
+in-parts zero k s t d = rw (zero-add k) (behind-none (playedIn k s t d))
+in-parts (suc j) k s t d = rw (suc-add j k) (by (whole s) refl (in-parts j k (drop (sizeIn s) s) (call t (callIn s d) .table) (call t (callIn s d) .room)))
+  where
+    b : Back
+    b = call t (callIn s d)
+
+    p : Played
+    p = playedIn j (drop (sizeIn s) s) (call t (callIn s d) .table) (call t (callIn s d) .room)
+
+    by : (w : Bool) → whole s ≡ w → playedIn (j + k) (drop (sizeIn s) s) (call t (callIn s d) .table) (call t (callIn s d) .room) ≡ after k (drop (sizeIn s) s) p
+        → playedIn (suc (j + k)) s t d ≡ after k s (playedIn (suc j) s t d)
+    by false w r = rw (played-not (suc (j + k)) s t d w, played-not (suc j) s t d w, played-not k s t d w) (behind-none (nothing t d))
+    by true w r =
+        played-more (j + k) s t d w ∙ (ap (behind (turnOf b ∷ []) (sizeIn s)) r
+        ∙ (rw (drop-drop (p .octets) (sizeIn s) s) (behind-behind (turnOf b ∷ []) (p .turns) (sizeIn s) (p .octets) (playedIn k (drop (sizeIn s + p .octets) s) (p .table) (p .room)))
+        ∙ ap (after k s) (sym (played-more j s t d w))))
+
+-- as many entries as there are octets are all that are whole: what is left over does not begin with one
+pub left-over : (k : ℕ) (s t d : List ℕ) → length s ≤ k → whole (drop (playedIn k s t d .octets) s) ≡ false
+unfolding playedIn
+left-over zero s t d h = not-whole s (omega (arith, four s))
+left-over (suc k) s t d h = by (whole s) refl (left-over k (drop (sizeIn s) s) (call t (callIn s d) .table) (call t (callIn s d) .room) (omega (arith, length-drop (sizeIn s) s, four s)))
+  where
+    p : Played
+    p = playedIn k (drop (sizeIn s) s) (call t (callIn s d) .table) (call t (callIn s d) .room)
+
+    by : (w : Bool) → whole s ≡ w → whole (drop (p .octets) (drop (sizeIn s) s)) ≡ false → whole (drop (playedIn (suc k) s t d .octets) s) ≡ false
+    by false w r = rw (played-not (suc k) s t d w) w
+    by true w r = rw (played-more k s t d w, ← drop-drop (p .octets) (sizeIn s) s) r
+
+pub all-whole : (s : List ℕ) → whole (drop (captured s .octets) s) ≡ false
+all-whole s = left-over (length s) s (tableOctets []) (replicate 8192 0) (omega arith)
+
+-- the entries stand within the octets
+pub inside : (k : ℕ) (s t d : List ℕ) → playedIn k s t d .octets ≤ length s
+unfolding playedIn
+inside zero s t d = omega arith
+inside (suc k) s t d = by (whole s) refl (inside k (drop (sizeIn s) s) (call t (callIn s d) .table) (call t (callIn s d) .room))
+  where
+    p : Played
+    p = playedIn k (drop (sizeIn s) s) (call t (callIn s d) .table) (call t (callIn s d) .room)
+
+    by : (w : Bool) → whole s ≡ w → p .octets ≤ length (drop (sizeIn s) s) → playedIn (suc k) s t d .octets ≤ length s
+    by false w r = rw (played-not (suc k) s t d w) (omega arith)
+    by true w r = rw (played-more k s t d w) (omega (arith, within s w, length-drop (sizeIn s) s))
+
+pub plays-inside : (k : ℕ) (s t d : List ℕ) {o : List ℕ} {r : own.Played} {u v e : List ℕ} → Plays (playedIn k s t d) o r u v e → r .octets ≤ length s
+plays-inside k s t d h = rw (h .octets) (inside k s t d)
+
+-- ---- rooms of one length
+pub record Same (b c : Back) : Type 0 where
+  pub answer : b .answer ≡ c .answer
+  pub reply : b .reply ≡ c .reply
+  pub table : b .table ≡ c .table
+  pub room : length (b .room) ≡ length (c .room)
+
+turn-same : {b c : Back} → Same b c → turnOf b ≡ turnOf c
+unfolding turnOf
+turn-same q = λ i. record { answer = numbered (q .answer i) .number; reply = length (q .reply i); held = heldIn (q .table i) }
+
+settled-same : (b : Bool) (t d e : List ℕ) (x : Decided) → length d ≡ length e → Same (settledIf b t d x) (settledIf b t e x)
+settled-same true t d e x h = record { answer = refl; reply = refl; table = refl; room = simp (length-append, length-drop, h) }
+settled-same false t d e x h = record { answer = refl; reply = refl; table = refl; room = h }
+
+call-same : (s t d e : List ℕ) → length d ≡ length e → Same (call t (callIn s d)) (call t (callIn s e))
+unfolding call settled callIn
+call-same s t d e h = by (readTable t)
+  where
+    by : (l : Lent) → Same (onTable t (callIn s d) l) (onTable t (callIn s e) l)
+    by (Held l) =
+        let x : Decided = decided l (callIn s d .offered) (judgedOf (callIn s d .message)) in
+        let f : fits d x ≡ fits e x = ap (leb (length (replyOf x))) h in
+        rw f (settled-same (fits e x) t d e x h)
+    by NoTable = record { answer = refl; reply = refl; table = refl; room = h }
+
+pub record Alike (p q : Played) : Type 0 where
+  pub turns : p .turns ≡ q .turns
+  pub table : p .table ≡ q .table
+  pub octets : p .octets ≡ q .octets
+
+behind-alike : {x y : Turn} (n : ℕ) {p q : Played} → x ≡ y → Alike p q → Alike (behind (x ∷ []) n p) (behind (y ∷ []) n q)
+behind-alike n e r = record { turns = λ i. e i ∷ r .turns i; table = r .table; octets = ap (n +_) (r .octets) }
+
+-- what stands in the room before does not matter to what the entries give, nor to the table
+pub any-room : (k : ℕ) (s t d e : List ℕ) → length d ≡ length e → Alike (playedIn k s t d) (playedIn k s t e)
+unfolding playedIn
+any-room zero s t d e h = record { turns = refl; table = refl; octets = refl }
+any-room (suc k) s t d e h =
+    let q = call-same s t d e h in
+    by (whole s) (behind-alike (sizeIn s) (turn-same q)
+    (subst (λ (u : List ℕ). Alike (playedIn k (drop (sizeIn s) s) (call t (callIn s d) .table) (call t (callIn s d) .room)) (playedIn k (drop (sizeIn s) s) u (call t (callIn s e) .room))) (q .table)
+    (any-room k (drop (sizeIn s) s) (call t (callIn s d) .table) (call t (callIn s d) .room) (call t (callIn s e) .room) (q .room))))
+  where
+    by : (w : Bool) {p q : Played} → Alike p q → Alike (pick w p (nothing t d)) (pick w q (nothing t e))
+    by true r = r
+    by false r = record { turns = refl; table = refl; octets = refl }

@@ -1,0 +1,4 @@
+pub mod Playing
+pub mod Laws
+pub mod Pieces
+pub mod Determined

@@ -1,0 +1,153 @@
+// The capture: whole entries played one after another on a lent table. Reading them in and writing lines is the program's.
+ghost use mathlib.Core.Path.{_≡_};
+ghost use mathlib.Core.Bool.{true};
+ghost use mathlib.Core.List.{[], _∷_};
+ghost use Prim.Native.Nat.{_+_, _*_, _/_, _≤_};
+ghost use lib.ListN.{length};
+ghost use lib.Seq.{sets};
+ghost use Rattle.lists.specs.Lists.{pick};
+ghost use Rattle.octets.specs.Field.{valueAt};
+ghost use Rattle.carry.specs.declared.Answer.the-variants as answer;
+ghost use Rattle.unit.specs.Answers.{numbered};
+ghost use Rattle.unit.specs.Unit.{call};
+ghost use Rattle.evening.specs.Capture.{sizeIn, whole, callIn, heldIn, playedIn, Turned, Plays};
+use carry::Answer;
+use identity::MceId;
+use octets::Stop;
+
+// What an entry gives: the number of the answer, the reply's octets or 0, and how many associations are held afterwards.
+pub struct Turn {
+    pub answer: usize,
+    pub reply: usize,
+    pub held: usize,
+}
+
+// How many entries were played, and how many octets they have.
+pub struct Played {
+    pub entries: usize,
+    pub octets: usize,
+}
+
+fn number(high: u8, low: u8) -> u16
+    ensures { λ r. ⌜ r ≡ high * 256 + low ⌝ }
+{
+    (high as u16) * 256 + (low as u16)
+}
+
+fn wide(x: u16) -> usize
+    ensures { λ r. ⌜ r ≡ x ⌝ }
+{
+    x as usize
+}
+
+// A number of two octets, the high one first.
+fn two(s: &[u8], at: usize) -> u16
+    requires { ⌜ at + 2 ≤ length (now s) ⌝ }
+    ensures { λ r. ⌜ r ≡ valueAt 2 (now (s .entry)) at ⌝ }
+{
+    number(s[at], s[at + 1])
+}
+
+fn stopped(x: Stop) -> usize
+    ensures { λ r. ⌜ r ≡ numbered (answer.Stopped x) .number ⌝ }
+{
+    match x {
+        Stop::Fault(_) => 2,
+        Stop::Extension(_) => 3,
+    }
+}
+
+fn number_of(a: Answer) -> usize
+    ensures { λ r. ⌜ r ≡ numbered a .number ⌝ }
+{
+    match a {
+        Answer::CarriedOut => 0,
+        Answer::TooLong => 1,
+        Answer::Stopped(x) => stopped(x),
+        Answer::NoRequest => 4,
+        Answer::Rejected => 5,
+        Answer::MmeHeld => 6,
+        Answer::OfferHeld => 7,
+        Answer::PairNotHeld => 8,
+        Answer::Full => 9,
+        Answer::NoRoom => 10,
+        Answer::NoTable => 21,
+    }
+}
+
+fn held(table: &[u8]) -> usize
+    ensures { λ r. ⌜ r ≡ heldIn (now (table .entry)) ⌝ }
+{
+    if table.len() < 2 {
+        return 0;
+    }
+    wide(two(table, 0))
+}
+
+// The octets of the entry at the front, and 0 where it is not whole.
+fn size(s: &[u8]) -> usize
+    ensures { λ r. ⌜ r ≡ pick (whole (now (s .entry))) (sizeIn (now (s .entry))) 0 ⌝ }
+{
+    if s.len() < 4 {
+        return 0;
+    }
+    let n = 4 + wide(two(s, 2));
+    if s.len() < n {
+        return 0;
+    }
+    n
+}
+
+// The entry at the front, of n octets.
+fn take_turn(s: &[u8], n: usize, table: &mut [u8], room: &mut [u8]) -> Turn
+    requires { ⌜ (n ≡ sizeIn (now s)) × (whole (now s) ≡ true) ⌝ }
+    ensures { λ r. ⌜ Turned (call (now (table .entry)) (callIn (now (s .entry)) (now (room .entry)))) r (now (table .exit)) (now (room .exit)) ⌝ }
+{
+    let offered = two(s, 0);
+    let b = unit::call(table, &s[4..n], MceId(offered), room);
+    let a = b.answer;
+    let answer = number_of(a);
+    let now_held = held(table);
+    Turn {
+        answer: answer,
+        reply: b.octets,
+        held: now_held,
+    }
+}
+
+// The numbers of the entry i.
+fn store(out: &mut [usize], i: usize, x: Turn)
+    requires { ⌜ 3 * i + 3 ≤ length (now out) ⌝ }
+    ensures { λ _. ⌜ now (out .exit) ≡ sets (now (out .entry)) (3 * i) (x .answer ∷ x .reply ∷ x .held ∷ []) ⌝ }
+{
+    let at = 3 * i;
+    out[at] = x.answer;
+    out[at + 1] = x.reply;
+    out[at + 2] = x.held;
+}
+
+// Plays whole entries at the front of s for as long as there is room for three numbers each: answer, reply, held.
+pub fn play(s: &[u8], table: &mut [u8], room: &mut [u8], out: &mut [usize]) -> Played
+    ensures { λ r. ⌜ Plays (playedIn (length (now (out .entry)) / 3) (now (s .entry)) (now (table .entry)) (now (room .entry))) (now (out .entry)) r (now (table .exit)) (now (room .exit)) (now (out .exit)) ⌝ }
+{
+    let most = out.len() / 3;
+    let mut at: usize = 0;
+    let mut i: usize = 0;
+    while i < most {
+        let n = size(&s[at..]);
+        if n == 0 {
+            return Played {
+                entries: i,
+                octets: at,
+            };
+        }
+        let x = take_turn(&s[at..], n, table, room);
+        store(out, i, x);
+        at += n;
+        i += 1;
+    }
+    Played {
+        entries: i,
+        octets: at,
+    }
+}
