@@ -1,29 +1,34 @@
 #!/usr/bin/env python3
-"""calls.py FILE..: writes crates/played/stdin (entries of offer, room, length, message; a length of 65,535 begins anew) and crates/played/stdout (what each call must give):
-the lines 'call OFFERED ROOM HEX => ..' of a FILE (each on an empty table where they are indented, else a line 'table' begins anew), and 01's bench
-examples of calls, encoded by hand from 000 and X.691."""
+"""calls.py FILE..: adds calls to crates/vectors/stdin, and to crates/vectors/stdout what each must give:
+the lines 'call OFFERED ROOM HEX => ..' of a FILE (a line 'table' begins anew; in a file without one each call does), 01's bench examples of calls, and
+calls on octets of no table, encoded by hand from 000 and X.691."""
 import re, sys
 from encoder import *
 
-with open('crates/played/stdin', 'wb') as data, open('crates/played/stdout', 'w') as wanted:
+with open('crates/vectors/stdin', 'ab') as data, open('crates/vectors/stdout', 'a') as wanted:
     def anew():
-        data.write(two(0) + two(0) + two(65535))
+        data.write(bytes([3]) + two(0) + two(0) + two(0))
+
+    def spoil(at, octet):
+        data.write(bytes([4]) + two(at) + two(octet) + two(0))
 
     def call(offered, room, octets, said):
-        data.write(two(offered) + two(room) + two(len(octets)) + octets)
+        data.write(bytes([2]) + two(offered) + two(room) + two(len(octets)) + octets)
         wanted.write(said + '\n')
 
     def gives(offered, room, octets, answer, reply, held):
         call(offered, room, octets, f'answer={answer} offset=- reply={reply.hex()} held={held}')
 
     for path in sys.argv[1:]:
-        for text in open(path):
-            if text == 'table\n':
+        lines = open(path).read().splitlines()
+        runs = 'table' in lines
+        for text in lines:
+            if text == 'table':
                 anew()
-            if m := re.match(r'(\s*)call (\d+) (\d+) ([0-9a-f ]*) => (.*)', text):
-                if m.group(1):
+            if m := re.match(r'call (\d+) (\d+) ([0-9a-f ]*) => (.*)', text):
+                if not runs:
                     anew()
-                call(int(m.group(2)), int(m.group(3)), bytes.fromhex(m.group(4)), m.group(5))
+                call(int(m.group(1)), int(m.group(2)), bytes.fromhex(m.group(3)), m.group(4))
     # held (1, 3): the item (1, 2) removes nothing and is acknowledged
     anew()
     gives(3, 8192, start(1), 0, started(1, 3), 1)
@@ -88,3 +93,27 @@ with open('crates/played/stdin', 'wb') as data, open('crates/played/stdout', 'w'
             if i not in (3, 7, 9):
                 held -= 1
                 gives(0, 8192, stop(m, c), 0, stopped(m, c), held)
+
+    # Octets of no table: 21 whatever the message is, and nothing changes. An octet that is put back makes it a table again.
+    long = b'\0' * 8193
+    for held, at, octet, back in ((0, 0, 2, 0), (1, 1, 0, 1), (1, 12, 2, 0), (1, 13, 1, 0), (0, 3073, 1, 0), (1, 14, 1, 0)):
+        anew()
+        if held:
+            gives(3, 8192, start(1), 0, started(1, 3), 1)
+        spoil(at, octet)
+        said = held if at > 1 else octet * 256 + held if at == 0 else octet
+        for octets in (start(2), stop(1, 3), WHOLE, b'', long):
+            gives(4, 8192, octets, 21, b'', said)
+        spoil(at, back)
+        gives(4, 8192, start(2), 0, started(2, 4), held + 1)
+    # two associations that share an identity: of the MME's series, of the MCE's
+    for at, own in ((15, 2), (17, 4)):
+        anew()
+        gives(3, 8192, start(1), 0, started(1, 3), 1)
+        gives(4, 8192, start(2), 0, started(2, 4), 2)
+        spoil(at, own - 1)
+        gives(5, 8192, start(3), 21, b'', 2)
+        spoil(at, own)
+        gives(5, 8192, start(3), 0, started(3, 5), 3)
+    # over 8,192 octets, on a table
+    gives(5, 8192, long, 1, b'', 3)

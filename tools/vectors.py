@@ -1,9 +1,10 @@
 #!/usr/bin/env python3
-"""vectors.py FILE..: writes crates/vectors/stdin (each message behind its length in two octets) and crates/vectors/stdout (what must be read of it),
-and crates/rewrite/stdin and stdout: each message that another program encoded, and the same octets in hexadecimal.
+"""vectors.py FILE..: writes crates/vectors/stdin, the entries that crates/vectors/src/main.rt describes, and crates/vectors/stdout, a line for each:
+what must be read of each message, and for those that another program encoded, the same octets written again.
 A FILE is one of messages that another program encoded, one JSON object a line (hex, kind, procedure, criticality, octets, the elements' meanings),
 or a text with lines 'HEX => answer=N offset=K', or '=> answer=N NAME frame=C ID:VALUE .. noted=[..]' with what was read ('read' may stand in front)."""
 import json, re, sys
+from encoder import two
 NAMES = {(0, 0): 'start-request', (1, 0): 'start-response', (2, 0): 'start-failure', (0, 1): 'stop-request', (1, 1): 'stop-response', (0, 4): 'reset', (1, 4): 'reset-acknowledge', (0, 2): 'error-indication'}
 
 def absent(v, f=str):
@@ -87,17 +88,17 @@ def read(said):
         return front + line(m)[len('answer=0'):] + ''.join(f' {e[0]}.{e[1]}.{e[2]}' for e in entries(noted))
     return ' '.join(words) + ' none frame=0 items: entries: noted:'
 
-with open('crates/vectors/stdin', 'wb') as data, open('crates/vectors/stdout', 'w') as wanted, open('crates/rewrite/stdin', 'wb') as again, open('crates/rewrite/stdout', 'w') as same:
-    def add(octets, wants):
-        data.write(len(octets).to_bytes(2, 'big') + octets)
+with open('crates/vectors/stdin', 'wb') as data, open('crates/vectors/stdout', 'w') as wanted:
+    def add(what, octets, wants):
+        data.write(bytes([what]) + two(0) + two(8192) + two(len(octets)) + octets)
         wanted.write(wants + '\n')
     for path in sys.argv[1:]:
         for text in open(path):
             if path.endswith('.jsonl'):
                 m = json.loads(text)
-                add(bytes.fromhex(m['hex']), line(m))
+                octets = bytes.fromhex(m['hex'])
+                add(0, octets, line(m))
                 if m['octets'] <= 8192:
-                    again.write(m['octets'].to_bytes(2, 'big') + bytes.fromhex(m['hex']))
-                    same.write('answer=0 ' + m['hex'].lower() + '\n')
-            elif m := re.match(r'(?:\s+read )?([0-9a-f ]*) => (.*)', text):
-                add(bytes.fromhex(m.group(1)), read(m.group(2)))
+                    add(1, octets, 'answer=0 ' + octets.hex())
+            elif m := re.match(r'(?:\s*read ?)?([0-9a-f ]*) => (.*)', text):
+                add(0, bytes.fromhex(m.group(1)), read(m.group(2)))

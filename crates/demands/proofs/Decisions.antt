@@ -45,8 +45,7 @@ use Rattle.lent.specs.Lent.{InRange, Good}
 use Rattle.replies.specs.Replies.{mmeTaken, noResources, abstractSyntax, falselyConstructed, rejection}
 use Rattle.judge.specs.declared.Judged.{Judged}
 use Rattle.carry.specs.Carry.{Decided, keeps, changes, rejected, started, startedBy, stopped, stoppedBy, resetBy, carriedOut, decided}
-use Rattle.unit.specs.Unit.{replyOctets}
-use Rattle.demands.proofs.Settle.{judged, no-record}
+use Rattle.demands.proofs.Settle.{judged}
 use Rattle.demands.proofs.Taken.{Written}
 use Rattle.demands.proofs.Written.{GoodEntries, GoodFrame, GoodMme, GoodMce, GoodList, start-response-written, stop-response-written, start-failure-written, acknowledge-written, error-indication-written, pair-not-held-written}
 use Rattle.demands.proofs.Sound.{GoodBody, Sound}
@@ -92,11 +91,11 @@ module _ (l : State) (g : Good l) where
 -- ---- replies
 
 pub data Reply (r : Record) : Type 0 where
-  nothing : replyOctets r ≡ [] → Reply r
+  nothing : r ≡ noRecord → Reply r
   says : (m : Message) (vs : List Given) → Written r m vs → Reply r
 
 no-reply : Reply noRecord
-no-reply = nothing no-record
+no-reply = nothing refl
 
 -- what is decided: a reply, and what the table then holds
 abbrev pub Sure : Decided → Type 0

@@ -5,18 +5,22 @@ use mathlib.Core.Path.{_≡_, refl}
 use mathlib.Core.Bool.{Bool, true, false}
 use mathlib.Core.List.{List, []}
 use Rattle.records.specs.declared.Record.{Record}
+use Rattle.records.specs.Records.{noRecord}
+use Rattle.said.specs.Said.{saidBy}
+use Rattle.ties.specs.Ties.{ReadAs}
+use Rattle.table.specs.Table.{State}
 use Rattle.lent.specs.Lent.{Lent, Held, NoTable, readTable}
 use Rattle.judge.specs.Judge.{judgedOf}
 use Rattle.carry.specs.Carry.{Decided, keeps, changes, decided}
 use Rattle.unit.specs.Unit.{Call, replyOctets, settledIf, fits, settled, onTable, call}
-use Rattle.demands.specs.Answered.{Handed, ReadsBack, Demand1}
-use Rattle.demands.proofs.Settle.{answered}
+use Rattle.demands.specs.Answered.{Handed, ReadsBack, replyIn, decidedOn, Demand1}
+use Rattle.demands.proofs.Settle.{answered, no-record}
 use Rattle.demands.proofs.Decisions.{Reply, nothing, says, Sure}
-use Rattle.demands.proofs.TableOut.{sure, table-out}
+use Rattle.demands.proofs.TableOut.{sure, call-on, table-out}
 
 reads-back : (r : Record) → Reply r → (replyOctets r ≡ [] → ⊥) → ReadsBack (replyOctets r)
-reads-back r (nothing e) h = absurd (h e)
-reads-back r (says m vs w) h = w .back .accepted
+reads-back r (nothing e) h = absurd (h (rw e no-record))
+reads-back r (says m vs w) h = (w .back .accepted, w .back .noted)
 
 settled-back : (t d : List ℕ) (b : Bool) (x : Decided) → Sure x → (settledIf b t d x .reply ≡ [] → ⊥) → ReadsBack (settledIf b t d x .reply)
 settled-back t d true (keeps a r) s h = reads-back r s h
@@ -33,5 +37,18 @@ reply-back t c h = by (readTable t) refl
         settled-back t (c .room) (fits (c .room) x) x (sure t c l h q) k
     by NoTable q k = absurd (k refl)
 
+says-back : (r : Record) → Reply r → (r ≡ noRecord → ⊥) → ReadAs (replyOctets r) (saidBy r [])
+says-back r (nothing e) h = absurd (h e)
+says-back r (says m vs w) h = w .back
+
+settled-says : (t d : List ℕ) (x : Decided) → Sure x → fits d x ≡ true → (replyIn x ≡ noRecord → ⊥) → ReadAs (settled t d x .reply) (saidBy (replyIn x) [])
+unfolding settled
+settled-says t d (keeps a r) s f h = rw f (says-back r s h)
+settled-says t d (changes l r) s f h = rw f (says-back r (s .0) h)
+
+reply-says : (t : List ℕ) (c : Call) (l : State) → Handed t c → readTable t ≡ Held l → fits (c .room) (decidedOn l c) ≡ true → (replyIn (decidedOn l c) ≡ noRecord → ⊥)
+    → ReadAs (call t c .reply) (saidBy (replyIn (decidedOn l c)) [])
+reply-says t c l h q f k = rw (call-on t c l q) (settled-says t (c .room) (decidedOn l c) (sure t c l h q) f k)
+
 pub demand-1 : Demand1
-demand-1 = record { answered = answered; table = table-out; reply = reply-back }
+demand-1 = record { answered = answered; table = table-out; reply = reply-back; spoken = reply-says }

@@ -8,6 +8,7 @@ pub mod Demand
 pub mod Accepted
 pub mod Answers
 pub mod Occur
+pub mod Bench
 pub mod Verdicts
 pub mod Bodies
 pub mod Done

@@ -45,6 +45,7 @@ use Rattle.carry.specs.declared.Answer.the-variants as answer
 use Rattle.carry.specs.Carry.{Decided, keeps, changes, started, stopped, carriedOut, decided}
 use Rattle.unit.specs.Answers.{numbered}
 use Rattle.unit.specs.Unit.{Back, replyOctets, replyOf, answerOf, fits, settled, onTable, call}
+use Rattle.demands.specs.Occur.{offer, Gives, pair, many, start, stop, whole, error, numberOf, EveryAnswer}
 use Rattle.demands.proofs.Settle.{no-record}
 use Rattle.demands.proofs.Sound.{judged-sound}
 use Rattle.demands.proofs.Decisions.{none-good, Reply, nothing, says, Sure, decided-sure}
@@ -53,7 +54,7 @@ use Rattle.demands.proofs.TableOut.{call-on}
 -- ---- a room of 3,200 octets is enough
 
 reply-small : (r : Record) → Reply r → length (replyOctets r) ≤ 3200
-reply-small r (nothing e) = rw e (omega arith)
+reply-small r (nothing e) = rw (e, no-record) (omega arith)
 reply-small r (says m vs w) = w .size
 
 decided-small : (x : Decided) → Sure x → length (replyOf x) ≤ 3200
@@ -79,35 +80,12 @@ octets-by [] e i = omega arith
 octets-by (x ∷ s) e zero = ltb-true x 256 (not-false (ltb x 256) (or-left (not (ltb x 256)) (some (λ (y : ℕ). not (ltb y 256)) s) e))
 octets-by (x ∷ s) e (suc i) = octets-by s (or-right (not (ltb x 256)) (some (λ (y : ℕ). not (ltb y 256)) s) e) i
 
--- ---- on a table in a state, with the MCE identity 9 offered
-
-abbrev offer : MceId
-offer = record { 0 = 9 }
-
--- whatever the room, if it is large enough
-abbrev Gives : State → List ℕ → ℕ → Type 0
-Gives l s n = (d : List ℕ) → 3200 ≤ length d → numbered (call (tableOctets l) (record { message = s; offered = offer; room = d }) .answer) .number ≡ n
-
 gives : (l : State) (s : List ℕ) {n : ℕ} → Good l → some (λ (x : ℕ). not (ltb x 256)) s ≡ false → number (decided l offer (judgedOf s)) ≡ n → Gives l s n
 gives l s g m e d h = with-room l s offer d g (octets-by s m) (omega arith) h ∙ e
 
--- MME and MCE identity, and a TMGI of zeros
-abbrev pair : ℕ → ℕ → Association
-pair m c = record {
-  mme = record { 0 = m };
-  mce = record { 0 = c };
-  tmgi = record { plmn = record { 0 = 0; 1 = 0; 2 = 0 }; service = record { 0 = 0; 1 = 0; 2 = 0 } };
-  session = session.Absent;
-}
-
-one-good : (m c : ℕ) → m < 65536 → c < 65536 → Good (pair m c ∷ [])
+pub one-good : (m c : ℕ) → m < 65536 → c < 65536 → Good (pair m c ∷ [])
 unfolding distinctHeld
 one-good m c g h = record { few = omega arith; apart = refl; each = λ a k. rw (List·Memᴰ·eq-of-singleton k) (record { mme = g; mce = h }) }
-
--- n associations, of the identities from 100 on
-unfoldable pub many : ℕ → State
-many zero = []
-many (suc n) = pair (n + 100) (n + 100) ∷ many n
 
 many-range : (n : ℕ) → n ≤ 256 → (a : Association) → List·Memᴰ a (many n) → InRange a
 unfolding many
@@ -118,58 +96,6 @@ many-range (suc n) h a (List·Memᴰ·tail k) = many-range n (omega arith) a k
 many-good : Good (many 256)
 unfolding many distinctHeld
 many-good = record { few = omega arith; apart = refl; each = many-range 256 (omega arith) }
-
--- START REQUEST of MME identity 5, with what is mandatory; STOP REQUEST of the pair 5 and 9; RESET of the whole
-abbrev start : List ℕ
-start =
-    0x00 ∷ 0x00 ∷ 0x00 ∷ 0x2d ∷ 0x00 ∷ 0x00 ∷ 0x07
-    ∷ 0x00 ∷ 0x00 ∷ 0x00 ∷ 0x02 ∷ 0x00 ∷ 0x05
-    ∷ 0x00 ∷ 0x02 ∷ 0x00 ∷ 0x07 ∷ 0x00 ∷ 0x00 ∷ 0x00 ∷ 0x00 ∷ 0x00 ∷ 0x00 ∷ 0x00
-    ∷ 0x00 ∷ 0x04 ∷ 0x00 ∷ 0x01 ∷ 0x00
-    ∷ 0x00 ∷ 0x05 ∷ 0x00 ∷ 0x01 ∷ 0x00
-    ∷ 0x00 ∷ 0x06 ∷ 0x00 ∷ 0x01 ∷ 0x00
-    ∷ 0x00 ∷ 0x10 ∷ 0x00 ∷ 0x01 ∷ 0x00
-    ∷ 0x00 ∷ 0x07 ∷ 0x00 ∷ 0x01 ∷ 0x00 ∷ []
-
-abbrev stop : List ℕ
-stop = 0x00 ∷ 0x01 ∷ 0x00 ∷ 0x0f ∷ 0x00 ∷ 0x00 ∷ 0x02 ∷ 0x00 ∷ 0x00 ∷ 0x00 ∷ 0x02 ∷ 0x00 ∷ 0x05 ∷ 0x00 ∷ 0x01 ∷ 0x00 ∷ 0x02 ∷ 0x00 ∷ 0x09 ∷ []
-
-abbrev whole : List ℕ
-whole = 0x00 ∷ 0x04 ∷ 0x00 ∷ 0x08 ∷ 0x00 ∷ 0x00 ∷ 0x01 ∷ 0x00 ∷ 0x0d ∷ 0x00 ∷ 0x01 ∷ 0x00 ∷ []
-
-abbrev error : List ℕ
-error = 0x00 ∷ 0x02 ∷ 0x40 ∷ 0x08 ∷ 0x00 ∷ 0x00 ∷ 0x01 ∷ 0x00 ∷ 0x62 ∷ 0x00 ∷ 0x01 ∷ 0xff ∷ []
-
--- ---- every answer
-
-abbrev numberOf : List ℕ → List ℕ → List ℕ → ℕ
-numberOf t s d = numbered (call t (record { message = s; offered = offer; room = d }) .answer) .number
-
-pub record EveryAnswer : Type 0 where
-  -- a start, on an empty table
-  pub carried-out : Gives [] start 0
-  -- any message of over 8,192 octets, on any table
-  pub too-long : (t s d : List ℕ) (l : State) → readTable t ≡ Held l → 8192 < length s → numberOf t s d ≡ 1
-  -- no octets; an octet with the extension bit
-  pub fault : Gives [] [] 2
-  pub extension : Gives [] (0x80 ∷ []) 3
-  -- a procedure code that none of the messages has
-  pub no-request : Gives [] (0x00 ∷ 0x03 ∷ 0x00 ∷ 0x01 ∷ 0x00 ∷ []) 4
-  -- ERROR INDICATION with an unknown element of reject
-  pub rejected : Gives [] error 5
-  -- the start, where its MME identity is held, or only the offered one is
-  pub mme-held : Gives (pair 5 1 ∷ []) start 6
-  pub offer-held : Gives (pair 1 9 ∷ []) start 7
-  -- the stop, where its identities are held, but by no one association
-  pub pair-not-held : Gives (pair 5 1 ∷ []) stop 8
-  -- the start, where 256 are held, and neither identity
-  pub all-held : (l : State) → Good l → length l ≡ 256 → holdsMme (record { 0 = 5 }) l ≡ false → holdsMce offer l ≡ false → Gives l start 9
-  pub so-many : Gives (many 256) start 9
-  -- the whole reset, whose reply has seven octets
-  pub no-room : (d : List ℕ) → length d < 7 → numberOf (tableOctets []) whole d ≡ 10
-  -- any call on octets that are no table; no octets are none
-  pub no-table : (t s d : List ℕ) → readTable t ≡ NoTable → numberOf t s d ≡ 21
-  pub not-a-table : readTable [] ≡ NoTable
 
 -- a decision without a reply is settled in any room
 silent-number : (t d : List ℕ) (a : Answer) → numbered (settled t d (keeps a noRecord) .answer) .number ≡ numbered a .number
@@ -187,11 +113,11 @@ none-number : (t s d : List ℕ) → readTable t ≡ NoTable → numberOf t s d 
 unfolding call
 none-number t s d q = ap (λ (x : Lent). numbered (onTable t (record { message = s; offered = offer; room = d }) x .answer) .number) q
 
-room-number : length (replyOf (decided [] offer (judgedOf whole))) ≡ 7 → (d : List ℕ) → length d < 7 → numberOf (tableOctets []) whole d ≡ 10
+pub room-number : (s : List ℕ) {n : ℕ} → length (replyOf (decided [] offer (judgedOf s))) ≡ n → (d : List ℕ) → length d < n → numberOf (tableOctets []) s d ≡ 10
 unfolding settled
-room-number k d h =
-    let f : fits d (decided [] offer (judgedOf whole)) ≡ false = lt-leb _ (length d) (omega arith) in
-    ap (λ (b : Back). numbered (b .answer) .number) (call-on (tableOctets []) (record { message = whole; offered = offer; room = d }) [] (one-form .back [] none-good)) ∙ rw f
+room-number s k d h =
+    let f : fits d (decided [] offer (judgedOf s)) ≡ false = lt-leb _ (length d) (omega arith) in
+    ap (λ (b : Back). numbered (b .answer) .number) (call-on (tableOctets []) (record { message = s; offered = offer; room = d }) [] (one-form .back [] none-good)) ∙ rw f
 
 -- the rest is computed
 pub every-answer : EveryAnswer
@@ -208,7 +134,7 @@ every-answer = record {
   pair-not-held = gives (pair 5 1 ∷ []) stop (one-good 5 1 (omega arith) (omega arith)) refl refl;
   all-held = λ l g n h k. gives l start g refl (nine l n h k);
   so-many = gives (many 256) start many-good refl (nine (many 256) refl refl refl);
-  no-room = room-number refl;
+  no-room = room-number whole refl;
   no-table = none-number;
   not-a-table = refl;
 }

@@ -10,10 +10,16 @@ use Rattle.octets.specs.Stands.{Octets}
 use Rattle.octets.specs.Field.{valueAt}
 use Rattle.table.specs.Table.{State}
 use Rattle.lent.specs.Lent.{Held, readTable}
+use Rattle.records.specs.declared.Record.{Record}
+use Rattle.records.specs.Records.{noEntries, noRecord}
 use Rattle.messages.specs.declared.Outcome.the-variants as outcome
 use Rattle.messages.specs.Verdict.{readOf}
+use Rattle.said.specs.Said.{saidBy}
+use Rattle.ties.specs.Ties.{ReadAs}
+use Rattle.judge.specs.Judge.{judgedOf}
+use Rattle.carry.specs.Carry.{Decided, keeps, changes, decided}
 use Rattle.unit.specs.Answers.{numbered}
-use Rattle.unit.specs.Unit.{Call, call}
+use Rattle.unit.specs.Unit.{Call, fits, call}
 
 abbrev pub isAmong : List ℕ → ℕ → Bool
 isAmong ns n = some (eqb n) ns
@@ -56,9 +62,20 @@ pub record TableOut (t : List ℕ) (c : Call) : Type 0 where
 
 -- a reply reads back, with answer 0 and nothing to note
 abbrev pub ReadsBack : List ℕ → Type 0
-ReadsBack os = readOf os .outcome ≡ outcome.Accepted
+ReadsBack os = (readOf os .outcome ≡ outcome.Accepted) × (readOf os .noted ≡ noEntries)
+
+-- the reply that the rules give, as a record: of no message where there is none
+abbrev pub replyIn : Decided → Record
+replyIn (keeps a r) = r
+replyIn (changes l r) = r
+
+abbrev pub decidedOn : State → Call → Decided
+decidedOn l c = decided l (c .offered) (judgedOf (c .message))
 
 pub record Demand1 : Type 0 where
   pub answered : (t : List ℕ) (c : Call) → Answered t c
   pub table : (t : List ℕ) (c : Call) (l : State) → Handed t c → readTable t ≡ Held l → TableOut t c
   pub reply : (t : List ℕ) (c : Call) → Handed t c → (call t c .reply ≡ [] → ⊥) → ReadsBack (call t c .reply)
+  -- a reply that the rules give is sent where it fits, and reads back as what they say
+  pub spoken : (t : List ℕ) (c : Call) (l : State) → Handed t c → readTable t ≡ Held l → fits (c .room) (decidedOn l c) ≡ true → (replyIn (decidedOn l c) ≡ noRecord → ⊥)
+      → ReadAs (call t c .reply) (saidBy (replyIn (decidedOn l c)) [])

@@ -7,13 +7,9 @@ ghost use lib.ListN.{length};
 ghost use lib.Seq.{sets};
 ghost use Rattle.lists.specs.Lists.{pick};
 ghost use Rattle.octets.specs.Field.{valueAt};
-ghost use Rattle.carry.specs.declared.Answer.the-variants as answer;
-ghost use Rattle.unit.specs.Answers.{numbered};
 ghost use Rattle.unit.specs.Unit.{call};
 ghost use Rattle.evening.specs.Capture.{sizeIn, whole, callIn, heldIn, playedIn, Turned, Plays};
-use carry::Answer;
 use identity::MceId;
-use octets::Stop;
 
 // What an entry gives: the number of the answer, the reply's octets or 0, and how many associations are held afterwards.
 pub struct Turn {
@@ -48,33 +44,6 @@ fn two(s: &[u8], at: usize) -> u16
     number(s[at], s[at + 1])
 }
 
-fn stopped(x: Stop) -> usize
-    ensures { λ r. ⌜ r ≡ numbered (answer.Stopped x) .number ⌝ }
-{
-    match x {
-        Stop::Fault(_) => 2,
-        Stop::Extension(_) => 3,
-    }
-}
-
-fn number_of(a: Answer) -> usize
-    ensures { λ r. ⌜ r ≡ numbered a .number ⌝ }
-{
-    match a {
-        Answer::CarriedOut => 0,
-        Answer::TooLong => 1,
-        Answer::Stopped(x) => stopped(x),
-        Answer::NoRequest => 4,
-        Answer::Rejected => 5,
-        Answer::MmeHeld => 6,
-        Answer::OfferHeld => 7,
-        Answer::PairNotHeld => 8,
-        Answer::Full => 9,
-        Answer::NoRoom => 10,
-        Answer::NoTable => 21,
-    }
-}
-
 fn held(table: &[u8]) -> usize
     ensures { λ r. ⌜ r ≡ heldIn (now (table .entry)) ⌝ }
 {
@@ -106,7 +75,7 @@ fn take_turn(s: &[u8], n: usize, table: &mut [u8], room: &mut [u8]) -> Turn
     let offered = two(s, 0);
     let b = unit::call(table, &s[4..n], MceId(offered), room);
     let a = b.answer;
-    let answer = number_of(a);
+    let answer = unit::number_of(a) as usize;
     let now_held = held(table);
     Turn {
         answer: answer,

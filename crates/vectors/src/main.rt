@@ -1,16 +1,23 @@
-// Reads messages from standard input, each behind its length in two octets, and writes for each a line that says the verdict and every value of the record.
+// Plays entries from standard input and writes a line for each: what is read of a message, the message written again, or what a call on it gives.
+// An entry: what it is (1 octet), two numbers and a length (2 octets each), and that many octets.
+//     0   a message to be read: the verdict and every value of the record
+//     1   a message to be read and written again, into as many octets of room as the second number says
+//     2   a call: the first number is the offered identity, the second the room
+//     3   the table is empty again
+//     4   the octet of the table at the first number is the second one; nothing is written
+use carry::Answer;
 use diagnostics::Entries;
 use diagnostics::Head;
 use diagnostics::Number;
 use identity::Items;
 use identity::Mce;
+use identity::MceId;
 use identity::Mme;
 use identity::Session;
 use libc::STDIN_FILENO;
 use libc::STDOUT_FILENO;
 use messages::Outcome;
 use messages::Verdict;
-use octets::Span;
 use octets::Stop;
 use octets::Two;
 use records::Acknowledged;
@@ -28,6 +35,8 @@ use records::Response;
 use records::Start;
 use records::StartCarried;
 use records::Stopping;
+use unit::Back;
+use writer::Written;
 
 fn text(b: &[u8]) {
     io::write_all(STDOUT_FILENO, b);
@@ -92,9 +101,9 @@ fn cause(m: MaybeCause) {
     }
 }
 
-fn part(s: &[u8], v: Span) {
-    let to = v.to;
-    let mut i = v.from;
+// The octets from a place up to another.
+fn part(s: &[u8], from: usize, to: usize) {
+    let mut i = from;
     while i < to {
         if s.len() <= i {
             return;
@@ -107,7 +116,7 @@ fn part(s: &[u8], v: Span) {
 fn carried(s: &[u8], m: Carried) {
     text(b" ");
     match m {
-        Carried::At(v) => part(s, v),
+        Carried::At(v) => part(s, v.from, v.to),
         Carried::Absent => text(b"-"),
     }
 }
@@ -355,45 +364,150 @@ fn show(s: &[u8], v: Verdict) {
     text(b"\n");
 }
 
-fn wide(x: u16) -> usize {
-    x as usize
+fn show_written(w: Written, room: &[u8]) {
+    match w {
+        Written::Done(n) => {
+            text(b"answer=0 ");
+            part(room, 0, n);
+        }
+        Written::NoRoom => text(b"answer=10"),
+        Written::NotWritten => text(b"answer=11"),
+    }
+    text(b"\n");
 }
 
-// One message of as many octets as there is room for; false where the input ends before.
-fn filled(m: &mut [u8]) -> bool {
+// The place stands beside 2 and 3.
+fn answer(a: Answer) {
+    let n = unit::number_of(a) as usize;
+    text(b"answer=");
+    number(n);
+    text(b" offset=");
+    if n == 2 {
+        number(unit::place_of(a));
+        return;
+    }
+    if n == 3 {
+        number(unit::place_of(a));
+        return;
+    }
+    text(b"-");
+}
+
+fn two(s: &[u8], at: usize) -> u16 {
+    match octets::two_at(s, at) {
+        Two::Is(v) => v,
+        Two::Stop(_) => 0,
+    }
+}
+
+fn show_back(b: Back, table: &[u8], room: &[u8]) {
+    let a = b.answer;
+    answer(a);
+    text(b" reply=");
+    part(room, 0, b.octets);
+    text(b" held=");
+    number(two(table, 0) as usize);
+    text(b"\n");
+}
+
+// An entry in front of its octets.
+struct Front {
+    what: u8,
+    first: u16,
+    second: u16,
+    length: usize,
+    whole: bool,
+}
+
+fn next_front() -> Front {
+    let mut s = [0u8; 7];
+    let got = io::read_full(STDIN_FILENO, &mut s);
+    Front {
+        what: s[0],
+        first: two(&s, 1),
+        second: two(&s, 3),
+        length: two(&s, 5) as usize,
+        whole: got == 7,
+    }
+}
+
+fn written_again(m: &[u8], room: &mut [u8]) {
+    let v = messages::read(m);
+    let r = v.message;
+    let w = writer::write(r, m, room);
+    show_written(w, room);
+}
+
+fn called(table: &mut [u8], m: &[u8], offered: u16, room: &mut [u8]) {
+    let b = unit::call(table, m, MceId(offered), room);
+    show_back(b, table, room);
+}
+
+// One message of as many octets as there is space for; false where the input ends before.
+fn taken(f: Front, table: &mut [u8], m: &mut [u8], room: &mut [u8]) -> bool {
     let got = io::read_full(STDIN_FILENO, m);
     if got < m.len() {
         return false;
     }
-    let v = messages::read(m);
-    show(m, v);
+    if f.what == 0 {
+        let v = messages::read(m);
+        show(m, v);
+        return true;
+    }
+    if f.what == 1 {
+        written_again(m, room);
+        return true;
+    }
+    called(table, m, f.first, room);
     true
 }
 
-// A length and that many octets; false where the input ends.
-fn turn(space: &mut [u8]) -> bool {
-    let mut size = [0u8; 2];
-    let got = io::read_full(STDIN_FILENO, &mut size);
-    if got < 2 {
+fn emptied(table: &mut [u8]) {
+    let mut i: usize = 0;
+    while i < table.len() {
+        table[i] = 0;
+        i += 1;
+    }
+}
+
+fn spoiled(table: &mut [u8], at: usize, v: u16) {
+    if at < table.len() {
+        table[at] = (v % 256) as u8;
+    }
+}
+
+// The next entry; false where the input ends.
+fn turn(table: &mut [u8], space: &mut [u8], room: &mut [u8]) -> bool {
+    let f = next_front();
+    if !f.whole {
         return false;
     }
-    let n = match octets::two_at(&size, 0) {
-        Two::Is(v) => wide(v),
-        Two::Stop(_) => {
-            return false;
-        }
-    };
+    if f.what == 3 {
+        emptied(table);
+        return true;
+    }
+    if f.what == 4 {
+        spoiled(table, f.first as usize, f.second);
+        return true;
+    }
+    let n = f.length;
+    let r = f.second as usize;
     if space.len() < n {
         return false;
     }
-    filled(&mut space[..n])
+    if room.len() < r {
+        return false;
+    }
+    taken(f, table, &mut space[..n], &mut room[..r])
 }
 
 fn main() {
     let mut space = io::large_buffer();
-    let mut turns: u64 = 1000000;
+    let mut room = [0u8; 8192];
+    let mut table = [0u8; 3074];
+    let mut turns: u64 = 10000000;
     while 0 < turns {
-        if !turn(&mut space) {
+        if !turn(&mut table, &mut space, &mut room) {
             return;
         }
         turns -= 1;

@@ -24,6 +24,9 @@ call-requires c κs = search needs
 number-of-requires : tie.Need-number-of-requires
 number-of-requires c κs = search needs
 
+cast-answer : tie.Need-cast-answer
+cast-answer c = search needs
+
 held-requires : tie.Need-held-requires
 held-requires c κs = search needs
 
@@ -46,6 +49,7 @@ take-turn-spec =
     part-call-end
     call-requires
     number-of-requires
+    cast-answer
     held-requires
     same-length
     same-length-2

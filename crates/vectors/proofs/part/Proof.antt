@@ -5,10 +5,10 @@ use Rattle.vectors.proofs.part.Statement.{statement}
 use Rattle.vectors.proofs.part.Tie as tie
 
 abbrev Inv-loop : tie.InvT-loop
-Inv-loop s to i₀ i = Unit
+Inv-loop s from to i₀ i = Unit
 
 abbrev μ-loop : tie.MeasureT-loop
-μ-loop s to i₀ i = to - i
+μ-loop s from to i₀ i = to - i
 
 loop-holds : tie.Need-loop-holds Inv-loop μ-loop
 loop-holds c = tt

@@ -1,10 +1,10 @@
--- `played::emptied` is safe and ends. The table keeps its length. Assumes nothing.
+-- `vectors::emptied` is safe and ends. The table keeps its length. Assumes nothing.
 use lib.ListN.{length}
 use mathlib.Core.Path.{_≡_}
 use Prim.Native.Nat.{_-_}
 use borrow.Author.Needs.{needs}
-use Rattle.played.proofs.emptied.Statement.{statement}
-use Rattle.played.proofs.emptied.Tie as tie
+use Rattle.vectors.proofs.emptied.Statement.{statement}
+use Rattle.vectors.proofs.emptied.Tie as tie
 
 abbrev Inv-loop : tie.InvT-loop
 Inv-loop table₀ i₀ table i = length table ≡ length table₀

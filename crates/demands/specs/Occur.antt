@@ -1,0 +1,129 @@
+-- Each answer of the table call occurs: messages and tables that get it. And 01's bench examples of calls.
+use Prim.Native.Nat.{ℕ, zero, suc, _+_, _<_, _≤_}
+use mathlib.Core.Path.{_≡_}
+use mathlib.Core.Bool.{false}
+use mathlib.Core.List.{List, [], _∷_, _++_}
+use lib.ListN.{length, drop}
+use Rattle.identity.specs.declared.MceId.{MceId}
+use Rattle.identity.specs.declared.Session.the-variants as session
+use Rattle.table.specs.declared.Association.{Association}
+use Rattle.table.specs.Table.{State, holdsMme, holdsMce}
+use Rattle.lent.specs.Lent.{tableOctets, Held, NoTable, readTable, Good}
+use Rattle.ties.specs.Examples.{partialReset, acknowledgement}
+use Rattle.carry.specs.declared.Answer.the-variants as answer
+use Rattle.unit.specs.Answers.{numbered}
+use Rattle.unit.specs.Unit.{call}
+use Rattle.demands.specs.Due.{AnswersAs}
+
+-- ---- on a table in a state, with the MCE identity 9 offered
+
+abbrev pub offer : MceId
+offer = record { 0 = 9 }
+
+-- whatever the room, if it is large enough
+abbrev pub Gives : State → List ℕ → ℕ → Type 0
+Gives l s n = (d : List ℕ) → 3200 ≤ length d → numbered (call (tableOctets l) (record { message = s; offered = offer; room = d }) .answer) .number ≡ n
+
+-- MME and MCE identity, and a TMGI of zeros
+abbrev pub pair : ℕ → ℕ → Association
+pair m c = record {
+  mme = record { 0 = m };
+  mce = record { 0 = c };
+  tmgi = record { plmn = record { 0 = 0; 1 = 0; 2 = 0 }; service = record { 0 = 0; 1 = 0; 2 = 0 } };
+  session = session.Absent;
+}
+
+-- n associations, of the identities from 100 on
+unfoldable pub many : ℕ → State
+many zero = []
+many (suc n) = pair (n + 100) (n + 100) ∷ many n
+
+-- START REQUEST of MME identity 5, with what is mandatory; STOP REQUEST of the pair 5 and 9; RESET of the whole
+abbrev pub start : List ℕ
+start =
+    0x00 ∷ 0x00 ∷ 0x00 ∷ 0x2d ∷ 0x00 ∷ 0x00 ∷ 0x07
+    ∷ 0x00 ∷ 0x00 ∷ 0x00 ∷ 0x02 ∷ 0x00 ∷ 0x05
+    ∷ 0x00 ∷ 0x02 ∷ 0x00 ∷ 0x07 ∷ 0x00 ∷ 0x00 ∷ 0x00 ∷ 0x00 ∷ 0x00 ∷ 0x00 ∷ 0x00
+    ∷ 0x00 ∷ 0x04 ∷ 0x00 ∷ 0x01 ∷ 0x00
+    ∷ 0x00 ∷ 0x05 ∷ 0x00 ∷ 0x01 ∷ 0x00
+    ∷ 0x00 ∷ 0x06 ∷ 0x00 ∷ 0x01 ∷ 0x00
+    ∷ 0x00 ∷ 0x10 ∷ 0x00 ∷ 0x01 ∷ 0x00
+    ∷ 0x00 ∷ 0x07 ∷ 0x00 ∷ 0x01 ∷ 0x00 ∷ []
+
+abbrev pub stop : List ℕ
+stop = 0x00 ∷ 0x01 ∷ 0x00 ∷ 0x0f ∷ 0x00 ∷ 0x00 ∷ 0x02 ∷ 0x00 ∷ 0x00 ∷ 0x00 ∷ 0x02 ∷ 0x00 ∷ 0x05 ∷ 0x00 ∷ 0x01 ∷ 0x00 ∷ 0x02 ∷ 0x00 ∷ 0x09 ∷ []
+
+abbrev pub whole : List ℕ
+whole = 0x00 ∷ 0x04 ∷ 0x00 ∷ 0x08 ∷ 0x00 ∷ 0x00 ∷ 0x01 ∷ 0x00 ∷ 0x0d ∷ 0x00 ∷ 0x01 ∷ 0x00 ∷ []
+
+abbrev pub error : List ℕ
+error = 0x00 ∷ 0x02 ∷ 0x40 ∷ 0x08 ∷ 0x00 ∷ 0x00 ∷ 0x01 ∷ 0x00 ∷ 0x62 ∷ 0x00 ∷ 0x01 ∷ 0xff ∷ []
+
+-- ---- every answer
+
+abbrev pub numberOf : List ℕ → List ℕ → List ℕ → ℕ
+numberOf t s d = numbered (call t (record { message = s; offered = offer; room = d }) .answer) .number
+
+pub record EveryAnswer : Type 0 where
+  -- a start, on an empty table
+  pub carried-out : Gives [] start 0
+  -- any message of over 8,192 octets, on any table
+  pub too-long : (t s d : List ℕ) (l : State) → readTable t ≡ Held l → 8192 < length s → numberOf t s d ≡ 1
+  -- no octets; an octet with the extension bit
+  pub fault : Gives [] [] 2
+  pub extension : Gives [] (0x80 ∷ []) 3
+  -- a procedure code that none of the messages has
+  pub no-request : Gives [] (0x00 ∷ 0x03 ∷ 0x00 ∷ 0x01 ∷ 0x00 ∷ []) 4
+  -- ERROR INDICATION with an unknown element of reject
+  pub rejected : Gives [] error 5
+  -- the start, where its MME identity is held, or only the offered one is
+  pub mme-held : Gives (pair 5 1 ∷ []) start 6
+  pub offer-held : Gives (pair 1 9 ∷ []) start 7
+  -- the stop, where its identities are held, but by no one association
+  pub pair-not-held : Gives (pair 5 1 ∷ []) stop 8
+  -- the start, where 256 are held, and neither identity
+  pub all-held : (l : State) → Good l → length l ≡ 256 → holdsMme (record { 0 = 5 }) l ≡ false → holdsMce offer l ≡ false → Gives l start 9
+  pub so-many : Gives (many 256) start 9
+  -- the whole reset, whose reply has seven octets
+  pub no-room : (d : List ℕ) → length d < 7 → numberOf (tableOctets []) whole d ≡ 10
+  -- any call on octets that are no table; no octets are none
+  pub no-table : (t s d : List ℕ) → readTable t ≡ NoTable → numberOf t s d ≡ 21
+  pub not-a-table : readTable [] ≡ NoTable
+
+-- ---- 01's bench examples of calls
+
+-- a RESET of one item, which has no identity; the acknowledgement without a list
+abbrev pub emptyReset : List ℕ
+emptyReset =
+    0x00 ∷ 0x04 ∷ 0x00 ∷ 0x13
+    ∷ 0x00 ∷ 0x00 ∷ 0x02
+    ∷ 0x00 ∷ 0x09 ∷ 0x40 ∷ 0x01 ∷ 0x42
+    ∷ 0x00 ∷ 0x0D ∷ 0x00 ∷ 0x07 ∷ 0x40 ∷ 0x00 ∷ 0x00 ∷ 0x0E ∷ 0x00 ∷ 0x01 ∷ 0x00 ∷ []
+
+abbrev pub noList : List ℕ
+noList = 0x20 ∷ 0x04 ∷ 0x00 ∷ 0x03 ∷ 0x00 ∷ 0x00 ∷ 0x00 ∷ []
+
+-- whatever the room, if the reply fits: carried out, with that reply, and that is held
+abbrev pub Does : State → List ℕ → List ℕ → State → Type 0
+Does l s os l′ =
+    (d : List ℕ) → length os ≤ length d
+    → call (tableOctets l) (record { message = s; offered = offer; room = d })
+    ≡ record { answer = answer.CarriedOut; reply = os; table = tableOctets l′; room = os ++ drop (length os) d }
+
+pub record BenchCalls : Type 0 where
+  -- the RESET of the item 1 and 2: what it names is removed; where nothing is named, it is acknowledged all the same
+  pub named : Does (pair 1 2 ∷ []) partialReset acknowledgement []
+  pub unknown : Does [] partialReset acknowledgement []
+  -- held (1, 3): the item (1, 2) removes nothing and is acknowledged
+  pub kept : Does (pair 1 3 ∷ []) partialReset acknowledgement (pair 1 3 ∷ [])
+  -- the acknowledgement of a whole reset, or of empty items only
+  pub whole : Does (pair 1 3 ∷ []) whole noList []
+  pub empty : Does (pair 1 3 ∷ []) emptyReset noList (pair 1 3 ∷ [])
+  -- a reply room of 20 for the 21 octets
+  pub no-room : (d : List ℕ) → length d ≡ 20 → numberOf (tableOctets []) partialReset d ≡ 10
+
+-- Demand 2: each answer is given exactly when 01's table says, and each is given.
+pub record Demand2 : Type 0 where
+  pub exactly : AnswersAs
+  pub each : EveryAnswer
+  pub bench : BenchCalls
