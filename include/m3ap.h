@@ -1,14 +1,18 @@
 /*
- * The table call of the M3AP message core, for a link process in C.
- * Link with liblink.a (made by `rt staticlib link`); it needs memcpy and memset and nothing else.
+ * The M3AP message core, for a link process in C.
+ * m3ap_call, m3ap_read and m3ap_write are in liblink.a (made by `rt staticlib link`), m3ap_count is in libconsole.a (`rt staticlib console`).
+ * They need memcpy, memset and memmove of the C library, and nothing else.
  *
- * The call works on the octets that it is lent and on nothing else: it keeps no state, allocates nothing, opens nothing, does not recurse, and
- * returns for every input. Calls on parts that do not overlap may run at the same time. Its statement, proved for all inputs, stands in
- * crates/link/src/lib.rt; what a process may rely on, in crates/link/specs/Promised.antt.
+ * A call works on the octets that it is lent and on nothing else: it keeps no state, allocates nothing, opens nothing, does not recurse, and
+ * returns for every input. Calls on parts that do not overlap may run at the same time. The statements, proved for all inputs, stand in
+ * crates/link/src/lib.rt and crates/console/src/lib.rt; what a process may rely on, in crates/link/specs/Promised.antt.
+ *
+ * The parts handed to one call must not overlap. A part of length 0 may be NULL. A length is at most PTRDIFF_MAX.
  */
 #ifndef M3AP_H
 #define M3AP_H
 
+#include <stdbool.h>
 #include <stddef.h>
 #include <stdint.h>
 
@@ -25,44 +29,173 @@ extern "C" {
 /* A message has at most this many octets. Every reply fits a room of as many. */
 #define M3AP_MESSAGE_OCTETS 8192
 
-/*
- * A call needs at most this many octets of stack on x86-64: its frames take 62,608 as built with the kit of docs/CHECKING.md, the C library's memcpy
- * and memset the rest. sample/stack.c measures it.
- */
-#define M3AP_STACK_OCTETS 65536
+/* A record has this many octets: struct m3ap_record. */
+#define M3AP_RECORD_OCTETS 2662
 
-/* The answers: the numbers of the scope paper. 11 is the writer's, and no table call gives it. */
-#define M3AP_CARRIED_OUT 0     /* carried out */
+/*
+ * A call needs at most this many octets of stack on x86-64, as built with the kit of docs/CHECKING.md, the C library's memcpy and memset included.
+ * sample/stack.c measures it: 66,864 for m3ap_call, 41,824 for m3ap_read, 24,648 for m3ap_write, 13,944 for m3ap_count.
+ */
+#define M3AP_STACK_OCTETS 81920
+
+/* The answers: the numbers of the scope paper. */
+#define M3AP_CARRIED_OUT 0     /* carried out; read; written */
 #define M3AP_TOO_LONG 1        /* over 8,192 octets */
 #define M3AP_FAULT 2           /* encoding fault, at `place` */
 #define M3AP_EXTENSION 3       /* extension met, at `place` */
-#define M3AP_NO_REQUEST 4      /* none of the eight messages; or a response, a failure or an acknowledgement */
+#define M3AP_NO_REQUEST 4      /* none of the eight messages; for m3ap_call also a response, a failure or an acknowledgement */
 #define M3AP_REJECTED 5        /* elements rejected */
 #define M3AP_MME_HELD 6        /* start: the MME identity is held */
 #define M3AP_OFFER_HELD 7      /* start: the offered MCE identity is held */
 #define M3AP_PAIR_NOT_HELD 8   /* stop: no association has both identities */
 #define M3AP_FULL 9            /* start: 256 associations are held */
-#define M3AP_NO_ROOM 10        /* the reply would not fit the room; nothing is done */
-#define M3AP_NO_TABLE 21       /* the octets handed in as a table are none */
+#define M3AP_NO_ROOM 10        /* the reply, the record or the message would not fit the room; nothing is done */
+#define M3AP_NOT_WRITTEN 11    /* octets that are no record, or a record that has no message */
+#define M3AP_NO_TABLE 21       /* the table handed in is none */
 
 struct m3ap_answer {
     uint32_t answer; /* one of the numbers above */
     uint32_t place;  /* beside 2 and 3: the offset of the octet in which the field at fault begins, 0 to message_len; else 0 */
-    uint32_t octets; /* how many octets of reply stand in front of the room; 0: there is no reply */
+    uint32_t octets; /* how many octets were put at the front of the room; 0: none */
 };
 
 /*
- * What one message does.
+ * What one message does. Answers 0 to 10 and 21.
  *
  * table     lent, M3AP_TABLE_OCTETS long; changed by answer 0 only. Another length, or octets that are no table, get answer 21.
  * message   read. Any octets, any length.
  * offered   the MCE identity that a start is given; looked at in a start only.
  * room      lent. The reply fills its front, and the rest keeps its octets; without a reply all of it does.
- *
- * The three parts must not overlap. A part of length 0 may be NULL. A length is at most PTRDIFF_MAX.
  */
 struct m3ap_answer m3ap_call(uint8_t *table, size_t table_len, const uint8_t *message, size_t message_len,
                              uint16_t offered, uint8_t *room, size_t room_len);
+
+/* ---- the record of a message: octets only, so that no compiler puts anything between them. Numbers have the high octet first. */
+
+/* Which message it is. */
+#define M3AP_START_REQUEST 1
+#define M3AP_START_RESPONSE 2
+#define M3AP_START_FAILURE 3
+#define M3AP_STOP_REQUEST 4
+#define M3AP_STOP_RESPONSE 5
+#define M3AP_RESET 6
+#define M3AP_RESET_ACKNOWLEDGE 7
+#define M3AP_ERROR_INDICATION 8
+
+/*
+ * The value of a row of the message's table. there is 0 for a value that is absent, and then the others are 0 too; else 1 (2 for a Reset Type that
+ * is part of the interface, whose items stand in the record), and of the others, zeros behind them:
+ *     MME identity, MCE identity    its two octets
+ *     TMGI                          PLMN (3), service (3)
+ *     Session Identity              its octet
+ *     Cause                         group, number in the group
+ *     Reset Type, list of items     none
+ *     Criticality Diagnostics       1 and the procedure code, or 0 and 0; likewise the triggering message; likewise the criticality;
+ *                                   1 if there is a list, whose entries stand in the record, else 0
+ *     any other value               is carried: its place in the octets that were read (2), and how many octets it has (2)
+ */
+struct m3ap_slot {
+    uint8_t there;
+    uint8_t value[7];
+};
+
+/* An item of a reset. there is 1 and the identity, or 0 and zeros. */
+struct m3ap_item {
+    uint8_t mme_there;
+    uint8_t mme[2];
+    uint8_t mce_there;
+    uint8_t mce[2];
+};
+
+/* A listed element. error is 0 for not understood, 1 for missing. */
+struct m3ap_entry {
+    uint8_t criticality;
+    uint8_t id[2];
+    uint8_t error;
+};
+
+/* Items and entries behind as many as the number before them says are zeros, and so are slots behind the rows of the message's table. */
+struct m3ap_record {
+    uint8_t message;     /* one of the eight numbers above */
+    uint8_t criticality; /* of the frame, as received: 0 reject, 1 ignore, 2 notify. m3ap_write does not look at it */
+    struct m3ap_slot slots[12];
+    uint8_t item_count[2];
+    struct m3ap_item items[256];
+    uint8_t entry_count[2];
+    struct m3ap_entry entries[256];
+};
+
+/* The rows of each table, as numbers of slots. */
+#define M3AP_START_REQUEST_MME 0
+#define M3AP_START_REQUEST_TMGI 1
+#define M3AP_START_REQUEST_SESSION 2
+#define M3AP_START_REQUEST_QOS 3
+#define M3AP_START_REQUEST_DURATION 4
+#define M3AP_START_REQUEST_AREA 5
+#define M3AP_START_REQUEST_MINIMUM_TIME 6
+#define M3AP_START_REQUEST_TNL 7
+#define M3AP_START_REQUEST_TIME 8
+#define M3AP_START_REQUEST_REESTABLISHMENT 9
+#define M3AP_START_REQUEST_ALTERNATIVE_TNL 10
+#define M3AP_START_REQUEST_CELLS 11
+#define M3AP_RESPONSE_MME 0 /* START RESPONSE and STOP RESPONSE */
+#define M3AP_RESPONSE_MCE 1
+#define M3AP_RESPONSE_DIAGNOSTICS 2
+#define M3AP_START_FAILURE_MME 0
+#define M3AP_START_FAILURE_CAUSE 1
+#define M3AP_START_FAILURE_DIAGNOSTICS 2
+#define M3AP_STOP_REQUEST_MME 0
+#define M3AP_STOP_REQUEST_MCE 1
+#define M3AP_STOP_REQUEST_TIME 2
+#define M3AP_RESET_CAUSE 0
+#define M3AP_RESET_TYPE 1
+#define M3AP_RESET_ACKNOWLEDGE_LIST 0
+#define M3AP_RESET_ACKNOWLEDGE_DIAGNOSTICS 1
+#define M3AP_ERROR_INDICATION_MME 0
+#define M3AP_ERROR_INDICATION_MCE 1
+#define M3AP_ERROR_INDICATION_CAUSE 2
+#define M3AP_ERROR_INDICATION_DIAGNOSTICS 3
+
+/*
+ * Reads a message. Answers 0 to 5 and 10. Answers 0 and 5 put the record of what was read at the front of the room; 10 takes their place where the
+ * room has fewer than M3AP_RECORD_OCTETS. Whatever else: the room keeps its octets.
+ */
+struct m3ap_answer m3ap_read(const uint8_t *message, size_t message_len, uint8_t *record, size_t record_len);
+
+/*
+ * Writes a message. Answers 0, 10 and 11. Carried values lie in values: with the octets that m3ap_read has read, it is the message again, if that
+ * holds only elements of its table, with the criticalities that the tables give, lacks no mandatory one, and was read with answer 0.
+ *
+ * record    read. Octets that are no record get 11.
+ * values    read.
+ * room      lent. The message fills its front, and the rest keeps its octets; with 10 and 11 all of it does.
+ */
+struct m3ap_answer m3ap_write(const uint8_t *record, size_t record_len, const uint8_t *values, size_t values_len,
+                              uint8_t *room, size_t room_len);
+
+/* ---- the console */
+
+struct m3ap_tmgi {
+    uint8_t plmn[3];
+    uint8_t service[3];
+};
+
+/* An association. Without has_session, session says nothing. */
+struct m3ap_association {
+    uint16_t mme;
+    uint16_t mce;
+    struct m3ap_tmgi tmgi;
+    bool has_session;
+    uint8_t session;
+};
+
+struct m3ap_counted {
+    uint16_t answer; /* 0, or 21 for a run of over 256, or in which two share an identity of one series */
+    size_t count;    /* 0 beside 21 */
+};
+
+/* How many associations of the run have the TMGI. run_len counts associations. */
+struct m3ap_counted m3ap_count(const struct m3ap_association *run, size_t run_len, struct m3ap_tmgi tmgi);
 
 #ifdef __cplusplus
 }

@@ -1,25 +1,13 @@
 #!/usr/bin/env python3
-"""captures.py FOLDER: writes the captures that sample/test plays. An entry is an offered identity, a length (two octets each, high first) and a message.
-The evening depends on its seed alone."""
+"""captures.py FOLDER: writes what sample/test plays: captures (an entry is an offered identity, a length, two octets each, high first, and a message),
+and for rewrite.c messages, each behind its length. The evening depends on its seed alone."""
 import os, sys
+sys.path.insert(0, os.path.join(os.path.dirname(os.path.abspath(__file__)), '..', 'tools'))
+from encoder import *
 
-def two(n): return n.to_bytes(2, 'big')
 def entry(offered, octets): return two(offered) + two(len(octets)) + octets
-
-def length(n): return bytes([n]) if n < 128 else bytes([0x80 | n >> 8, n & 255])
-def element(id, crit, value): return two(id) + bytes([crit << 6]) + length(len(value)) + value
-def message(kind, code, elements, crit=0):
-    inside = b'\0' + two(len(elements)) + b''.join(elements)
-    return bytes([kind << 5, code, crit << 6]) + length(len(inside)) + inside
-
-REJECT, IGNORE, NOTIFY = 0, 1, 2
-def item(m, c): return bytes([(m is not None) << 6 | (c is not None) << 5]) + b''.join(two(x) for x in (m, c) if x is not None)
-def start(m, *more): return message(0, 0, [element(0, REJECT, two(m)), element(2, REJECT, b'\0\0\xf1\x10' + two(m) + b'\7'), *more] + [element(i, REJECT, b'\1') for i in (4, 5, 6, 16, 7)])
-def stop(m, c, *more): return message(0, 1, [element(0, REJECT, two(m)), element(1, REJECT, two(c)), *more])
-def reset(items): return message(0, 4, [element(9, IGNORE, b'\x42'), element(13, REJECT, b'\x40' + bytes([len(items) - 1]) + b''.join(element(14, REJECT, item(*i)) for i in items))])
-WHOLE = message(0, 4, [element(9, IGNORE, b'\x42'), element(13, REJECT, b'\0')])
 RESET = reset([(1, 2)])
-INDICATION = message(0, 2, [element(9, IGNORE, b'\x42')], IGNORE)
+INDICATION = message(0, 2, IGNORE, [element(9, IGNORE, b'\x42')])
 
 class Seeded:
     def __init__(self, seed): self.x = seed
@@ -39,7 +27,7 @@ def evening(seed):
         if k < 5: return start(identity(), *([element(3, IGNORE, bytes([r.below(256)]))] if r.below(2) else []))
         if k < 8: return stop(identity(), identity())
         if k < 10: return reset([one() for _ in range(1 + r.below(8))])
-        return r.some([INDICATION, start(identity(), *unknown(r.below(3))), stop(identity(), identity(), *unknown(r.below(3))), message(1, r.below(5), [])])
+        return r.some([INDICATION, start(identity(), *unknown(r.below(3))), stop(identity(), identity(), *unknown(r.below(3))), message(1, r.below(5), REJECT, [])])
     def broken(octets):
         k = r.below(4)
         at = r.below(len(octets))
@@ -60,7 +48,7 @@ def evening(seed):
     yield 0, reset([(2000 + n, 1000 + n + n % 2) for n in range(256)])
     yield 0, start(6000, *unknown(NOTIFY, 300))
     yield 0, stop(6000, 0, *unknown(REJECT, 300))
-    yield 0, message(0, 4, [element(9, IGNORE, b'\x42')] + unknown(REJECT, 300))
+    yield 0, message(0, 4, REJECT, [element(9, IGNORE, b'\x42')] + unknown(REJECT, 300))
     for _ in range(100):
         yield identity(), usual()
     yield 0, WHOLE
@@ -76,5 +64,18 @@ captures = {
     'no-octets': entry(0, b'') + ALONE,
     'evening': b''.join(entry(o, m) for o, m in evening(20260101)),
 }
-for name, octets in captures.items():
+# What is written is the message again, but where it has another criticality than the tables give, an element that is not of its table, or lacks one.
+messages = [
+    start(1), start(1, element(3, IGNORE, b'\7')), stop(1, 2), WHOLE, RESET, reset([(1, None), (None, 2), (None, None)]), INDICATION,
+    started(1, 2), failed(1, 0x03), stopped(1, 2), acknowledged([]), acknowledged([(1, 2)] * 256),
+    message(0, 1, NOTIFY, [mme(1, REJECT), mce(2, REJECT)]),
+    stop(1, 2, element(99, NOTIFY, b'\0')),
+    stop(1, 2, element(99, REJECT, b'\0')),
+    message(0, 1, REJECT, [mme(1, REJECT), mce(2, REJECT), mme(3, REJECT)]),
+    message(0, 1, REJECT, [mme(1, REJECT)]),
+    message(0, 3, REJECT, []), message(0, 1, REJECT, [mme(1, REJECT), element(1, REJECT, b'\0')]),
+    b'\0\4\0\1\x80', RESET[:-1], b'', bytes(8193),
+]
+made = {**captures, 'messages': b''.join(two(len(m)) + m for m in messages)}
+for name, octets in made.items():
     with open(os.path.join(sys.argv[1], name), 'wb') as f: f.write(octets)

@@ -1,6 +1,7 @@
 /*
- * Calls at the edges of what may be handed over, and how much stack calls need: a capture from standard input is played on a painted stack.
- * Writes the deepest in octets, from the caller's frame on. Status 1 if a call answers otherwise than it must, or needs more than the header says.
+ * Calls at the edges of what may be handed over, and how much stack calls need: a capture from standard input is played on a painted stack, and each of
+ * its messages is read and written again. Writes the deepest of each call in octets, from the caller's frame on. Status 1 if a call answers otherwise
+ * than it must, or needs more than the header says.
  */
 #include "m3ap.h"
 
@@ -14,58 +15,163 @@ static uint8_t stack[STACK] __attribute__((aligned(4096)));
 static uint8_t table[M3AP_TABLE_OCTETS];
 static uint8_t room[M3AP_MESSAGE_OCTETS];
 static uint8_t message[65535];
-static size_t deepest;
+static uint8_t record[M3AP_RECORD_OCTETS];
+static struct m3ap_association run[257];
+static size_t deepest_call, deepest_read, deepest_write, deepest_count;
 static int wrong;
 
-/* One call, and how far down it wrote. The painting leaves the frames that are in use alone. */
-__attribute__((noinline)) static struct m3ap_answer measured(uint8_t *t, size_t t_len, const uint8_t *m, size_t m_len,
-                                                             uint16_t offered, uint8_t *r, size_t r_len)
+/* The painting leaves the frames that are in use alone. */
+static void paint(const uint8_t *here)
 {
-    uint8_t *here = __builtin_frame_address(0);
     for (volatile uint8_t *p = stack; p < here - SPARE; p++)
         *p = PAINT;
-    struct m3ap_answer a = m3ap_call(t, t_len, m, m_len, offered, r, r_len);
+}
+
+/* How far down was written. */
+static void look(const uint8_t *here, size_t *deepest)
+{
     const uint8_t *low = stack;
     while (low < here && *low == PAINT)
         low++;
-    if ((size_t)(here - low) > deepest)
-        deepest = (size_t)(here - low);
+    if ((size_t)(here - low) > *deepest)
+        *deepest = (size_t)(here - low);
+}
+
+/* One call each, which paints before and looks afterwards. */
+__attribute__((noinline)) static struct m3ap_answer called(uint8_t *t, size_t t_len, const uint8_t *m, size_t m_len,
+                                                           uint16_t offered, uint8_t *r, size_t r_len)
+{
+    const uint8_t *here = __builtin_frame_address(0);
+    paint(here);
+    struct m3ap_answer a = m3ap_call(t, t_len, m, m_len, offered, r, r_len);
+    look(here, &deepest_call);
     return a;
+}
+
+__attribute__((noinline)) static struct m3ap_answer was_read(const uint8_t *m, size_t m_len, uint8_t *r, size_t r_len)
+{
+    const uint8_t *here = __builtin_frame_address(0);
+    paint(here);
+    struct m3ap_answer a = m3ap_read(m, m_len, r, r_len);
+    look(here, &deepest_read);
+    return a;
+}
+
+__attribute__((noinline)) static struct m3ap_answer written(const uint8_t *r, size_t r_len, const uint8_t *v, size_t v_len, uint8_t *o, size_t o_len)
+{
+    const uint8_t *here = __builtin_frame_address(0);
+    paint(here);
+    struct m3ap_answer a = m3ap_write(r, r_len, v, v_len, o, o_len);
+    look(here, &deepest_write);
+    return a;
+}
+
+__attribute__((noinline)) static struct m3ap_counted counted(size_t length)
+{
+    const uint8_t *here = __builtin_frame_address(0);
+    paint(here);
+    struct m3ap_counted c = m3ap_count(run, length, (struct m3ap_tmgi){{0, 0, 0}, {0, 0, 0}});
+    look(here, &deepest_count);
+    return c;
 }
 
 static void expect(const char *what, struct m3ap_answer a, uint32_t answer, uint32_t place, uint32_t octets)
 {
     if (a.answer == answer && a.place == place && a.octets == octets)
         return;
-    printf("%s: answer=%u place=%u octets=%u, not %u %u %u\n", what, a.answer, a.place, a.octets, answer, place, octets);
+    printf("%s: answer=%u place=%u octets=%u, not %u %u %u\n", what, (unsigned)a.answer, (unsigned)a.place, (unsigned)a.octets, (unsigned)answer,
+           (unsigned)place, (unsigned)octets);
     wrong = 1;
 }
 
-static void edges(void)
+static void expect_octets(const char *what, const uint8_t *is, const uint8_t *must, size_t n)
 {
-    static const uint8_t reset[] = {0x00, 0x04, 0x00, 0x17, 0x00, 0x00, 0x02, 0x00, 0x09, 0x40, 0x01, 0x42, 0x00, 0x0d,
-                                    0x00, 0x0b, 0x40, 0x00, 0x00, 0x0e, 0x00, 0x05, 0x60, 0x00, 0x01, 0x00, 0x02};
+    if (memcmp(is, must, n) == 0)
+        return;
+    printf("%s: other octets\n", what);
+    wrong = 1;
+}
+
+static const uint8_t reset[] = {0x00, 0x04, 0x00, 0x17, 0x00, 0x00, 0x02, 0x00, 0x09, 0x40, 0x01, 0x42, 0x00, 0x0d,
+                                0x00, 0x0b, 0x40, 0x00, 0x00, 0x0e, 0x00, 0x05, 0x60, 0x00, 0x01, 0x00, 0x02};
+static const uint8_t extended[] = {0x00, 0x04, 0x00, 0x01, 0x80};
+
+static void call_edges(void)
+{
+    /* The reply, and that the room behind it keeps its octets. */
     static const uint8_t acknowledged[] = {0x20, 0x04, 0x00, 0x11, 0x00, 0x00, 0x01, 0x00, 0x0f, 0x40, 0x0a,
-                                           0x00, 0x00, 0x0e, 0x40, 0x05, 0x60, 0x00, 0x01, 0x00, 0x02};
-    static const uint8_t extended[] = {0x00, 0x04, 0x00, 0x01, 0x80};
+                                           0x00, 0x00, 0x0e, 0x40, 0x05, 0x60, 0x00, 0x01, 0x00, 0x02, 0xEE};
     uint8_t other[M3AP_TABLE_OCTETS];
 
     memset(room, 0xEE, sizeof room);
-    expect("reset", measured(table, sizeof table, reset, sizeof reset, 0, room, sizeof room), M3AP_CARRIED_OUT, 0, 21);
-    if (memcmp(room, acknowledged, sizeof acknowledged) != 0 || room[21] != 0xEE || room[8191] != 0xEE) {
-        printf("reset: another reply\n");
+    expect("reset", called(table, sizeof table, reset, sizeof reset, 0, room, sizeof room), M3AP_CARRIED_OUT, 0, 21);
+    expect_octets("reset", room, acknowledged, sizeof acknowledged);
+    expect_octets("reset, end of room", room + 8191, acknowledged + 21, 1);
+    expect("room of 20", called(table, sizeof table, reset, sizeof reset, 0, room, 20), M3AP_NO_ROOM, 0, 0);
+    expect("no room", called(table, sizeof table, reset, sizeof reset, 0, NULL, 0), M3AP_NO_ROOM, 0, 0);
+    expect("no message", called(table, sizeof table, NULL, 0, 0, room, sizeof room), M3AP_FAULT, 0, 0);
+    expect("cut", called(table, sizeof table, reset, 26, 0, room, sizeof room), M3AP_FAULT, 3, 0);
+    expect("cut in the frame", called(table, sizeof table, reset, 3, 0, room, sizeof room), M3AP_FAULT, 3, 0);
+    expect("extension", called(table, sizeof table, extended, sizeof extended, 0, room, sizeof room), M3AP_EXTENSION, 4, 0);
+    expect("too long", called(table, sizeof table, message, 8193, 0, room, sizeof room), M3AP_TOO_LONG, 0, 0);
+    expect("no table", called(NULL, 0, reset, sizeof reset, 0, room, sizeof room), M3AP_NO_TABLE, 0, 0);
+    memset(other, 0xFF, sizeof other);
+    expect("octets of no table", called(other, sizeof other, message, 8193, 0, room, sizeof room), M3AP_NO_TABLE, 0, 0);
+}
+
+static void record_edges(void)
+{
+    /* RESET, frame of reject; cause 4.2; part of the interface. One item. */
+    static const uint8_t slots[18] = {M3AP_RESET, 0, 1, 4, 2, 0, 0, 0, 0, 0, 2};
+    static const uint8_t item[9] = {0, 1, 1, 0, 1, 1, 0, 2};
+    struct m3ap_record r;
+
+    memset(record, 0xEE, sizeof record);
+    expect("read, no room", was_read(reset, sizeof reset, NULL, 0), M3AP_NO_ROOM, 0, 0);
+    expect("read, room of 2661", was_read(reset, sizeof reset, record, sizeof record - 1), M3AP_NO_ROOM, 0, 0);
+    expect("read, extension", was_read(extended, sizeof extended, record, sizeof record), M3AP_EXTENSION, 4, 0);
+    expect("read, no message", was_read(NULL, 0, record, sizeof record), M3AP_FAULT, 0, 0);
+    expect("read, too long", was_read(message, 8193, NULL, 0), M3AP_TOO_LONG, 0, 0);
+    for (size_t i = 0; i < sizeof record; i++)
+        expect_octets("read, room that is kept", record + i, (const uint8_t[]){0xEE}, 1);
+
+    expect("read", was_read(reset, sizeof reset, record, sizeof record), M3AP_CARRIED_OUT, 0, M3AP_RECORD_OCTETS);
+    memcpy(&r, record, sizeof r);
+    expect_octets("read, slots", record, slots, sizeof slots);
+    expect_octets("read, items", r.item_count, item, sizeof item);
+
+    memset(room, 0xEE, sizeof room);
+    expect("write, no room", written(record, sizeof record, NULL, 0, NULL, 0), M3AP_NO_ROOM, 0, 0);
+    expect("write, room of 26", written(record, sizeof record, NULL, 0, room, 26), M3AP_NO_ROOM, 0, 0);
+    expect("write, no record", written(NULL, 0, reset, sizeof reset, room, sizeof room), M3AP_NOT_WRITTEN, 0, 0);
+    expect("write, record cut", written(record, sizeof record - 1, NULL, 0, room, sizeof room), M3AP_NOT_WRITTEN, 0, 0);
+    /* An octet behind the items, and a cause of no group. */
+    r.items[1].mce[1] = 1;
+    expect("write, octets of no record", written((const uint8_t *)&r, sizeof r, NULL, 0, room, sizeof room), M3AP_NOT_WRITTEN, 0, 0);
+    r.items[1].mce[1] = 0;
+    r.slots[M3AP_RESET_CAUSE].value[0] = 5;
+    expect("write, no message", written((const uint8_t *)&r, sizeof r, NULL, 0, room, sizeof room), M3AP_NOT_WRITTEN, 0, 0);
+    expect_octets("write, room that is kept", room, (const uint8_t[]){0xEE, 0xEE}, 2);
+    expect("write", written(record, sizeof record, NULL, 0, room, sizeof reset), M3AP_CARRIED_OUT, 0, sizeof reset);
+    expect_octets("write", room, reset, sizeof reset);
+}
+
+static void count_edges(void)
+{
+    for (unsigned i = 0; i < 257; i++)
+        run[i] = (struct m3ap_association){(uint16_t)i, (uint16_t)(i * 257), {{0, 0, 0}, {0, 0, 0}}, false, 0};
+    if (counted(256).count != 256 || counted(257).answer != M3AP_NO_TABLE) {
+        printf("count: another answer\n");
         wrong = 1;
     }
-    expect("room of 20", measured(table, sizeof table, reset, sizeof reset, 0, room, 20), M3AP_NO_ROOM, 0, 0);
-    expect("no room", measured(table, sizeof table, reset, sizeof reset, 0, NULL, 0), M3AP_NO_ROOM, 0, 0);
-    expect("no message", measured(table, sizeof table, NULL, 0, 0, room, sizeof room), M3AP_FAULT, 0, 0);
-    expect("cut", measured(table, sizeof table, reset, 26, 0, room, sizeof room), M3AP_FAULT, 3, 0);
-    expect("cut in the frame", measured(table, sizeof table, reset, 3, 0, room, sizeof room), M3AP_FAULT, 3, 0);
-    expect("extension", measured(table, sizeof table, extended, sizeof extended, 0, room, sizeof room), M3AP_EXTENSION, 4, 0);
-    expect("too long", measured(table, sizeof table, message, 8193, 0, room, sizeof room), M3AP_TOO_LONG, 0, 0);
-    expect("no table", measured(NULL, 0, reset, sizeof reset, 0, room, sizeof room), M3AP_NO_TABLE, 0, 0);
-    memset(other, 0xFF, sizeof other);
-    expect("octets of no table", measured(other, sizeof other, message, 8193, 0, room, sizeof room), M3AP_NO_TABLE, 0, 0);
+}
+
+static void expect_stack(const char *what, size_t deepest)
+{
+    if (deepest <= M3AP_STACK_OCTETS)
+        return;
+    printf("%s: %zu octets of stack, the header says at most %d\n", what, deepest, M3AP_STACK_OCTETS);
+    wrong = 1;
 }
 
 static void *play(void *unused)
@@ -73,12 +179,16 @@ static void *play(void *unused)
     uint8_t head[4];
 
     (void)unused;
-    edges();
+    call_edges();
+    record_edges();
+    count_edges();
     while (fread(head, 1, 4, stdin) == 4) {
         size_t length = head[2] * 256u + head[3];
         if (fread(message, 1, length, stdin) < length)
             break;
-        measured(table, sizeof table, message, length, (uint16_t)(head[0] * 256u + head[1]), room, sizeof room);
+        called(table, sizeof table, message, length, (uint16_t)(head[0] * 256u + head[1]), room, sizeof room);
+        if (was_read(message, length, record, sizeof record).octets != 0)
+            written(record, sizeof record, message, length, room, sizeof room);
     }
     return NULL;
 }
@@ -88,9 +198,13 @@ int main(void)
     pthread_t thread;
     pthread_attr_t how;
 
-    if (sizeof(struct m3ap_answer) != 12 || pthread_attr_init(&how) != 0 || pthread_attr_setstack(&how, stack, sizeof stack) != 0 ||
-        pthread_create(&thread, &how, play, NULL) != 0 || pthread_join(thread, NULL) != 0)
+    if (sizeof(struct m3ap_answer) != 12 || sizeof(struct m3ap_record) != M3AP_RECORD_OCTETS || pthread_attr_init(&how) != 0 ||
+        pthread_attr_setstack(&how, stack, sizeof stack) != 0 || pthread_create(&thread, &how, play, NULL) != 0 || pthread_join(thread, NULL) != 0)
         return 2;
-    printf("stack=%zu\n", deepest);
-    return wrong || deepest > M3AP_STACK_OCTETS ? 1 : 0;
+    printf("stack: call=%zu read=%zu write=%zu count=%zu\n", deepest_call, deepest_read, deepest_write, deepest_count);
+    expect_stack("call", deepest_call);
+    expect_stack("read", deepest_read);
+    expect_stack("write", deepest_write);
+    expect_stack("count", deepest_count);
+    return wrong;
 }

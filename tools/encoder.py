@@ -1,4 +1,4 @@
-"""The messages that calls.py and captures.py use, encoded by hand from 000 and X.691."""
+"""The messages that calls.py, captures.py and sample/captures.py use, encoded by hand from 000 and X.691."""
 def two(n): return n.to_bytes(2, 'big')
 def length(n): return bytes([n]) if n < 128 else bytes([0x80 | n >> 8, n & 255])
 def element(id, crit, value): return two(id) + bytes([crit << 6]) + length(len(value)) + value
@@ -6,16 +6,16 @@ def message(kind, code, crit, elements):
     inside = b'\0' + two(len(elements)) + b''.join(elements)
     return bytes([kind << 5, code, crit << 6]) + length(len(inside)) + inside
 
-REJECT, IGNORE = 0, 1
+REJECT, IGNORE, NOTIFY = 0, 1, 2
 def mme(n, crit): return element(0, crit, two(n))
 def mce(n, crit): return element(1, crit, two(n))
 def item(m, c): return bytes([(m is not None) << 6 | (c is not None) << 5]) + b''.join(two(x) for x in (m, c) if x is not None)
 def items(list, crit): return bytes([len(list) - 1]) + b''.join(element(14, crit, item(*i)) for i in list)
 
-def start(m): return message(0, 0, REJECT, [mme(m, REJECT), element(2, REJECT, bytes(7))] + [element(i, REJECT, b'\1') for i in (4, 5, 6, 16, 7)])
+def start(m, *more): return message(0, 0, REJECT, [mme(m, REJECT), element(2, REJECT, bytes(7)), *more] + [element(i, REJECT, b'\1') for i in (4, 5, 6, 16, 7)])
 def started(m, c): return message(1, 0, REJECT, [mme(m, IGNORE), mce(c, IGNORE)])
 def failed(m, cause): return message(2, 0, REJECT, [mme(m, IGNORE), element(9, IGNORE, bytes([cause]))])
-def stop(m, c): return message(0, 1, REJECT, [mme(m, REJECT), mce(c, REJECT)])
+def stop(m, c, *more): return message(0, 1, REJECT, [mme(m, REJECT), mce(c, REJECT), *more])
 def stopped(m, c): return message(1, 1, REJECT, [mme(m, IGNORE), mce(c, IGNORE)])
 def reset(list): return message(0, 4, REJECT, [element(9, IGNORE, b'\x42'), element(13, REJECT, b'\x40' + items(list, REJECT))])
 def acknowledged(list): return message(1, 4, REJECT, [element(15, IGNORE, items(list, IGNORE))] if list else [])

@@ -1,4 +1,4 @@
-//! Comparing with the readings' witnesses and with messages another program encoded.
+//! Comparing with witnesses and with messages another program encoded.
 
 use crate::json::Json;
 use crate::text::{push_record, read_verdict, unhex, witness};
@@ -15,11 +15,10 @@ pub struct Result {
     pub differences: Vec<String>,
 }
 
-/// Runs every witness of the readings.
-pub fn readings(text: &str, result: &mut Result) {
+/// Runs every witness.
+pub fn witnesses(text: &str, result: &mut Result) {
     for (i, line) in text.lines().enumerate() {
-        // Witnesses are indented; prose that speaks of them is not.
-        if !line.starts_with("        ") || !(line.trim().starts_with("read ") || line.trim().starts_with("call ")) {
+        if !(line.starts_with("read ") || line.starts_with("call ")) {
             continue;
         }
         match witness(line) {

@@ -7,7 +7,7 @@ use std::io::{self, BufRead, BufWriter, Write};
 use std::process::ExitCode;
 
 const USAGE: &str = "usage:
-  second check READINGS.md [VECTORS.jsonl ..]
+  second check WITNESSES.txt [VECTORS.jsonl ..]
   second make SEED COUNT reads|calls|calls-table|calls-binary
   second judge < LINES
   second capture FILE";
@@ -41,7 +41,7 @@ fn check_all(paths: &[&str]) -> Done {
         if path.ends_with(".jsonl") {
             check::vectors(path, &text, &mut result);
         } else {
-            check::readings(&text, &mut result);
+            check::witnesses(&text, &mut result);
         }
     }
     for difference in &result.differences {

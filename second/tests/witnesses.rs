@@ -1,5 +1,4 @@
-//! The readings' witnesses (path in M3AP_READINGS; skipped without it) and the scope paper's
-//! bench examples.
+//! The witnesses of tools/witnesses.txt, and the scope paper's bench examples.
 #![deny(warnings)]
 
 use second::check;
@@ -7,21 +6,17 @@ use second::text::{call_verdict, hex, read_verdict, unhex};
 use second::*;
 
 #[test]
-fn readings() {
-    let Some(path) = std::env::var_os("M3AP_READINGS") else {
-        eprintln!("skipped: M3AP_READINGS is not set");
-        return;
-    };
-    let text = std::fs::read_to_string(path).unwrap();
+fn witnesses() {
+    let text = include_str!("../../tools/witnesses.txt");
     let mut result = check::Result::default();
-    check::readings(&text, &mut result);
+    check::witnesses(text, &mut result);
     assert!(result.differences.is_empty(), "{:#?}", result.differences);
-    assert!(result.reads > 0 && result.calls > 0);
+    assert_eq!((result.reads, result.calls), (51, 15));
 
     // And a changed verdict is seen.
     let changed = text.replace("=> answer=2 offset=1", "=> answer=2 offset=2");
     let mut result = check::Result::default();
-    check::readings(&changed, &mut result);
+    check::witnesses(&changed, &mut result);
     assert!(!result.differences.is_empty());
 }
 

@@ -4,6 +4,16 @@ use mathlib.Core.Path.{refl}
 use Rattle.lists.proofs.Unique.{Determined, _same_, _&_}
 use Rattle.carry.proofs.decide.Kinds as decide'
 use Rattle.carry.proofs.decide.Reads as decide
+use Rattle.carry.proofs.asked.Kinds as asked'
+use Rattle.carry.proofs.asked.Reads as asked
+use Rattle.carry.proofs.acknowledged.Kinds as acknowledged'
+use Rattle.carry.proofs.acknowledged.Reads as acknowledged
 
 pub decide-is : Determined decide'.ps decide'.r decide.Asked decide.Learnt
 decide-is κs a p x y e f = (e same f) & refl
+
+pub asked-is : Determined asked'.ps asked'.r asked.Asked asked.Learnt
+asked-is κs a p x y e f = (e same f) & refl
+
+pub acknowledged-is : Determined acknowledged'.ps acknowledged'.r acknowledged.Asked acknowledged.Learnt
+acknowledged-is κs a p x y e f = (e same f) & refl

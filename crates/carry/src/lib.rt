@@ -1,10 +1,8 @@
 // What is decided about a judged message: 01's rules on the table, and the replies.
 ghost use mathlib.Core.Path.{_≡_};
-ghost use mathlib.Core.Bool.{true};
-ghost use Rattle.records.specs.Records.{noRecord};
-ghost use Rattle.table.specs.Table.{held};
-ghost use Rattle.carry.specs.Carry.{keeps, changes, started, stopped, rejected, startedBy, stoppedBy, resetBy, carriedOut, decided, coded};
-use diagnostics::Entries;
+ghost use Rattle.identity.specs.Items.{emptyItem};
+ghost use Rattle.carry.specs.Carry.{stays, rejected, started, stopped, startedBy, stoppedBy, resetBy, carriedOut, decision, asked, partial, acknowledged};
+use identity::Item;
 use identity::Items;
 use identity::Mce;
 use identity::MceId;
@@ -12,20 +10,17 @@ use identity::Mme;
 use identity::MmeId;
 use identity::Session;
 use identity::Tmgi;
-use judge::Judged;
 use messages::Frame;
 use messages::Outcome;
-use messages::Verdict;
 use octets::Stop;
 use records::Body;
 use records::MaybeReset;
 use records::MaybeTmgi;
-use records::Record;
 use records::Resetting;
 use records::Start;
 use records::Stopping;
 use table::Association;
-use table::Table;
+use table::Standing;
 use values::Cause;
 
 pub enum Answer {
@@ -53,12 +48,21 @@ pub enum Answer {
     NoTable,
 }
 
-// The answer, the reply (no record where there is none), and the table, if it changes.
-pub struct Decided {
-    pub answer: Answer,
-    pub reply: Record,
-    pub changed: bool,
-    pub table: Table,
+// What becomes of the table: it stays, with an answer; or it changes, and the answer is 0.
+pub enum Change {
+    Stays(Answer),
+    Starts(Association),
+    Stops(MmeId, MceId),
+    // a whole reset
+    Empties,
+    // a partial reset
+    Resets,
+}
+
+// What becomes of the table, and the reply: no body where there is none.
+pub struct Decision {
+    pub change: Change,
+    pub reply: Body,
 }
 
 // Unknown or already allocated MME MBMS M3AP ID.
@@ -73,48 +77,27 @@ const ABSTRACT_SYNTAX: Cause = Cause { group: 3, value: 1 };
 // Abstract syntax error (falsely constructed message).
 const FALSELY_CONSTRUCTED: Cause = Cause { group: 3, value: 5 };
 
-fn keeps(t: Table, a: Answer, r: Record) -> Decided
-    ensures { λ d. ⌜ d ≡ coded t (keeps a r) ⌝ }
+fn stays(a: Answer, reply: Body) -> Decision
+    ensures { λ d. ⌜ d ≡ stays a reply ⌝ }
 {
-    Decided {
-        answer: a,
-        reply: r,
-        changed: false,
-        table: t,
-    }
-}
-
-fn changes(t: Table, r: Record) -> Decided
-    ensures { λ d. ⌜ d ≡ record { answer = Answer.CarriedOut; reply = r; changed = true; table = t } ⌝ }
-{
-    Decided {
-        answer: Answer::CarriedOut,
-        reply: r,
-        changed: true,
-        table: t,
+    Decision {
+        change: Change::Stays(a),
+        reply: reply,
     }
 }
 
 // A start: 6, 7, 9, or the new association stands behind the others.
-fn start(t: Table, c: MceId, noted: Entries, m: MmeId, tmgi: Tmgi, session: Session) -> Decided
-    ensures { λ d. ⌜ d ≡ coded t (started (held t) c noted m tmgi session) ⌝ }
+fn start(k: Standing, c: MceId, noted: usize, m: MmeId, tmgi: Tmgi, session: Session) -> Decision
+    ensures { λ d. ⌜ d ≡ started k c noted m tmgi session ⌝ }
 {
-    if table::holds_mme(t, m) {
-        return keeps(
-            t,
-            Answer::MmeHeld,
-            replies::start_failure(m, MME_TAKEN, noted),
-        );
+    if k.mme {
+        return stays(Answer::MmeHeld, replies::start_failure(m, MME_TAKEN, noted));
     }
-    if table::holds_mce(t, c) {
-        return keeps(t, Answer::OfferHeld, records::no_record());
+    if k.mce {
+        return stays(Answer::OfferHeld, Body::None);
     }
-    if table::is_full(t) {
-        return keeps(
-            t,
-            Answer::Full,
-            replies::start_failure(m, NO_RESOURCES, noted),
-        );
+    if k.full {
+        return stays(Answer::Full, replies::start_failure(m, NO_RESOURCES, noted));
     }
     let a = Association {
         mme: m,
@@ -122,118 +105,200 @@ fn start(t: Table, c: MceId, noted: Entries, m: MmeId, tmgi: Tmgi, session: Sess
         tmgi: tmgi,
         session: session,
     };
-    changes(table::start(t, a), replies::start_response(m, c, noted))
+    Decision {
+        change: Change::Starts(a),
+        reply: replies::start_response(m, c, noted),
+    }
 }
 
 // A stop: 8, or the association that has both identities is gone.
-fn stop(t: Table, f: Frame, noted: Entries, m: MmeId, c: MceId) -> Decided
-    ensures { λ d. ⌜ d ≡ coded t (stopped (held t) f noted m c) ⌝ }
+fn stop(k: Standing, f: Frame, noted: usize, m: MmeId, c: MceId) -> Decision
+    ensures { λ d. ⌜ d ≡ stopped k f noted m c ⌝ }
 {
-    if table::holds_pair(t, m, c) {
-        return changes(table::stop(t, m, c), replies::stop_response(m, c, noted));
+    if k.pair {
+        return Decision {
+            change: Change::Stops(m, c),
+            reply: replies::stop_response(m, c, noted),
+        };
     }
-    keeps(
-        t,
-        Answer::PairNotHeld,
-        replies::pair_not_held(f, m, c, noted),
-    )
+    stays(Answer::PairNotHeld, replies::pair_not_held(f, m, c, noted))
 }
 
 // Elements rejected, for a cause.
-fn rejected(t: Table, f: Frame, body: Body, noted: Entries, why: Cause) -> Decided
-    ensures { λ d. ⌜ d ≡ coded t (rejected f body noted why) ⌝ }
+fn rejected(f: Frame, body: Body, noted: usize, why: Cause) -> Decision
+    ensures { λ d. ⌜ d ≡ rejected f body noted why ⌝ }
 {
-    keeps(t, Answer::Rejected, replies::rejection(f, body, why, noted))
+    stays(Answer::Rejected, replies::rejection(f, body, why, noted))
 }
 
 // A start that was accepted. A mandatory element of reject is never absent here; if it were, it would be rejected.
-fn start_request(t: Table, c: MceId, f: Frame, b: Start, noted: Entries) -> Decided
-    ensures { λ d. ⌜ d ≡ coded t (startedBy (held t) c f (Body.StartRequest b) noted (b .mme) (b .tmgi) (b .session)) ⌝ }
+fn start_request(k: Standing, c: MceId, f: Frame, b: Start, noted: usize) -> Decision
+    ensures { λ d. ⌜ d ≡ startedBy k c f (Body.StartRequest b) noted (b .mme) (b .tmgi) (b .session) ⌝ }
 {
     let mme = b.mme;
     let tmgi = b.tmgi;
     let session = b.session;
     match mme {
         Mme::Is(m) => match tmgi {
-            MaybeTmgi::Is(g) => start(t, c, noted, m, g, session),
-            MaybeTmgi::Absent => rejected(t, f, Body::StartRequest(b), noted, ABSTRACT_SYNTAX),
+            MaybeTmgi::Is(g) => start(k, c, noted, m, g, session),
+            MaybeTmgi::Absent => rejected(f, Body::StartRequest(b), noted, ABSTRACT_SYNTAX),
         },
-        Mme::Absent => rejected(t, f, Body::StartRequest(b), noted, ABSTRACT_SYNTAX),
+        Mme::Absent => rejected(f, Body::StartRequest(b), noted, ABSTRACT_SYNTAX),
     }
 }
 
 // A stop that was accepted.
-fn stop_request(t: Table, f: Frame, b: Stopping, noted: Entries) -> Decided
-    ensures { λ d. ⌜ d ≡ coded t (stoppedBy (held t) f (Body.StopRequest b) noted (b .mme) (b .mce)) ⌝ }
+fn stop_request(k: Standing, f: Frame, b: Stopping, noted: usize) -> Decision
+    ensures { λ d. ⌜ d ≡ stoppedBy k f (Body.StopRequest b) noted (b .mme) (b .mce) ⌝ }
 {
     let mme = b.mme;
     let mce = b.mce;
     match mme {
         Mme::Is(m) => match mce {
-            Mce::Is(c) => stop(t, f, noted, m, c),
-            Mce::Absent => rejected(t, f, Body::StopRequest(b), noted, ABSTRACT_SYNTAX),
+            Mce::Is(c) => stop(k, f, noted, m, c),
+            Mce::Absent => rejected(f, Body::StopRequest(b), noted, ABSTRACT_SYNTAX),
         },
-        Mme::Absent => rejected(t, f, Body::StopRequest(b), noted, ABSTRACT_SYNTAX),
+        Mme::Absent => rejected(f, Body::StopRequest(b), noted, ABSTRACT_SYNTAX),
     }
 }
 
-// A reset that was accepted: of the whole interface, or of what the items name.
-fn reset_request(t: Table, f: Frame, b: Resetting, items: Items, noted: Entries) -> Decided
-    ensures { λ d. ⌜ d ≡ coded t (resetBy (held t) f (Body.Reset b) noted items (b .reset)) ⌝ }
+// A reset that was accepted: of the whole interface, or of what the items name. kept of them are acknowledged.
+fn reset_request(f: Frame, b: Resetting, kept: usize, noted: usize) -> Decision
+    ensures { λ d. ⌜ d ≡ resetBy f (Body.Reset b) kept noted (b .reset) ⌝ }
 {
     let reset = b.reset;
     match reset {
-        MaybeReset::Whole => changes(
-            table::empty(),
-            replies::acknowledge(records::no_items(), noted),
-        ),
-        MaybeReset::Part => changes(reset::reset(t, items), replies::acknowledge(items, noted)),
-        MaybeReset::Absent => rejected(t, f, Body::Reset(b), noted, ABSTRACT_SYNTAX),
+        MaybeReset::Whole => Decision {
+            change: Change::Empties,
+            reply: replies::acknowledge(0, noted),
+        },
+        MaybeReset::Part => Decision {
+            change: Change::Resets,
+            reply: replies::acknowledge(kept, noted),
+        },
+        MaybeReset::Absent => rejected(f, Body::Reset(b), noted, ABSTRACT_SYNTAX),
     }
 }
 
 // Nothing is asked for.
-fn no_request(t: Table) -> Decided
-    ensures { λ d. ⌜ d ≡ coded t (keeps Answer.NoRequest noRecord) ⌝ }
+fn no_request() -> Decision
+    ensures { λ d. ⌜ d ≡ stays Answer.NoRequest Body.None ⌝ }
 {
-    keeps(t, Answer::NoRequest, records::no_record())
+    stays(Answer::NoRequest, Body::None)
 }
 
 // A request that was accepted, carried out. ERROR INDICATION changes nothing and gets no reply.
-fn carry_out(t: Table, c: MceId, f: Frame, r: Record, noted: Entries) -> Decided
-    ensures { λ d. ⌜ d ≡ coded t (carriedOut (held t) c f noted r) ⌝ }
+fn carry_out(k: Standing, c: MceId, f: Frame, kept: usize, noted: usize, body: Body) -> Decision
+    ensures { λ d. ⌜ d ≡ carriedOut k c f kept noted body ⌝ }
 {
-    let body = r.body;
-    let items = r.items;
     match body {
-        Body::StartRequest(b) => start_request(t, c, f, b, noted),
-        Body::StopRequest(b) => stop_request(t, f, b, noted),
-        Body::Reset(b) => reset_request(t, f, b, items, noted),
-        Body::ErrorIndication(_) => keeps(t, Answer::CarriedOut, records::no_record()),
-        Body::StartResponse(_) => no_request(t),
-        Body::StartFailure(_) => no_request(t),
-        Body::StopResponse(_) => no_request(t),
-        Body::ResetAcknowledge(_) => no_request(t),
-        Body::None => no_request(t),
+        Body::StartRequest(b) => start_request(k, c, f, b, noted),
+        Body::StopRequest(b) => stop_request(k, f, b, noted),
+        Body::Reset(b) => reset_request(f, b, kept, noted),
+        Body::ErrorIndication(_) => stays(Answer::CarriedOut, Body::None),
+        Body::StartResponse(_) => no_request(),
+        Body::StartFailure(_) => no_request(),
+        Body::StopResponse(_) => no_request(),
+        Body::ResetAcknowledge(_) => no_request(),
+        Body::None => no_request(),
     }
 }
 
-// What is decided about a judged message.
-pub fn decide(t: Table, c: MceId, j: Judged) -> Decided
-    ensures { λ d. ⌜ d ≡ coded t (decided (held t) c j) ⌝ }
+// What is decided about a judged message, by what is held of the identities that it asks about.
+pub fn decide(
+    k: Standing,
+    c: MceId,
+    f: Frame,
+    kept: usize,
+    noted: usize,
+    body: Body,
+    o: Outcome,
+) -> Decision
+    ensures { λ d. ⌜ d ≡ decision k c f kept noted body o ⌝ }
 {
-    let v = j.verdict;
-    let f = j.frame;
-    let o = v.outcome;
-    let r = v.message;
-    let noted = v.noted;
-    let body = r.body;
     match o {
-        Outcome::Accepted => carry_out(t, c, f, r, noted),
-        Outcome::TooLong => keeps(t, Answer::TooLong, records::no_record()),
-        Outcome::Stopped(x) => keeps(t, Answer::Stopped(x), records::no_record()),
-        Outcome::NotAmong => keeps(t, Answer::NoRequest, records::no_record()),
-        Outcome::Misplaced(_) => rejected(t, f, body, noted, FALSELY_CONSTRUCTED),
-        Outcome::Rejected => rejected(t, f, body, noted, ABSTRACT_SYNTAX),
+        Outcome::Accepted => carry_out(k, c, f, kept, noted, body),
+        Outcome::TooLong => stays(Answer::TooLong, Body::None),
+        Outcome::Stopped(x) => stays(Answer::Stopped(x), Body::None),
+        Outcome::NotAmong => stays(Answer::NoRequest, Body::None),
+        Outcome::Misplaced(_) => rejected(f, body, noted, FALSELY_CONSTRUCTED),
+        Outcome::Rejected => rejected(f, body, noted, ABSTRACT_SYNTAX),
     }
+}
+
+// A start asks about its MME identity and the offered one, a stop about its two; nothing else asks.
+pub fn asked(c: MceId, body: Body) -> Item
+    ensures { λ d. ⌜ d ≡ asked c body ⌝ }
+{
+    match body {
+        Body::StartRequest(b) => {
+            let m = b.mme;
+            Item {
+                mme: m,
+                mce: Mce::Is(c),
+            }
+        }
+        Body::StopRequest(b) => {
+            let m = b.mme;
+            let x = b.mce;
+            Item { mme: m, mce: x }
+        }
+        Body::Reset(_) => no_item(),
+        Body::ErrorIndication(_) => no_item(),
+        Body::StartResponse(_) => no_item(),
+        Body::StartFailure(_) => no_item(),
+        Body::StopResponse(_) => no_item(),
+        Body::ResetAcknowledge(_) => no_item(),
+        Body::None => no_item(),
+    }
+}
+
+fn no_item() -> Item
+    ensures { λ d. ⌜ d ≡ emptyItem ⌝ }
+{
+    Item {
+        mme: Mme::Absent,
+        mce: Mce::Absent,
+    }
+}
+
+// A partial reset that was accepted.
+fn partial(body: Body, o: Outcome) -> bool
+    ensures { λ d. ⌜ d ≡ partial body o ⌝ }
+{
+    match o {
+        Outcome::Accepted => match body {
+            Body::Reset(b) => {
+                let reset = b.reset;
+                match reset {
+                    MaybeReset::Part => true,
+                    MaybeReset::Whole => false,
+                    MaybeReset::Absent => false,
+                }
+            }
+            Body::StartRequest(_) => false,
+            Body::StopRequest(_) => false,
+            Body::ErrorIndication(_) => false,
+            Body::StartResponse(_) => false,
+            Body::StartFailure(_) => false,
+            Body::StopResponse(_) => false,
+            Body::ResetAcknowledge(_) => false,
+            Body::None => false,
+        },
+        Outcome::TooLong => false,
+        Outcome::Stopped(_) => false,
+        Outcome::NotAmong => false,
+        Outcome::Misplaced(_) => false,
+        Outcome::Rejected => false,
+    }
+}
+
+// The items that are acknowledged.
+pub fn acknowledged(body: Body, o: Outcome, items: Items) -> Items
+    ensures { λ d. ⌜ d ≡ acknowledged body o items ⌝ }
+{
+    if partial(body, o) {
+        return replies::with_identity(items);
+    }
+    records::no_items()
 }

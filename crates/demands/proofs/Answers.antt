@@ -14,6 +14,7 @@ use Rattle.identity.specs.declared.Mme.{Mme}
 use Rattle.identity.specs.declared.Mme.the-variants as mme
 use Rattle.identity.specs.declared.Mce.{Mce}
 use Rattle.identity.specs.declared.Mce.the-variants as mce
+use Rattle.identity.specs.declared.Items.{Items}
 use Rattle.diagnostics.specs.declared.Entries.{Entries}
 use Rattle.tables.specs.declared.Message.{Message}
 use Rattle.tables.specs.declared.Named.{Named}
@@ -28,7 +29,7 @@ use Rattle.records.specs.declared.Stopping.{Stopping}
 use Rattle.records.specs.declared.Resetting.{Resetting}
 use Rattle.records.specs.declared.Body.{Body}
 use Rattle.records.specs.declared.Body.the-variants as body
-use Rattle.records.specs.declared.Record.{Record}
+use Rattle.records.specs.Records.{noItems}
 use Rattle.messages.specs.declared.Frame.{Frame}
 use Rattle.messages.specs.declared.Outcome.{Outcome}
 use Rattle.messages.specs.declared.Outcome.the-variants as outcome
@@ -39,11 +40,11 @@ use Rattle.table.specs.Table.{State, full, holdsMme, holdsMce, holdsPair}
 use Rattle.lent.specs.Lent.{Lent, Held, NoTable, readTable}
 use Rattle.judge.specs.declared.Judged.{Judged}
 use Rattle.judge.specs.Judge.{asks, noFrame, judgedBy, verdictBy, judgedIn, judgedOf}
-use Rattle.carry.specs.Carry.{Decided, started, stopped, carriedOut, decided}
+use Rattle.carry.specs.declared.Decision.{Decision}
+use Rattle.carry.specs.Carry.{Decided, started, stopped, acknowledged, applied, ruled, decided}
 use Rattle.unit.specs.Answers.{numbered}
 use Rattle.unit.specs.Unit.{answerOf, settledIf, fits, settled, onTable, call}
 use Rattle.demands.specs.Due.{firstDue, dueFor, due, fitsIn, AnswersAs}
-use Rattle.demands.proofs.Settle.{judged}
 use Rattle.demands.proofs.Accepted.{IsMme, IsMce, IsTmgi, IsReset, Complete, Usual, inside-judged}
 
 abbrev number : Decided → ℕ
@@ -51,66 +52,69 @@ number x = numbered (answerOf x) .number
 
 -- ---- the rules
 
-of-three : (a b d : Bool) (w x y z : Decided) → number (pick a w (pick b x (pick d y z))) ≡ pick a (number w) (pick b (number x) (pick d (number y) (number z)))
-of-three true b d w x y z = refl
-of-three false true d w x y z = refl
-of-three false false true w x y z = refl
-of-three false false false w x y z = refl
+module _ (g : Decision → ℕ) where
+  of-three : (a b d : Bool) (w x y z : Decision) → g (pick a w (pick b x (pick d y z))) ≡ pick a (g w) (pick b (g x) (pick d (g y) (g z)))
+  of-three true b d w x y z = refl
+  of-three false true d w x y z = refl
+  of-three false false true w x y z = refl
+  of-three false false false w x y z = refl
 
-of-two : (a : Bool) (x y : Decided) → number (pick a x y) ≡ pick (not a) (number y) (number x)
-of-two true x y = refl
-of-two false x y = refl
+  of-two : (a : Bool) (x y : Decision) → g (pick a x y) ≡ pick (not a) (g y) (g x)
+  of-two true x y = refl
+  of-two false x y = refl
 
 -- over a table that holds l; of a message of at most 8,192 octets with the frame of a request
 module _ (l : State) (c : MceId) (s : List ℕ) (small : ltb 8192 (length s) ≡ false)
-    (f : Frame) (m : Message) (name : namedBy (f .kind) (f .code) ≡ named.Is m) (request : asks m ≡ true) (noted : Entries) where
-  start-due : (r : Record) (b : Start) (x : Mme) (i : MaybeTmgi) → IsMme x → IsTmgi i
-      → number (carriedOut l c f noted (record { body = body.StartRequest (record { mme = x; tmgi = i; session = b .session; carried = b .carried }); crit = r .crit; items = r .items; entries = r .entries }))
+    (f : Frame) (m : Message) (name : namedBy (f .kind) (f .code) ≡ named.Is m) (request : asks m ≡ true) (items : Items) (noted : Entries) where
+  -- the number of a decision about a message that acknowledges no items
+  abbrev numberBy : Decision → ℕ
+  numberBy d = number (applied l items noItems noted d)
+
+  abbrev ruledBy : Body → Outcome → Decided
+  ruledBy b o = ruled l c f b o items (acknowledged b o items) noted
+
+  start-due : (b : Start) (x : Mme) (i : MaybeTmgi) → IsMme x → IsTmgi i
+      → number (ruledBy (body.StartRequest (record { mme = x; tmgi = i; session = b .session; carried = b .carried })) outcome.Accepted)
       ≡ firstDue (dueFor (Held l) s (got f) outcome.Accepted (body.StartRequest (record { mme = x; tmgi = i; session = b .session; carried = b .carried })) c)
-  unfolding carriedOut started
-  start-due r b (mme.Is x) (tmgi.Is i) g h = rw (small, name, request) (of-three (holdsMme x l) (holdsMce c l) (full l) _ _ _ _)
-  start-due r b (mme.Is x) tmgi.Absent g h = absurd h
-  start-due r b mme.Absent i g h = absurd g
+  unfolding started
+  start-due b (mme.Is x) (tmgi.Is i) g h = rw (small, name, request) (of-three numberBy (holdsMme x l) (holdsMce c l) (full l) _ _ _ _)
+  start-due b (mme.Is x) tmgi.Absent g h = absurd h
+  start-due b mme.Absent i g h = absurd g
 
-  stop-due : (r : Record) (b : Stopping) (x : Mme) (y : Mce) → IsMme x → IsMce y
-      → number (carriedOut l c f noted (record { body = body.StopRequest (record { mme = x; mce = y; time = b .time }); crit = r .crit; items = r .items; entries = r .entries }))
+  stop-due : (b : Stopping) (x : Mme) (y : Mce) → IsMme x → IsMce y
+      → number (ruledBy (body.StopRequest (record { mme = x; mce = y; time = b .time })) outcome.Accepted)
       ≡ firstDue (dueFor (Held l) s (got f) outcome.Accepted (body.StopRequest (record { mme = x; mce = y; time = b .time })) c)
-  unfolding carriedOut stopped
-  stop-due r b (mme.Is x) (mce.Is y) g h = rw (small, name, request) (of-two (holdsPair x y l) _ _)
-  stop-due r b (mme.Is x) mce.Absent g h = absurd h
-  stop-due r b mme.Absent y g h = absurd g
+  unfolding stopped
+  stop-due b (mme.Is x) (mce.Is y) g h = rw (small, name, request) (of-two numberBy (holdsPair x y l) _ _)
+  stop-due b (mme.Is x) mce.Absent g h = absurd h
+  stop-due b mme.Absent y g h = absurd g
 
-  reset-due : (r : Record) (b : Resetting) (x : MaybeReset) → IsReset x
-      → number (carriedOut l c f noted (record { body = body.Reset (record { cause = b .cause; reset = x }); crit = r .crit; items = r .items; entries = r .entries }))
+  reset-due : (b : Resetting) (x : MaybeReset) → IsReset x
+      → number (ruledBy (body.Reset (record { cause = b .cause; reset = x })) outcome.Accepted)
       ≡ firstDue (dueFor (Held l) s (got f) outcome.Accepted (body.Reset (record { cause = b .cause; reset = x })) c)
-  unfolding carriedOut
-  reset-due r b reset.Whole g = rw (small, name, request)
-  reset-due r b reset.Part g = rw (small, name, request)
-  reset-due r b reset.Absent g = absurd g
+  reset-due b reset.Whole g = rw (small, name, request)
+  reset-due b reset.Part g = rw (small, name, request)
+  reset-due b reset.Absent g = absurd g
 
-  asked-due : (r : Record) (b : Body) → Complete b
-      → number (carriedOut l c f noted (record { body = b; crit = r .crit; items = r .items; entries = r .entries })) ≡ firstDue (dueFor (Held l) s (got f) outcome.Accepted b c)
-  unfolding carriedOut
-  asked-due r (body.StartRequest b) g = start-due r b (b .mme) (b .tmgi) (g .0) (g .1)
-  asked-due r (body.StopRequest b) g = stop-due r b (b .mme) (b .mce) (g .0) (g .1)
-  asked-due r (body.Reset b) g = reset-due r b (b .reset) g
-  asked-due r (body.ErrorIndication b) g = rw (small, name, request)
-  asked-due r (body.StartResponse b) g = absurd g
-  asked-due r (body.StartFailure b) g = absurd g
-  asked-due r (body.StopResponse b) g = absurd g
-  asked-due r (body.ResetAcknowledge b) g = absurd g
-  asked-due r body.None g = absurd g
+  asked-due : (b : Body) → Complete b → number (ruledBy b outcome.Accepted) ≡ firstDue (dueFor (Held l) s (got f) outcome.Accepted b c)
+  asked-due (body.StartRequest b) g = start-due b (b .mme) (b .tmgi) (g .0) (g .1)
+  asked-due (body.StopRequest b) g = stop-due b (b .mme) (b .mce) (g .0) (g .1)
+  asked-due (body.Reset b) g = reset-due b (b .reset) g
+  asked-due (body.ErrorIndication b) g = rw (small, name, request)
+  asked-due (body.StartResponse b) g = absurd g
+  asked-due (body.StartFailure b) g = absurd g
+  asked-due (body.StopResponse b) g = absurd g
+  asked-due (body.ResetAcknowledge b) g = absurd g
+  asked-due body.None g = absurd g
 
-  ruled-due : (r : Record) (o : Outcome) → Usual o → (o ≡ outcome.Accepted → Complete (r .body))
-      → number (decided l c (judged f r noted o)) ≡ firstDue (dueFor (Held l) s (got f) o (r .body) c)
-  unfolding decided
-  ruled-due r outcome.Accepted u g = asked-due r (r .body) (g refl)
-  ruled-due r outcome.TooLong u g = absurd u
-  ruled-due r (outcome.Stopped (Fault p)) u g = rw (small, name, request)
-  ruled-due r (outcome.Stopped (Extension p)) u g = rw (small, name, request)
-  ruled-due r outcome.NotAmong u g = absurd u
-  ruled-due r (outcome.Misplaced k) u g = rw (small, name, request)
-  ruled-due r outcome.Rejected u g = rw (small, name, request)
+  ruled-due : (b : Body) (o : Outcome) → Usual o → (o ≡ outcome.Accepted → Complete b) → number (ruledBy b o) ≡ firstDue (dueFor (Held l) s (got f) o b c)
+  ruled-due b outcome.Accepted u g = asked-due b (g refl)
+  ruled-due b outcome.TooLong u g = absurd u
+  ruled-due b (outcome.Stopped (Fault p)) u g = rw (small, name, request)
+  ruled-due b (outcome.Stopped (Extension p)) u g = rw (small, name, request)
+  ruled-due b outcome.NotAmong u g = absurd u
+  ruled-due b (outcome.Misplaced k) u g = rw (small, name, request)
+  ruled-due b outcome.Rejected u g = rw (small, name, request)
 
 -- ---- what is judged
 
@@ -126,7 +130,7 @@ module _ (l : State) (c : MceId) (s : List ℕ) where
     asking-due m name true a =
         let v : Verdict = insideOf m s (f .from) (f .crit) in
         let g = inside-judged m s (f .from) (f .crit) a in
-        ruled-due l c s small f m name a (v .noted) (v .message) (v .outcome) (g .usual) (g .complete)
+        ruled-due l c s small f m name a (v .message .items) (v .noted) (v .message .body) (v .outcome) (g .usual) (g .complete)
     asking-due m name false a = rw (small, name, a)
 
     named-due : (n : Named) → namedBy (f .kind) (f .code) ≡ n → number (decided l c (judgedBy f (verdictBy s f n))) ≡ first (got f) (judgedBy f (verdictBy s f n))

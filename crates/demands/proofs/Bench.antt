@@ -32,10 +32,10 @@ use Rattle.table.specs.Table.{State, named, without}
 use Rattle.lent.specs.Lent.{tableOctets, Good}
 use Rattle.lent.proofs.OneForm.{one-form}
 use Rattle.ties.specs.Examples.{partialReset}
-use Rattle.replies.specs.Replies.{listOnly, withIdentity, acknowledge}
+use Rattle.replies.specs.Replies.{listOnly, withIdentity, replied}
 use Rattle.judge.specs.Judge.{judgedOf}
 use Rattle.carry.specs.declared.Answer.the-variants as answer
-use Rattle.carry.specs.Carry.{carriedOut, decided}
+use Rattle.carry.specs.Carry.{decided}
 use Rattle.unit.specs.Unit.{replyOctets, replyOf, answerOf, tableAfter, fits, settled}
 use Rattle.demands.specs.Occur.{offer, pair, whole, emptyReset, Does, BenchCalls, Demand2}
 use Rattle.demands.proofs.Decisions.{none-good}
@@ -51,7 +51,7 @@ does l s l′ g a r t d h =
     call-on (tableOctets l) (record { message = s; offered = offer; room = d }) l (one-form .back l g) ∙ rw (f, a, r, t)
 
 pub bench-calls : BenchCalls
-unfolding decided carriedOut judgedOf frameAt kindAt countAt insideOf elementsAt elements.judgedOf front find readInto missingOf scanAt headsAt envelopeAt criticalityAt valueAt resetAt recordOf resetIn tableOf namedBy flagAt plainAt choiceAt padAt numberAt openAt lengthAt longLengthAt endsAt bitsOf cutShort noMeaning leftOver extended _>>=_ numberOctets replyOctets saidBy encoded acknowledge withIdentity listOnly elementsGood elementsOctets messageOctets insideOctets present lengthOctets packedIn causeAt causeIn itemsAt several.many itemElementAt sameAt itemAt marksAt without named hasOctets octetsOf itemsOctets itemElementOctets itemOctets unknownOf
+unfolding decided judgedOf frameAt kindAt countAt insideOf elementsAt elements.judgedOf front find readInto missingOf scanAt headsAt envelopeAt criticalityAt valueAt resetAt recordOf resetIn tableOf namedBy flagAt plainAt choiceAt padAt numberAt openAt lengthAt longLengthAt endsAt bitsOf cutShort noMeaning leftOver extended _>>=_ numberOctets replyOctets saidBy encoded replied withIdentity listOnly elementsGood elementsOctets messageOctets insideOctets present lengthOctets packedIn causeAt causeIn itemsAt several.many itemElementAt sameAt itemAt marksAt without named hasOctets octetsOf itemsOctets itemElementOctets itemOctets unknownOf
 bench-calls = record {
   named = does (pair 1 2 ∷ []) partialReset [] (one-good 1 2 (omega arith) (omega arith)) refl refl refl;
   unknown = does [] partialReset [] none-good refl refl refl;

@@ -14,12 +14,12 @@ use Rattle.judge.specs.Judge.{judgedOf}
 use Rattle.carry.specs.Carry.{Decided, keeps, changes, decided}
 use Rattle.unit.specs.Unit.{Call, replyOctets, settledIf, fits, settled, onTable, call}
 use Rattle.demands.specs.Answered.{Handed, ReadsBack, replyIn, decidedOn, Demand1}
-use Rattle.demands.proofs.Settle.{answered, no-record}
+use Rattle.demands.proofs.Settle.{answered, none-said}
 use Rattle.demands.proofs.Decisions.{Reply, nothing, says, Sure}
 use Rattle.demands.proofs.TableOut.{sure, call-on, table-out}
 
 reads-back : (r : Record) → Reply r → (replyOctets r ≡ [] → ⊥) → ReadsBack (replyOctets r)
-reads-back r (nothing e) h = absurd (h (rw e no-record))
+reads-back r (nothing e) h = absurd (h (rw e none-said))
 reads-back r (says m vs w) h = (w .back .accepted, w .back .noted)
 
 settled-back : (t d : List ℕ) (b : Bool) (x : Decided) → Sure x → (settledIf b t d x .reply ≡ [] → ⊥) → ReadsBack (settledIf b t d x .reply)

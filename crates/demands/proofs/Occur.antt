@@ -26,7 +26,8 @@ use Rattle.elements.specs.Judge.{front, readInto, unknownOf, missingOf, element
 use Rattle.tables.specs.Tables.{tableOf, namedBy}
 use Rattle.records.specs.declared.Record.{Record}
 use Rattle.records.specs.Values.{mmeIn, mceIn, tmgiIn, resetIn}
-use Rattle.records.specs.Records.{noRecord, recordOf}
+use Rattle.records.specs.declared.Body.the-variants as body
+use Rattle.records.specs.Records.{noItems, noEntries, recordOf}
 use Rattle.messages.specs.Frame.{kindAt, frameAt, countAt}
 use Rattle.messages.specs.declared.Outcome.the-variants as outcome
 use Rattle.messages.specs.Verdict.{without, insideOf}
@@ -37,16 +38,16 @@ use Rattle.table.specs.declared.Association.{Association}
 use Rattle.table.specs.Table.{State, full, holdsMme, holdsMce, distinctHeld}
 use Rattle.lent.specs.Lent.{rowsOctets, tableOctets, rowsOf, same, Lent, Held, NoTable, readTable, InRange, Good}
 use Rattle.lent.proofs.OneForm.{one-form}
-use Rattle.replies.specs.Replies.{listOnly, withIdentity, acknowledge}
+use Rattle.replies.specs.Replies.{listOnly, withIdentity, replied}
 use Rattle.judge.specs.declared.Judged.{Judged}
 use Rattle.judge.specs.Judge.{noFrame, judgedBy, judgedOf}
 use Rattle.carry.specs.declared.Answer.{Answer}
 use Rattle.carry.specs.declared.Answer.the-variants as answer
-use Rattle.carry.specs.Carry.{Decided, keeps, changes, started, stopped, carriedOut, decided}
+use Rattle.carry.specs.Carry.{Decided, keeps, changes, started, stopped, decided}
 use Rattle.unit.specs.Answers.{numbered}
 use Rattle.unit.specs.Unit.{Back, replyOctets, replyOf, answerOf, fits, settled, onTable, call}
 use Rattle.demands.specs.Occur.{offer, Gives, pair, many, start, stop, whole, error, numberOf, EveryAnswer}
-use Rattle.demands.proofs.Settle.{no-record}
+use Rattle.demands.proofs.Settle.{no-record, none-said}
 use Rattle.demands.proofs.Sound.{judged-sound}
 use Rattle.demands.proofs.Decisions.{none-good, Reply, nothing, says, Sure, decided-sure}
 use Rattle.demands.proofs.TableOut.{call-on}
@@ -54,7 +55,7 @@ use Rattle.demands.proofs.TableOut.{call-on}
 -- ---- a room of 3,200 octets is enough
 
 reply-small : (r : Record) → Reply r → length (replyOctets r) ≤ 3200
-reply-small r (nothing e) = rw (e, no-record) (omega arith)
+reply-small r (nothing e) = rw (e, none-said) (omega arith)
 reply-small r (says m vs w) = w .size
 
 decided-small : (x : Decided) → Sure x → length (replyOf x) ≤ 3200
@@ -98,9 +99,9 @@ unfolding many distinctHeld
 many-good = record { few = omega arith; apart = refl; each = many-range 256 (omega arith) }
 
 -- a decision without a reply is settled in any room
-silent-number : (t d : List ℕ) (a : Answer) → numbered (settled t d (keeps a noRecord) .answer) .number ≡ numbered a .number
+silent-number : (t d : List ℕ) (a : Answer) → numbered (settled t d (keeps a (replied noItems noEntries body.None)) .answer) .number ≡ numbered a .number
 unfolding settled
-silent-number t d a = rw (no-record, le-leb 0 (length d) (omega arith))
+silent-number t d a = rw (no-record noItems noEntries, le-leb 0 (length d) (omega arith))
 
 long-number : (t s d : List ℕ) (l : State) → readTable t ≡ Held l → 8192 < length s → numberOf t s d ≡ 1
 unfolding decided judgedOf
@@ -121,7 +122,7 @@ room-number s k d h =
 
 -- the rest is computed
 pub every-answer : EveryAnswer
-unfolding many decided carriedOut started stopped full judgedOf frameAt kindAt countAt insideOf elementsAt elements.judgedOf front find readInto unknownOf missingOf scanAt headsAt envelopeAt criticalityAt valueAt mmeAt mceAt tmgiAt resetAt recordOf mmeIn mceIn tmgiIn resetIn tableOf namedBy flagAt plainAt choiceAt padAt numberAt stringAt openAt lengthAt longLengthAt endsAt bitsOf cutShort noMeaning leftOver extended _>>=_ readTable same rowsOf rowsOctets numberOctets distinctHeld replyOctets saidBy encoded acknowledge withIdentity listOnly elementsGood elementsOctets messageOctets insideOctets present lengthOctets packedIn
+unfolding many decided started stopped full judgedOf frameAt kindAt countAt insideOf elementsAt elements.judgedOf front find readInto unknownOf missingOf scanAt headsAt envelopeAt criticalityAt valueAt mmeAt mceAt tmgiAt resetAt recordOf mmeIn mceIn tmgiIn resetIn tableOf namedBy flagAt plainAt choiceAt padAt numberAt stringAt openAt lengthAt longLengthAt endsAt bitsOf cutShort noMeaning leftOver extended _>>=_ readTable same rowsOf rowsOctets numberOctets distinctHeld replyOctets saidBy encoded replied withIdentity listOnly elementsGood elementsOctets messageOctets insideOctets present lengthOctets packedIn
 every-answer = record {
   carried-out = gives [] start none-good refl refl;
   too-long = long-number;

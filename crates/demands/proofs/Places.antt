@@ -77,8 +77,8 @@ by-asked (start m q e) {t} {l} {s} {p} {p′} {s′} {is} n =
     let j : Judged = judgedOf (s .message) in
     let i = start-decided l (s .offered) j (n .session .0) in
     let k = start-decided (without is l) (s .offered) j (n .session .0) in
-    let x = start-accepted l a (j .verdict .noted) (ap number (sym i) ∙ first-does n .answer) in
-    let y = start-accepted (without is l) a (j .verdict .noted) (ap number (sym k) ∙ second-does n .answer) in
+    let x = start-accepted l a (j .verdict .message .items) (j .verdict .noted) (ap number (sym i) ∙ first-does n .answer) in
+    let y = start-accepted (without is l) a (j .verdict .message .items) (j .verdict .noted) (ap number (sym k) ∙ second-does n .answer) in
     let b : GoodBody (body.StartRequest (record { mme = mme.Is m; tmgi = tmgi.Is q; session = e; carried = n .session .0 .carried })) =
     subst GoodBody (n .session .0 .body) (judged-sound (s .message) (n .handed .message) .verdict .body) in
     swap n (starting a) (startResponse m (s .offered) (j .verdict .noted)) (i ∙ x .decision) (k ∙ y .decision)
@@ -89,8 +89,8 @@ by-asked (stop m y) {t} {l} {s} {p} {p′} {s′} {is} n =
     let i = stop-decided l (s .offered) j (n .session .0) in
     let k = stop-decided (without is l) (s .offered) j (n .session .0) in
     swap n (stopping m y) (stopResponse m y (j .verdict .noted))
-    (i ∙ stop-accepted l (j .frame) (j .verdict .noted) m y (ap number (sym i) ∙ first-does n .answer))
-    (k ∙ stop-accepted (without is l) (j .frame) (j .verdict .noted) m y (ap number (sym k) ∙ second-does n .answer))
+    (i ∙ stop-accepted l (j .frame) (j .verdict .message .items) (j .verdict .noted) m y (ap number (sym i) ∙ first-does n .answer))
+    (k ∙ stop-accepted (without is l) (j .frame) (j .verdict .message .items) (j .verdict .noted) m y (ap number (sym k) ∙ second-does n .answer))
     (stopping-good l (good n) m y) (changing-places .stop is m y l)
 
 pub changing : ChangingPlaces

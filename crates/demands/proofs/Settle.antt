@@ -26,20 +26,23 @@ use Rattle.records.specs.declared.MaybeReset.{MaybeReset}
 use Rattle.records.specs.declared.MaybeReset.the-variants as reset
 use Rattle.records.specs.declared.Body.{Body}
 use Rattle.records.specs.declared.Body.the-variants as body
-use Rattle.records.specs.declared.Record.{Record}
 use Rattle.records.specs.Records.{noRecord}
+use Rattle.records.specs.declared.Record.{Record}
 use Rattle.messages.specs.declared.Frame.{Frame}
 use Rattle.messages.specs.declared.Outcome.{Outcome}
 use Rattle.messages.specs.declared.Outcome.the-variants as outcome
 use Rattle.said.specs.Said.{saidBy}
 use Rattle.said.specs.Written.{encoded}
-use Rattle.table.specs.Table.{State, full, holdsMme, holdsMce, holdsPair}
+use Rattle.table.specs.declared.Standing.{Standing}
+use Rattle.table.specs.Table.{State, standing}
 use Rattle.lent.specs.Lent.{Lent, Held, NoTable, readTable}
+use Rattle.replies.specs.Replies.{replied}
 use Rattle.judge.specs.declared.Judged.{Judged}
 use Rattle.judge.specs.Judge.{judgedOf}
 use Rattle.carry.specs.declared.Answer.{Answer}
 use Rattle.carry.specs.declared.Answer.the-variants as answer
-use Rattle.carry.specs.Carry.{Decided, keeps, changes, started, startedBy, stopped, stoppedBy, resetBy, carriedOut, decided}
+use Rattle.carry.specs.declared.Decision.{Decision}
+use Rattle.carry.specs.Carry.{Decided, keeps, changes, started, startedBy, stopped, stoppedBy, resetBy, carriedOut, decision, asked, acknowledged, applied, decided}
 use Rattle.unit.specs.Answers.{numbered}
 use Rattle.unit.specs.Unit.{Call, Back, replyOctets, replyOf, answerOf, settledIf, fits, settled, onTable, call}
 use Rattle.demands.specs.Answered.{isAmong, numbers, silentNumbers, Answered}
@@ -107,59 +110,68 @@ Silent x = isAmong silentNumbers (numbered (answerOf x) .number) ≡ true → re
 abbrev pub judged : Frame → Record → Entries → Outcome → Judged
 judged f r noted o = record { frame = f; verdict = record { outcome = o; message = r; noted = noted } }
 
-pub no-record : replyOctets noRecord ≡ []
+pub no-record : (items : Items) (noted : Entries) → replyOctets (replied items noted body.None) ≡ []
+unfolding replyOctets encoded saidBy replied
+no-record items noted = refl
+
+pub none-said : replyOctets noRecord ≡ []
 unfolding replyOctets encoded saidBy
-no-record = refl
+none-said = refl
 
-module _ (l : State) where
-  started-silent : (c : MceId) (noted : Entries) (m : MmeId) (t : Tmgi) (s : Session) → Silent (started l c noted m t s)
-  unfolding started
-  started-silent c noted m t s =
-      on-pick Silent (holdsMme m l) (λ e. cc) (on-pick Silent (holdsMce c l) (λ e. no-record) (on-pick Silent (full l) (λ e. cc) (λ e. cc)))
+module _ (l : State) (items kept : Items) (noted : Entries) where
+  abbrev SilentBy : Decision → Type 0
+  SilentBy d = Silent (applied l items kept noted d)
 
-  stopped-silent : (f : Frame) (noted : Entries) (m : MmeId) (c : MceId) → Silent (stopped l f noted m c)
-  unfolding stopped
-  stopped-silent f noted m c = on-pick Silent (holdsPair m c l) (λ e. cc) (λ e. cc)
+  module _ (k : Standing) (c : MceId) (f : Frame) (i n : ℕ) where
+    started-silent : (m : MmeId) (t : Tmgi) (s : Session) → SilentBy (started k c n m t s)
+    unfolding started
+    started-silent m t s =
+        on-pick SilentBy (k .mme) (λ e. cc) (on-pick SilentBy (k .mce) (λ e. no-record kept noted) (on-pick SilentBy (k .full) (λ e. cc) (λ e. cc)))
 
-  module _ (c : MceId) (f : Frame) (noted : Entries) where
-    start-silent : (b : Body) (x : Mme) (t : MaybeTmgi) (s : Session) → Silent (startedBy l c f b noted x t s)
-    start-silent b (mme.Is m) (tmgi.Is t) s = started-silent c noted m t s
+    stopped-silent : (m : MmeId) (x : MceId) → SilentBy (stopped k f n m x)
+    unfolding stopped
+    stopped-silent m x = on-pick SilentBy (k .pair) (λ e. cc) (λ e. cc)
+
+    start-silent : (b : Body) (x : Mme) (t : MaybeTmgi) (s : Session) → SilentBy (startedBy k c f b n x t s)
+    start-silent b (mme.Is m) (tmgi.Is t) s = started-silent m t s
     start-silent b (mme.Is m) tmgi.Absent s = λ e. cc
     start-silent b mme.Absent t s = λ e. cc
 
-    stop-silent : (b : Body) (x : Mme) (y : Mce) → Silent (stoppedBy l f b noted x y)
-    stop-silent b (mme.Is m) (mce.Is x) = stopped-silent f noted m x
+    stop-silent : (b : Body) (x : Mme) (y : Mce) → SilentBy (stoppedBy k f b n x y)
+    stop-silent b (mme.Is m) (mce.Is x) = stopped-silent m x
     stop-silent b (mme.Is m) mce.Absent = λ e. cc
     stop-silent b mme.Absent y = λ e. cc
 
-    reset-silent : (b : Body) (items : Items) (x : MaybeReset) → Silent (resetBy l f b noted items x)
-    reset-silent b items reset.Whole = λ e. cc
-    reset-silent b items reset.Part = λ e. cc
-    reset-silent b items reset.Absent = λ e. cc
+    reset-silent : (b : Body) (x : MaybeReset) → SilentBy (resetBy f b i n x)
+    reset-silent b reset.Whole = λ e. cc
+    reset-silent b reset.Part = λ e. cc
+    reset-silent b reset.Absent = λ e. cc
 
-    asked-silent : (r : Record) (b : Body) → Silent (carriedOut l c f noted (record { body = b; crit = r .crit; items = r .items; entries = r .entries }))
-    unfolding carriedOut
-    asked-silent r (body.StartRequest b) = start-silent (body.StartRequest b) (b .mme) (b .tmgi) (b .session)
-    asked-silent r (body.StopRequest b) = stop-silent (body.StopRequest b) (b .mme) (b .mce)
-    asked-silent r (body.Reset b) = reset-silent (body.Reset b) (r .items) (b .reset)
-    asked-silent r (body.ErrorIndication b) = λ e. no-record
-    asked-silent r (body.StartResponse b) = λ e. no-record
-    asked-silent r (body.StartFailure b) = λ e. no-record
-    asked-silent r (body.StopResponse b) = λ e. no-record
-    asked-silent r (body.ResetAcknowledge b) = λ e. no-record
-    asked-silent r body.None = λ e. no-record
+    asked-silent : (b : Body) → SilentBy (carriedOut k c f i n b)
+    asked-silent (body.StartRequest b) = start-silent (body.StartRequest b) (b .mme) (b .tmgi) (b .session)
+    asked-silent (body.StopRequest b) = stop-silent (body.StopRequest b) (b .mme) (b .mce)
+    asked-silent (body.Reset b) = reset-silent (body.Reset b) (b .reset)
+    asked-silent (body.ErrorIndication b) = λ e. no-record kept noted
+    asked-silent (body.StartResponse b) = λ e. no-record kept noted
+    asked-silent (body.StartFailure b) = λ e. no-record kept noted
+    asked-silent (body.StopResponse b) = λ e. no-record kept noted
+    asked-silent (body.ResetAcknowledge b) = λ e. no-record kept noted
+    asked-silent body.None = λ e. no-record kept noted
 
-    ruled-silent : (r : Record) (o : Outcome) → Silent (decided l c (judged f r noted o))
-    unfolding decided
-    ruled-silent r outcome.Accepted = asked-silent r (r .body)
-    ruled-silent r outcome.TooLong = λ e. no-record
-    ruled-silent r (outcome.Stopped x) = λ e. no-record
-    ruled-silent r outcome.NotAmong = λ e. no-record
-    ruled-silent r (outcome.Misplaced k) = λ e. cc
-    ruled-silent r outcome.Rejected = λ e. cc
+    ruled-silent : (b : Body) (o : Outcome) → SilentBy (decision k c f i n b o)
+    ruled-silent b outcome.Accepted = asked-silent b
+    ruled-silent b outcome.TooLong = λ e. no-record kept noted
+    ruled-silent b (outcome.Stopped x) = λ e. no-record kept noted
+    ruled-silent b outcome.NotAmong = λ e. no-record kept noted
+    ruled-silent b (outcome.Misplaced p) = λ e. cc
+    ruled-silent b outcome.Rejected = λ e. cc
 
-  pub decided-silent : (c : MceId) (j : Judged) → Silent (decided l c j)
-  decided-silent c j = ruled-silent c (j .frame) (j .verdict .noted) (j .verdict .message) (j .verdict .outcome)
+pub decided-silent : (l : State) (c : MceId) (j : Judged) → Silent (decided l c j)
+unfolding decided
+decided-silent l c j =
+    let v = j .verdict in
+    let kept = acknowledged (v .message .body) (v .outcome) (v .message .items) in
+    ruled-silent l (v .message .items) kept (v .noted) (standing (asked c (v .message .body)) l) c (j .frame) (kept .count) (v .noted .count) (v .message .body) (v .outcome)
 
 -- ---- the call
 

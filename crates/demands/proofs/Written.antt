@@ -45,7 +45,7 @@ use Rattle.said.specs.Value.{Given, given, octetsOf, hasOctets}
 use Rattle.said.specs.Said.{saidBy, entriesSaid, givenMme, givenMce, givenList, givenDiagnostics}
 use Rattle.ties.proofs.ValueAgain.{counted-good, diagnostics-has}
 use Rattle.ties.proofs.Bridge.{said-fill}
-use Rattle.replies.specs.Replies.{unknownPair, listOnly, ofFrame, startResponse, startFailure, stopResponse, hasIdentity, withIdentity, acknowledge, errorIndication, pairNotHeld}
+use Rattle.replies.specs.Replies.{unknownPair, listOnly, ofFrame, startResponse, startFailure, stopResponse, hasIdentity, withIdentity, replied, acknowledge, errorIndication, pairNotHeld}
 use Rattle.demands.proofs.Taken.{Takes, taken-none, taken-more, takes-value, takes-absent, Written, written}
 
 -- ---- what is in range
@@ -182,21 +182,21 @@ each-keep P p (a ∷ l) g = by (p a) (each-keep P p l (g .1))
 module _ (es : List Entry) (n : GoodEntries es) where
   pub start-response-written : (m : MmeId) (c : MceId) → m .0 < 65536 → c .0 < 65536
       → Written (startResponse m c (entriesOf es)) message.StartResponse (given (value.mme m) ∷ given (value.mce c) ∷ listSaid es ∷ [])
-  unfolding saidBy startResponse tableOf
+  unfolding saidBy replied tableOf
   start-response-written m c g h =
       written (startResponse m c (entriesOf es)) message.StartResponse _ 792 (rw (entries-said es n))
       (taken-more (takes-mme m refl g) (taken-more (takes-mce c refl h) (taken-more (takes-only es refl refl n) taken-none))) (omega arith)
 
   pub stop-response-written : (m : MmeId) (c : MceId) → m .0 < 65536 → c .0 < 65536
       → Written (stopResponse m c (entriesOf es)) message.StopResponse (given (value.mme m) ∷ given (value.mce c) ∷ listSaid es ∷ [])
-  unfolding saidBy stopResponse tableOf
+  unfolding saidBy replied tableOf
   stop-response-written m c g h =
       written (stopResponse m c (entriesOf es)) message.StopResponse _ 792 (rw (entries-said es n))
       (taken-more (takes-mme m refl g) (taken-more (takes-mce c refl h) (taken-more (takes-only es refl refl n) taken-none))) (omega arith)
 
   pub start-failure-written : (m : MmeId) (why : Cause) → m .0 < 65536 → GoodCause why
       → Written (startFailure m why (entriesOf es)) message.StartFailure (given (value.mme m) ∷ given (value.cause why) ∷ listSaid es ∷ [])
-  unfolding saidBy startFailure tableOf
+  unfolding saidBy replied tableOf
   start-failure-written m why g h =
       written (startFailure m why (entriesOf es)) message.StartFailure _ 791 (rw (entries-said es n))
       (taken-more (takes-mme m refl g) (taken-more (takes-cause why refl h) (taken-more (takes-only es refl refl n) taken-none))) (omega arith)
@@ -205,7 +205,7 @@ module _ (es : List Entry) (n : GoodEntries es) where
   pub acknowledge-written : (items : Items) → GoodList items
       → Written (acknowledge items (entriesOf es)) message.ResetAcknowledge
       (givenList (keep hasIdentity (listed items)) (ltb 0 (length (keep hasIdentity (listed items)))) ∷ listSaid es ∷ [])
-  unfolding saidBy acknowledge withIdentity tableOf
+  unfolding saidBy replied withIdentity tableOf
   acknowledge-written items g =
       let is : List Item = keep hasIdentity (listed items) in
       let k = length-keep hasIdentity (listed items) in
@@ -218,7 +218,7 @@ module _ (es : List Entry) (n : GoodEntries es) where
   error-written : (x : Mme) (y : Mce) (why : Cause) (d : MaybeDiagnostics) → GoodMme x → GoodMce y → GoodCause why
       → ((r : Row) → kind.Diagnostics ≡ r .kind → r .mandatory ≡ false → Takes r (givenDiagnostics es d) 778)
       → Written (errorIndication x y why d (entriesOf es)) message.ErrorIndication (givenMme x ∷ givenMce y ∷ given (value.cause why) ∷ givenDiagnostics es d ∷ [])
-  unfolding saidBy errorIndication tableOf
+  unfolding saidBy replied tableOf
   error-written x y why d g h k t =
       written (errorIndication x y why d (entriesOf es)) message.ErrorIndication _ 798 (rw (entries-said es n))
       (taken-more (maybe-mme x refl refl g) (taken-more (maybe-mce y refl refl h) (taken-more (takes-cause why refl k) (taken-more (t _ refl refl) taken-none)))) (omega arith)
@@ -231,7 +231,6 @@ module _ (es : List Entry) (n : GoodEntries es) where
   pub pair-not-held-written : (f : Frame) (m : MmeId) (c : MceId) → GoodFrame f → m .0 < 65536 → c .0 < 65536
       → Written (pairNotHeld f m c (entriesOf es)) message.ErrorIndication
       (given (value.mme m) ∷ given (value.mce c) ∷ given (value.cause unknownPair) ∷ givenDiagnostics es (pick (ltb 0 (length es)) (ofFrame f (length es)) diagnosed.Absent) ∷ [])
-  unfolding pairNotHeld
   pair-not-held-written f m c u g h =
       error-written (mme.Is m) (mce.Is c) unknownPair (pick (ltb 0 (length es)) (ofFrame f (length es)) diagnosed.Absent) g h (omega arith)
       (λ r e z. on-pick (λ (d : MaybeDiagnostics). Takes r (givenDiagnostics es d) 778) (ltb 0 (length es)) (takes-frame f es e u n) (takes-absent 778 z))

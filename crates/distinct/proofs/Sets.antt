@@ -6,7 +6,7 @@ use Prim.Native.Nat.{ℕ, _+_, _-_, _/_, _%_, _^_, _≤_, _<_}
 use native.Mathlib.Omega.{arith}
 use borrow.Author.Tests.{eqb-true, eqb-false, eq-eqb, ne-eqb}
 use lib.Dec.{eqb}
-use lib.ListN.{length, length-set, length-replicate, take, getD, getD-replicate, replicate}
+use lib.ListN.{length, length-set, length-replicate, take, drop, take-append-drop, getD, getD-replicate, replicate}
 use lib.Pow.{shr-le}
 use lib.Seq.{getD-set-same, getD-set-other, take-add, take-all}
 use Rattle.lists.specs.Lists.{some, apart}
@@ -40,6 +40,14 @@ in-with words x y l h = by (eqb (x / 64) (y / 64)) refl
         let n : x ≡ y → ⊥ = λ e. eqb-false _ _ t (ap (_/ 64) e) in
         rw (ne-eqb x y n, getD-set-other words (x / 64) (y / 64) _ 0 (λ e. eqb-false _ _ t (sym e)))
 
+-- one number more, behind i that are all different
+pub one-more : (ids : List ℕ) (i : ℕ) → i < length ids → apart eqb (take i ids) ≡ true → apart eqb (take (i + 1) ids) ≡ not (some (λ (x : ℕ). eqb x (getD ids i 0)) (take i ids))
+one-more ids i l e = ap (apart eqb) (take-next ids i 0 l) ∙ apart-more eqb (take i ids) (getD ids i 0) ∙ rw e
+
+-- two alike among the first i + 1 are two alike among the first n
+pub two-alike : (ids : List ℕ) (i n : ℕ) → i < n → apart eqb (take (i + 1) ids) ≡ false → apart eqb (take n ids) ≡ false
+two-alike ids i n h e = let m : i + 1 + (n - (i + 1)) ≡ n = omega arith in rw (← m, take-add (i + 1) (n - (i + 1)) ids) (apart-front eqb (take (i + 1) ids) _ e)
+
 -- the first i numbers, of those up to n, are all different and make up the set
 pub record Met (ids : List ℕ) (n : ℕ) (words : List ℕ) (i : ℕ) : Type 0 where
   pub within : i ≤ n
@@ -53,12 +61,10 @@ met-none ids n = record { within = omega arith; size = length-replicate {A = ℕ
 module _ {ids : List ℕ} {n : ℕ} {words : List ℕ} {i : ℕ} (g : Met ids n words i) where
   module _ (h : i < n) (l : i < length ids) (w : getD ids i 0 < 65536) where
     next : apart eqb (take (i + 1) ids) ≡ not (inSet words (getD ids i 0))
-    next = ap (apart eqb) (take-next ids i 0 l) ∙ apart-more eqb (take i ids) (getD ids i 0) ∙ rw (g .different, ← g .holds (getD ids i 0) w)
+    next = one-more ids i l (g .different) ∙ ap not (sym (g .holds (getD ids i 0) w))
 
     pub met-again : inSet words (getD ids i 0) ≡ true → apart eqb (take n ids) ≡ false
-    met-again e =
-        let m : i + 1 + (n - (i + 1)) ≡ n = omega arith in
-        rw (← m, take-add (i + 1) (n - (i + 1)) ids) (apart-front eqb (take (i + 1) ids) _ (next ∙ ap not e))
+    met-again e = two-alike ids i n h (next ∙ ap not e)
 
     pub met-more : inSet words (getD ids i 0) ≡ false → Met ids n (withIn words (getD ids i 0)) (i + 1)
     unfolding withIn
@@ -78,3 +84,48 @@ module _ {ids : List ℕ} {n : ℕ} {words : List ℕ} {i : ℕ} (g : Met ids n 
   -- n is past the last
   pub met-end : length ids ≤ i → apart eqb (take n ids) ≡ true
   met-end h = ap (apart eqb) (take-all n ids (omega (arith, g .within)) ∙ sym (take-all i ids h)) ∙ g .different
+
+-- ---- without a set: the first i numbers are all different
+pub record Apart (ids : List ℕ) (n i : ℕ) : Type 0 where
+  pub within : i ≤ n
+  pub different : apart eqb (take i ids) ≡ true
+
+pub apart-none : (ids : List ℕ) (n : ℕ) → Apart ids n 0
+apart-none ids n = record { within = omega arith; different = refl }
+
+module _ {ids : List ℕ} {n i : ℕ} (g : Apart ids n i) where
+  module _ (h : i < n) (l : i < length ids) {b : Bool} (q : b ≡ some (λ (x : ℕ). eqb x (getD ids i 0)) (take i ids)) where
+    pub apart-again : b ≡ true → apart eqb (take n ids) ≡ false
+    apart-again e = two-alike ids i n h (one-more ids i l (g .different) ∙ ap not (sym q ∙ e))
+
+    pub apart-next : b ≡ false → Apart ids n (i + 1)
+    apart-next e = record { within = omega arith; different = one-more ids i l (g .different) ∙ ap not (sym q ∙ e) }
+
+  pub apart-all : n ≤ i → apart eqb (take n ids) ≡ true
+  apart-all h = let e : n ≡ i = omega (arith, g .within) in rw e (g .different)
+
+-- ---- looking for x: it is not among the first i
+pub record Sought (l : List ℕ) (x i : ℕ) : Type 0 where
+  pub within : i ≤ length l
+  pub none : some (λ (y : ℕ). eqb y x) (take i l) ≡ false
+
+pub sought-none : (l : List ℕ) (x : ℕ) → Sought l x 0
+sought-none l x = record { within = omega arith; none = refl }
+
+module _ {l : List ℕ} {x i : ℕ} (g : Sought l x i) where
+  -- with the next one
+  sought-next : i < length l → some (λ (y : ℕ). eqb y x) (take (i + 1) l) ≡ eqb (getD l i 0) x
+  sought-next h =
+      ap (some (λ (y : ℕ). eqb y x)) (take-next l i 0 h) ∙ some-append (λ (y : ℕ). eqb y x) (take i l) (getD l i 0 ∷ [])
+      ∙ rw (g .none) (or-false (eqb (getD l i 0) x))
+
+  pub sought-found : i < length l → getD l i 0 ≡ x → some (λ (y : ℕ). eqb y x) l ≡ true
+  sought-found h e =
+      ap (some (λ (y : ℕ). eqb y x)) (sym (take-append-drop (i + 1) l)) ∙ some-append (λ (y : ℕ). eqb y x) (take (i + 1) l) (drop (i + 1) l)
+      ∙ rw (sought-next h, eq-eqb _ _ e)
+
+  pub sought-more : i < length l → (getD l i 0 ≡ x → ⊥) → Sought l x (i + 1)
+  sought-more h e = record { within = omega arith; none = sought-next h ∙ ne-eqb _ _ e }
+
+  pub sought-all : length l ≤ i → some (λ (y : ℕ). eqb y x) l ≡ false
+  sought-all h = ap (some (λ (y : ℕ). eqb y x)) (sym (take-all i l h)) ∙ g .none

@@ -10,25 +10,24 @@ use lib.ListN.{length, getD, take, drop, set, replicate, length-append, length-d
 use lib.Seq.{drop-cons, drop-drop, getD-drop, drop-at, take-all}
 use Rattle.lists.specs.Lists.{pick, fill}
 use Rattle.lists.proofs.Tests.{and-left, and-right}
-use Rattle.lists.proofs.Fill.{length-fill, fill-more}
+use Rattle.lists.proofs.Fill.{length-fill, take-fill, fill-more}
 use Rattle.octets.specs.Field.{valueAt}
 use Rattle.octets.specs.Write.{numberOctets}
 use Rattle.octets.specs.Stands.{Octets}
 use Rattle.octets.proofs.Back.{length-number}
-use Rattle.table.specs.Table.{State, emptyAssociation, distinctHeld}
+use Rattle.table.specs.Table.{State, emptyAssociation, held, distinctHeld}
 use Rattle.table.specs.declared.Association.{Association}
 use Rattle.lent.specs.Lent.{rowsOctets, tableOctets, rowOf, rowsOf, said, same, Held, NoTable, readTable, tableIn}
-use Rattle.lent.specs.declared.TableIn.{TableIn}
-use Rattle.lent.specs.Tests.{sessionGood, rowsGood, zeros}
+use Rattle.lent.specs.Tests.{sessionGood, rowsGood, rowsRead, zeros}
 use Rattle.lent.proofs.Zeros.{zeros-are, are-zeros}
 use Rattle.lent.proofs.Rows.{length-rows, length-octets, value-again, rows-again, good-back}
 
-same-self : (s : List ℕ) → same s s ≡ true
+pub same-self : (s : List ℕ) → same s s ≡ true
 unfolding same
 same-self [] = refl
 same-self (x ∷ s) = rw (eq-eqb x x refl) (same-self s)
 
-same-is : (s t : List ℕ) → same s t ≡ true → s ≡ t
+pub same-is : (s t : List ℕ) → same s t ≡ true → s ≡ t
 unfolding same
 same-is [] [] e = refl
 same-is [] (y ∷ t) e = cc
@@ -149,21 +148,14 @@ module _ (s : List ℕ) where
   pub not-long : (length s ≡ 3074 → ⊥) → readTable s ≡ NoTable
   not-long h = no-table s (λ t. h (table-long s t))
 
--- rows that were read, by what is said beside them
-module _ (b : Bool) (l : State) {r : TableIn} (q : r ≡ tableIn (pick b (Held l) NoTable)) where
-  pub rows-bad : r .ok ≡ false → b ≡ false
-  rows-bad k = by b (sym (ap (λ (x : TableIn). x .ok) q) ∙ k)
+  -- the others pass: the octets are a table where the rows are good and apart
+  pub rest-pass : {n : ℕ} → n ≡ valueAt 2 s 0 → Octets s → length s ≡ 3074 → n ≤ 256 → zeros (drop (2 + 12 * n) s) ≡ true → rowsRead n (drop 2 s) ≡ readTable s
+  rest-pass {n} e o w h z = by (rowsGood n (drop 2 s)) (distinctHeld (rowsOf n (drop 2 s))) refl refl
     where
-      by : (c : Bool) → tableIn (pick c (Held l) NoTable) .ok ≡ false → c ≡ false
-      by true e = e
-      by false e = refl
-
-  pub rows-held : r .ok ≡ true → (b ≡ true) × (r ≡ tableIn (Held l))
-  rows-held k = by b q (sym (ap (λ (x : TableIn). x .ok) q) ∙ k)
-    where
-      by : (c : Bool) → r ≡ tableIn (pick c (Held l) NoTable) → tableIn (pick c (Held l) NoTable) .ok ≡ true → (c ≡ true) × (r ≡ tableIn (Held l))
-      by true e k = (refl, e)
-      by false e k = absurd (let o : _≡_ {A = ℕ} 0 1 = cc in omega arith)
+      by : (b d : Bool) → rowsGood n (drop 2 s) ≡ b → distinctHeld (rowsOf n (drop 2 s)) ≡ d → rowsRead n (drop 2 s) ≡ readTable s
+      by false d g a = rw g (sym (not-good e g))
+      by true false g a = rw (g, a) (sym (not-apart e a))
+      by true true g a = rw (g, a) (sym (all-pass e o w h z g a))
 
 -- ---- the loop: i of n rows are read, and the next begins at a place
 pub record ReadTo (s : List ℕ) (n : ℕ) (rows : State) (i at : ℕ) : Type 0 where
@@ -226,7 +218,17 @@ module _ {s : List ℕ} {n : ℕ} {rows : State} {i at : ℕ} (g : ReadTo s n ro
     unfolding rowsOf
     rows-all = sym (rw (none, append-nil) at (g .rest))
 
-    pub read-all : record { ok = true; table = record { rows = rows; count = n } } ≡ tableIn (pick (rowsGood n (drop 2 s)) (Held (rowsOf n (drop 2 s))) NoTable)
-    read-all =
+    held-all : held (record { rows = rows; count = n }) ≡ rowsOf n (drop 2 s)
+    held-all =
         let e : n ≡ length (g .done) = omega (arith, g .size, g .within) in
-        rw (good-all, rows-all, g .array, ← e)
+        rw (rows-all, g .array, e) (take-fill emptyAssociation 256 (g .done))
+
+    module _ {x : Bool} (q : x ≡ distinctHeld (held (record { rows = rows; count = n }))) where
+      pub read-shared : x ≡ false → NoTable ≡ rowsRead n (drop 2 s)
+      read-shared f = let a : distinctHeld (rowsOf n (drop 2 s)) ≡ false = ap distinctHeld (sym held-all) ∙ (sym q ∙ f) in rw (good-all, a)
+
+      pub read-all : x ≡ true → record { ok = true; table = record { rows = rows; count = n } } ≡ tableIn (rowsRead n (drop 2 s))
+      read-all f =
+          let a : distinctHeld (rowsOf n (drop 2 s)) ≡ true = ap distinctHeld (sym held-all) ∙ (sym q ∙ f) in
+          let e : n ≡ length (g .done) = omega (arith, g .size, g .within) in
+          rw (good-all, a, rows-all, g .array, ← e)

@@ -1,19 +1,22 @@
 -- Rows written one by one, and zeros behind them.
 use mathlib.Core.Path.{_≡_, refl, ap, sym, _∙_}
+use mathlib.Core.Bool.{Bool, true, false}
 use mathlib.Core.List.{List, [], _∷_, _++_, append-assoc, append-nil}
 use Prim.Native.Nat.{ℕ, _+_, _-_, _*_, _≤_, _<_}
 use native.Mathlib.Omega.{arith}
+use borrow.Author.Tests.{eq-eqb, leb-true, leb-false, lt-ltb, le-ltb}
+use lib.Dec.{eqb, leb}
 use lib.ListN.{length, length-append, length-drop, take, drop, getD, set, replicate, replicate-append-replicate, drop-of-length-le}
-use lib.Seq.{sets, sets-eq, drop-drop, length-take-le}
+use lib.Seq.{sets, sets-eq, take-at, drop-at, drop-drop, length-take-le}
 use Rattle.lists.proofs.Slices.{take-next}
 use Rattle.octets.specs.Write.{numberOctets, Wrote}
 use Rattle.octets.proofs.Back.{length-number}
 use Rattle.octets.proofs.Writing.{sets-front, wrote-length, wrote-then, wrote-none, wrote-one}
-use Rattle.table.specs.Table.{State}
+use Rattle.table.specs.Table.{State, full, starting}
 use Rattle.table.specs.declared.Association.{Association}
-use Rattle.lent.specs.Lent.{rowOctets, rowsOctets, tableOctets}
+use Rattle.lent.specs.Lent.{rowOctets, rowsOctets, tableOctets, rowOut}
 use Rattle.lent.proofs.Rows.{length-octets, octets-more}
-use Rattle.lent.proofs.Reading.{length-table}
+use Rattle.lent.proofs.Reading.{length-front, length-table}
 
 -- octets into as many from the front
 whole : (d vs : List ℕ) → length d ≡ length vs → sets d 0 vs ≡ vs
@@ -76,6 +79,66 @@ written-all {l} {n} {i} {at} {from} {to} {d} {d₀} {d₁} {d₂} w b k a g h z 
     rw r at (wrote-then (wrote-then a x) z) in
     let t : numberOctets 2 n ++ rowsOctets (take n l) ++ replicate (3074 - length (numberOctets 2 n ++ rowsOctets (take n l))) 0 ≡ tableOctets (take n l) = rw m in
     y .octets ∙ (whole d _ (w ∙ sym (ap length t ∙ length-table (take n l) (omega arith))) ∙ t)
+
+-- ---- one more row behind a table's
+
+pub row-wrote : (a : Association) (n : ℕ) (d : List ℕ) {d′ ys : List ℕ} {r : ℕ} → n < 256 → length d ≡ 3074 → Wrote d 0 (numberOctets 2 (n + 1)) d′ r → ys ≡ rowOctets a →
+    take (2 + 12 * n) d′ ++ (ys ++ drop (2 + 12 * n + 12 - (2 + 12 * n)) (drop (2 + 12 * n) d′)) ≡ sets (sets d 0 (numberOctets 2 (n + 1))) (2 + 12 * n) (rowOctets a)
+unfolding numberOctets
+row-wrote a n d {d′} {ys} h w x e =
+    let v : length ys ≡ 12 = rw e in
+    let k = wrote-length x in
+    part-wrote d′ (2 + 12 * n) ys v (omega arith) .octets ∙ rw (e, x .octets)
+
+-- octets over as many
+over : (p q r vs : List ℕ) (i : ℕ) → length p ≡ i → length vs ≡ length q → sets (p ++ (q ++ r)) i vs ≡ p ++ (vs ++ r)
+over p q r vs i e f =
+    let h : length (p ++ q) ≡ i + length vs = rw (length-append, e, f) in
+    let k : length (p ++ (q ++ r)) ≡ i + length vs + length r = rw (length-append, length-append, e, f) (omega arith) in
+    sets-eq vs (p ++ (q ++ r)) i (omega arith)
+    ∙ rw (take-at p (q ++ r) i e, ← append-assoc p q r, drop-at (p ++ q) r (i + length vs) h) (append-assoc p vs r)
+
+module _ (l : State) (a : Association) (h : length l < 256) where
+  abbrev rest : ℕ
+  rest = 3062 - (2 + 12 * length l)
+
+  behind : 3074 - (2 + 12 * length l) ≡ 12 + rest
+  behind = omega arith
+
+  -- the table, with its zeros from where the row goes
+  as-split : tableOctets l ≡ numberOctets 2 (length l) ++ (rowsOctets l ++ (replicate 12 0 ++ replicate rest 0))
+  as-split = rw (length-front l, behind, replicate-append-replicate {A = ℕ} 12 rest 0) (append-assoc (numberOctets 2 (length l)) (rowsOctets l) (replicate (12 + rest) 0))
+
+  as-more : tableOctets (l ++ (a ∷ [])) ≡ (numberOctets 2 (length l + 1) ++ rowsOctets l) ++ (rowOctets a ++ replicate rest 0)
+  as-more =
+      let e : length (l ++ (a ∷ [])) ≡ length l + 1 = length-append l (a ∷ []) in
+      let k : 3074 - (2 + 12 * (length l + 1)) ≡ rest = omega arith in
+      rw (length-front (l ++ (a ∷ [])), e, octets-more l a, k)
+      (ap (_++ replicate rest 0) (sym (append-assoc (numberOctets 2 (length l + 1)) (rowsOctets l) (rowOctets a)))
+      ∙ append-assoc (numberOctets 2 (length l + 1) ++ rowsOctets l) (rowOctets a) (replicate rest 0))
+
+  pub row-more : sets (sets (tableOctets l) 0 (numberOctets 2 (length l + 1))) (2 + 12 * length l) (rowOctets a) ≡ tableOctets (l ++ (a ∷ []))
+  unfolding numberOctets
+  row-more =
+      let n : length (numberOctets 2 (length l + 1) ++ rowsOctets l) ≡ 2 + 12 * length l = rw (length-append, length-number, length-octets) in
+      ap (λ (d : List ℕ). sets (sets d 0 (numberOctets 2 (length l + 1))) (2 + 12 * length l) (rowOctets a)) as-split
+      ∙ (ap (λ (d : List ℕ). sets d (2 + 12 * length l) (rowOctets a))
+      (over [] (numberOctets 2 (length l)) (rowsOctets l ++ (replicate 12 0 ++ replicate rest 0)) (numberOctets 2 (length l + 1)) 0 refl refl
+      ∙ sym (append-assoc (numberOctets 2 (length l + 1)) (rowsOctets l) (replicate 12 0 ++ replicate rest 0)))
+      ∙ (over (numberOctets 2 (length l + 1) ++ rowsOctets l) (replicate 12 0) (replicate rest 0) (rowOctets a) (2 + 12 * length l) n refl
+      ∙ sym as-more))
+
+-- the octets of a table become those of the table with one more
+pub row-starts : (l : State) (a : Association) → length l ≤ 256 → rowOut a (length l) (tableOctets l) ≡ tableOctets (starting a l)
+unfolding starting full
+row-starts l a h = by (leb 256 (length l)) refl
+  where
+    e : eqb (length (tableOctets l)) 3074 ≡ true
+    e = eq-eqb (length (tableOctets l)) 3074 (length-table l h)
+
+    by : (b : Bool) → leb 256 (length l) ≡ b → rowOut a (length l) (tableOctets l) ≡ tableOctets (starting a l)
+    by true q = rw (e, q, le-ltb (length l) 256 (leb-true 256 (length l) q))
+    by false q = let k = leb-false 256 (length l) q in rw (e, q, lt-ltb (length l) 256 k) (row-more l a k)
 
 -- ---- zeros up to i
 pub record Cleared (d₀ d : List ℕ) (from i : ℕ) : Type 0 where

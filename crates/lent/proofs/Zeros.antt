@@ -24,7 +24,7 @@ are-zeros zero = refl
 are-zeros (suc n) = are-zeros n
 
 -- an or is zero where both are
-or-zero : (a b : ℕ) → eqb (bitOr a b) 0 ≡ (eqb a 0 && eqb b 0)
+pub or-zero : (a b : ℕ) → eqb (bitOr a b) 0 ≡ (eqb a 0 && eqb b 0)
 or-zero a b = by (eqb (bitOr a b) 0) refl (eqb a 0) refl (eqb b 0) refl
   where
     sum : bitOr a b + bitAnd a b ≡ a + b

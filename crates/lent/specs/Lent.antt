@@ -2,9 +2,10 @@
 use mathlib.Core.Path.{_≡_}
 use mathlib.Core.Bool.{Bool, true, false, _&&_}
 use mathlib.Core.List.{List, [], _∷_, _++_, List·Memᴰ}
-use Prim.Native.Nat.{ℕ, zero, suc, _≤_, _<_}
-use lib.Dec.{eqb, leb}
+use Prim.Native.Nat.{ℕ, zero, suc, _+_, _*_, _≤_, _<_}
+use lib.Dec.{eqb, leb, ltb}
 use lib.ListN.{length, getD, drop}
+use lib.Seq.{sets}
 use Rattle.lists.specs.Lists.{pick, fill}
 use Rattle.octets.specs.Field.{valueAt}
 use Rattle.octets.specs.Write.{numberOctets}
@@ -91,6 +92,10 @@ room d = eqb (length d) 3074
 -- the octets lent, when a table was to be written there
 abbrev pub tableOut : State → List ℕ → List ℕ
 tableOut l d = pick (room d) (tableOctets l) d
+
+-- the octets lent, when one more row was to be written behind n, and the count
+abbrev pub rowOut : Association → ℕ → List ℕ → List ℕ
+rowOut a n d = pick (room d && ltb n 256) (sets (sets d 0 (numberOctets 2 (n + 1))) (2 + 12 * n) (rowOctets a)) d
 
 -- ---- what a table can hold
 -- the identities have two octets each

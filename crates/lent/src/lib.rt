@@ -4,11 +4,10 @@
 ghost use mathlib.Core.Path.{_≡_};
 ghost use Prim.Native.Nat.{_+_, _*_, _-_, _/_, _%_, _≤_};
 ghost use lib.ListN.{length, getD, drop, replicate};
-ghost use Rattle.lists.specs.Lists.{pick};
 ghost use Rattle.octets.specs.Write.{Wrote};
 ghost use Rattle.table.specs.Table.{held};
-ghost use Rattle.lent.specs.Lent.{Held, NoTable, sessionOf, rowOf, rowsOf, flagOf, valueOf, rowOctets, readTable, tableIn, room, tableOut};
-ghost use Rattle.lent.specs.Tests.{sessionGood, rowsGood, zeros};
+ghost use Rattle.lent.specs.Lent.{NoTable, sessionOf, rowOf, flagOf, valueOf, rowOctets, readTable, tableIn, room, tableOut, rowOut};
+ghost use Rattle.lent.specs.Tests.{sessionGood, rowsRead, zeros};
 use identity::MceId;
 use identity::MmeId;
 use identity::Plmn;
@@ -98,10 +97,10 @@ fn no_table() -> TableIn
     }
 }
 
-// The first n rows, if their octets for the Session Identity are good.
+// The first n rows, if their octets for the Session Identity are good, and their identities apart.
 fn rows_in(s: &[u8], n: usize) -> TableIn
     requires { ⌜ (n ≤ 256) × (2 + 12 * n ≤ length (now s)) ⌝ }
-    ensures { λ r. ⌜ r ≡ tableIn (pick (rowsGood n (drop 2 (now (s .entry)))) (Held (rowsOf n (drop 2 (now (s .entry))))) NoTable) ⌝ }
+    ensures { λ r. ⌜ r ≡ tableIn (rowsRead n (drop 2 (now (s .entry)))) ⌝ }
 {
     let mut t = table::empty();
     let mut i = 0;
@@ -116,6 +115,9 @@ fn rows_in(s: &[u8], n: usize) -> TableIn
         at += 12;
     }
     t.count = n;
+    if !table::identities_apart(t) {
+        return no_table();
+    }
     TableIn { ok: true, table: t }
 }
 
@@ -133,15 +135,7 @@ pub fn table_in(s: &[u8]) -> TableIn
     if !zeros_from(s, 2 + 12 * n) {
         return no_table();
     }
-    let r = rows_in(s, n);
-    if !r.ok {
-        return no_table();
-    }
-    let t = r.table;
-    if !table::identities_apart(t) {
-        return no_table();
-    }
-    r
+    rows_in(s, n)
 }
 
 fn high(x: u16) -> u8
@@ -225,4 +219,20 @@ pub fn table_out(t: Table, d: &mut [u8]) -> bool
     }
     clear_from(d, at);
     true
+}
+
+// One more row behind n, and the count, into what is lent, if that is as long as a table and has room for it.
+pub fn row_out(a: Association, n: usize, d: &mut [u8])
+    ensures { λ _. ⌜ now (d .exit) ≡ rowOut a n (now (d .entry)) ⌝ }
+{
+    if d.len() != 3074 {
+        return;
+    }
+    if 256 <= n {
+        return;
+    }
+    octets::put_two(d, 0, (n + 1) as u16);
+    let at = 2 + 12 * n;
+    let e = at + 12;
+    put_row(&mut d[at..e], a);
 }

@@ -1,11 +1,21 @@
--- For each public function: any two results that its statement allows are equal, with all that is left in the table and the room.
+-- For each public function: any two results that its statement allows are equal, with all that is left in what was lent.
 -- Assumes nothing.
 use mathlib.Core.Path.{refl}
 use Rattle.lists.proofs.Unique.{Determined, _same_, _&_}
 use Rattle.link.proofs.m3ap_call.Kinds as m3ap-call'
 use Rattle.link.proofs.m3ap_call.Reads as m3ap-call
+use Rattle.link.proofs.m3ap_read.Kinds as m3ap-read'
+use Rattle.link.proofs.m3ap_read.Reads as m3ap-read
+use Rattle.link.proofs.m3ap_write.Kinds as m3ap-write'
+use Rattle.link.proofs.m3ap_write.Reads as m3ap-write
 
 pub m3ap-call-is : Determined m3ap-call'.ps m3ap-call'.r m3ap-call.Asked m3ap-call.Learnt
 m3ap-call-is κs a p x y e f =
     (λ i. record { answer = (e .answer same f .answer) i; place = (e .place same f .place) i; octets = (e .octets same f .octets) i })
     & (e .table same f .table) & refl & refl & (e .room same f .room) & refl
+
+pub m3ap-read-is : Determined m3ap-read'.ps m3ap-read'.r m3ap-read.Asked m3ap-read.Learnt
+m3ap-read-is κs a p x y e f = (e .answer same f .answer) & refl & (e .room same f .room) & refl
+
+pub m3ap-write-is : Determined m3ap-write'.ps m3ap-write'.r m3ap-write.Asked m3ap-write.Learnt
+m3ap-write-is κs a p x y e f = (e .answer same f .answer) & refl & refl & (e .room same f .room) & refl

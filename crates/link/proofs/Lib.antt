@@ -1,4 +1,6 @@
 pub mod Near
 pub mod Sizes
+pub mod Reading
+pub mod Again
 pub mod Determined
 pub mod Exported

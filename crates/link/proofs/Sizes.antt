@@ -46,22 +46,23 @@ use Rattle.said.specs.Said.{saidBy}
 use Rattle.said.specs.Value.{Given}
 use Rattle.said.specs.Octets.{messageOctets}
 use Rattle.said.specs.Written.{octets, none, elementsGood, isWritten, encodedAs, encoded}
-use Rattle.table.specs.Table.{State, full, holdsMme, holdsMce, holdsPair}
+use Rattle.table.specs.declared.Standing.{Standing}
+use Rattle.table.specs.Table.{State, standing}
 use Rattle.lent.specs.Lent.{Lent, Held, NoTable, readTable}
 use Rattle.judge.specs.declared.Judged.{Judged}
 use Rattle.judge.specs.Judge.{asks, noFrame, judgedBy, verdictBy, judgedIn, judgedOf}
-use Rattle.carry.specs.Carry.{Decided, keeps, changes, started, startedBy, stopped, stoppedBy, resetBy, carriedOut, decided}
+use Rattle.carry.specs.declared.Decision.{Decision}
+use Rattle.carry.specs.Carry.{Decided, keeps, changes, started, startedBy, stopped, stoppedBy, resetBy, carriedOut, decision, asked, acknowledged, applied, decided}
 use Rattle.unit.specs.Answers.{numbered}
 use Rattle.unit.specs.Unit.{Call, octetsIn, replyOctets, answerOf, settledIf, fits, settled, onTable, call, Called}
 use Rattle.unit.specs.declared.Back as unit
-use Rattle.demands.proofs.Settle.{judged}
 use Rattle.demands.proofs.Sound.{insideRead, inside-got}
 use Rattle.link.specs.Link.{Handed}
 use Rattle.link.proofs.Near.{Near, inside-near, frame-near, frame-in}
 
 -- ---- outcomes
 
-abbrev PlacedBy : ℕ → Outcome → Type 0
+abbrev pub PlacedBy : ℕ → Outcome → Type 0
 PlacedBy n (outcome.Stopped (Fault p)) = p .octet ≤ n
 PlacedBy n (outcome.Stopped (Extension p)) = p .octet ≤ n
 PlacedBy n outcome.Accepted = Unit
@@ -74,7 +75,7 @@ module _ (n : ℕ) (s : List ℕ) (l : length s ≤ n) where
   verdict-placed : (m : Message) (crit k : ℕ) (f : elements.Found) → PlacedBy n (verdictOf m s crit k f .outcome)
   verdict-placed m crit k f = on-pick (PlacedBy n) (ltb (f .place) k) tt (on-pick (PlacedBy n) (some (λ (e : Entry). eqb (e .crit) 0) (f .listed)) tt tt)
 
-  inside-placed : (m : Message) (from crit : ℕ) → from ≤ n → PlacedBy n (insideOf m s from crit .outcome)
+  pub inside-placed : (m : Message) (from crit : ℕ) → from ≤ n → PlacedBy n (insideOf m s from crit .outcome)
   unfolding insideOf
   inside-placed m from crit i = by (insideRead m s from crit) refl (inside-near n s l m from crit i)
     where
@@ -114,55 +115,60 @@ module _ (n : ℕ) where
   nowhere : 0 ≤ n
   nowhere = omega arith
 
-  module _ (l : State) where
-    started-placed : (c : MceId) (noted : Entries) (m : MmeId) (t : Tmgi) (s : Session) → Placed (started l c noted m t s)
-    unfolding started
-    started-placed c noted m t s = on-pick Placed (holdsMme m l) nowhere (on-pick Placed (holdsMce c l) nowhere (on-pick Placed (full l) nowhere nowhere))
+  module _ (l : State) (items kept : Items) (noted : Entries) where
+    abbrev PlacedFor : Decision → Type 0
+    PlacedFor d = Placed (applied l items kept noted d)
 
-    stopped-placed : (f : Frame) (noted : Entries) (m : MmeId) (c : MceId) → Placed (stopped l f noted m c)
-    unfolding stopped
-    stopped-placed f noted m c = on-pick Placed (holdsPair m c l) nowhere nowhere
+    module _ (k : Standing) (c : MceId) (f : Frame) (i m : ℕ) where
+      started-placed : (x : MmeId) (t : Tmgi) (s : Session) → PlacedFor (started k c m x t s)
+      unfolding started
+      started-placed x t s = on-pick PlacedFor (k .mme) nowhere (on-pick PlacedFor (k .mce) nowhere (on-pick PlacedFor (k .full) nowhere nowhere))
 
-    module _ (c : MceId) (f : Frame) (noted : Entries) where
-      start-placed : (b : Body) (x : Mme) (t : MaybeTmgi) (s : Session) → Placed (startedBy l c f b noted x t s)
-      start-placed b (mme.Is m) (tmgi.Is t) s = started-placed c noted m t s
-      start-placed b (mme.Is m) tmgi.Absent s = nowhere
+      stopped-placed : (x : MmeId) (y : MceId) → PlacedFor (stopped k f m x y)
+      unfolding stopped
+      stopped-placed x y = on-pick PlacedFor (k .pair) nowhere nowhere
+
+      start-placed : (b : Body) (x : Mme) (t : MaybeTmgi) (s : Session) → PlacedFor (startedBy k c f b m x t s)
+      start-placed b (mme.Is x) (tmgi.Is t) s = started-placed x t s
+      start-placed b (mme.Is x) tmgi.Absent s = nowhere
       start-placed b mme.Absent t s = nowhere
 
-      stop-placed : (b : Body) (x : Mme) (y : Mce) → Placed (stoppedBy l f b noted x y)
-      stop-placed b (mme.Is m) (mce.Is x) = stopped-placed f noted m x
-      stop-placed b (mme.Is m) mce.Absent = nowhere
+      stop-placed : (b : Body) (x : Mme) (y : Mce) → PlacedFor (stoppedBy k f b m x y)
+      stop-placed b (mme.Is x) (mce.Is y) = stopped-placed x y
+      stop-placed b (mme.Is x) mce.Absent = nowhere
       stop-placed b mme.Absent y = nowhere
 
-      reset-placed : (b : Body) (items : Items) (x : MaybeReset) → Placed (resetBy l f b noted items x)
-      reset-placed b items reset.Whole = nowhere
-      reset-placed b items reset.Part = nowhere
-      reset-placed b items reset.Absent = nowhere
+      reset-placed : (b : Body) (x : MaybeReset) → PlacedFor (resetBy f b i m x)
+      reset-placed b reset.Whole = nowhere
+      reset-placed b reset.Part = nowhere
+      reset-placed b reset.Absent = nowhere
 
-      asked-placed : (r : Record) (b : Body) → Placed (carriedOut l c f noted (record { body = b; crit = r .crit; items = r .items; entries = r .entries }))
-      unfolding carriedOut
-      asked-placed r (body.StartRequest b) = start-placed (body.StartRequest b) (b .mme) (b .tmgi) (b .session)
-      asked-placed r (body.StopRequest b) = stop-placed (body.StopRequest b) (b .mme) (b .mce)
-      asked-placed r (body.Reset b) = reset-placed (body.Reset b) (r .items) (b .reset)
-      asked-placed r (body.ErrorIndication b) = nowhere
-      asked-placed r (body.StartResponse b) = nowhere
-      asked-placed r (body.StartFailure b) = nowhere
-      asked-placed r (body.StopResponse b) = nowhere
-      asked-placed r (body.ResetAcknowledge b) = nowhere
-      asked-placed r body.None = nowhere
+      asked-placed : (b : Body) → PlacedFor (carriedOut k c f i m b)
+      asked-placed (body.StartRequest b) = start-placed (body.StartRequest b) (b .mme) (b .tmgi) (b .session)
+      asked-placed (body.StopRequest b) = stop-placed (body.StopRequest b) (b .mme) (b .mce)
+      asked-placed (body.Reset b) = reset-placed (body.Reset b) (b .reset)
+      asked-placed (body.ErrorIndication b) = nowhere
+      asked-placed (body.StartResponse b) = nowhere
+      asked-placed (body.StartFailure b) = nowhere
+      asked-placed (body.StopResponse b) = nowhere
+      asked-placed (body.ResetAcknowledge b) = nowhere
+      asked-placed body.None = nowhere
 
-      ruled-placed : (r : Record) (o : Outcome) → PlacedBy n o → Placed (decided l c (judged f r noted o))
-      unfolding decided
-      ruled-placed r outcome.Accepted h = asked-placed r (r .body)
-      ruled-placed r outcome.TooLong h = nowhere
-      ruled-placed r (outcome.Stopped (Fault p)) h = h
-      ruled-placed r (outcome.Stopped (Extension p)) h = h
-      ruled-placed r outcome.NotAmong h = nowhere
-      ruled-placed r (outcome.Misplaced k) h = nowhere
-      ruled-placed r outcome.Rejected h = nowhere
+      ruled-placed : (b : Body) (o : Outcome) → PlacedBy n o → PlacedFor (decision k c f i m b o)
+      ruled-placed b outcome.Accepted h = asked-placed b
+      ruled-placed b outcome.TooLong h = nowhere
+      ruled-placed b (outcome.Stopped (Fault p)) h = h
+      ruled-placed b (outcome.Stopped (Extension p)) h = h
+      ruled-placed b outcome.NotAmong h = nowhere
+      ruled-placed b (outcome.Misplaced p) h = nowhere
+      ruled-placed b outcome.Rejected h = nowhere
 
-    decided-placed : (c : MceId) (j : Judged) → PlacedBy n (j .verdict .outcome) → Placed (decided l c j)
-    decided-placed c j h = ruled-placed c (j .frame) (j .verdict .noted) (j .verdict .message) (j .verdict .outcome) h
+  decided-placed : (l : State) (c : MceId) (j : Judged) → PlacedBy n (j .verdict .outcome) → Placed (decided l c j)
+  unfolding decided
+  decided-placed l c j h =
+      let v = j .verdict in
+      let kept = acknowledged (v .message .body) (v .outcome) (v .message .items) in
+      ruled-placed l (v .message .items) kept (v .noted) (standing (asked c (v .message .body)) l) c (j .frame) (kept .count) (v .noted .count) (v .message .body) (v .outcome) h
 
 -- ---- replies
 

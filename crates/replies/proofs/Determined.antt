@@ -8,6 +8,8 @@ use Rattle.replies.proofs.start_failure.Kinds as start-failure'
 use Rattle.replies.proofs.start_failure.Reads as start-failure
 use Rattle.replies.proofs.stop_response.Kinds as stop-response'
 use Rattle.replies.proofs.stop_response.Reads as stop-response
+use Rattle.replies.proofs.with_identity.Kinds as with-identity'
+use Rattle.replies.proofs.with_identity.Reads as with-identity
 use Rattle.replies.proofs.acknowledge.Kinds as acknowledge'
 use Rattle.replies.proofs.acknowledge.Reads as acknowledge
 use Rattle.replies.proofs.rejection.Kinds as rejection'
@@ -23,6 +25,9 @@ start-failure-is κs a p x y e f = (e same f) & refl
 
 pub stop-response-is : Determined stop-response'.ps stop-response'.r stop-response.Asked stop-response.Learnt
 stop-response-is κs a p x y e f = (e same f) & refl
+
+pub with-identity-is : Determined with-identity'.ps with-identity'.r with-identity.Asked with-identity.Learnt
+with-identity-is κs a p x y e f = (e same f) & refl
 
 pub acknowledge-is : Determined acknowledge'.ps acknowledge'.r acknowledge.Asked acknowledge.Learnt
 acknowledge-is κs a p x y e f = (e same f) & refl

@@ -1,4 +1,4 @@
--- The replies, as records that the writer writes. noted is the list of diagnostics of the message that is answered.
+-- The replies: their bodies, and the records that the writer writes. noted is the list of diagnostics of the message that is answered.
 use Prim.Native.Nat.{ℕ}
 use mathlib.Core.Bool.{Bool, true, false}
 use mathlib.Core.List.{List}
@@ -24,8 +24,10 @@ use Rattle.records.specs.declared.Body.{Body}
 use Rattle.records.specs.declared.Body.the-variants as body
 use Rattle.records.specs.declared.Record.{Record}
 use Rattle.records.specs.Records.{noItems, noRecord}
-use Rattle.tables.specs.declared.Message.the-variants as message
+use Rattle.tables.specs.declared.Named.{Named}
+use Rattle.tables.specs.declared.Named.the-variants as named
 use Rattle.tables.specs.Tables.{codeOf}
+use Rattle.said.specs.Said.{messageOf}
 use Rattle.messages.specs.declared.Frame.{Frame}
 
 -- ---- causes, by group and number of 9.3.5
@@ -66,31 +68,45 @@ listOnly n = pick (ltb 0 n) (diagnosed.Is (record { code = number.Absent; trigge
 unfoldable pub ofFrame : Frame → ℕ → MaybeDiagnostics
 ofFrame f n = diagnosed.Is (record { code = number.Is (f .code); trigger = number.Is (f .kind); crit = number.Is (f .crit); listed = ltb 0 n })
 
--- ---- the replies
+-- ---- the bodies of the replies, by how many entries are listed; none where there is no reply
 
-unfoldable pub startResponse : MmeId → MceId → Entries → Record
-startResponse m c noted = record {
-  body = body.StartResponse (record { mme = mme.Is m; mce = mce.Is c; diagnostics = listOnly (noted .count) });
-  crit = codeOf message.StartResponse .crit;
-  items = noItems;
-  entries = noted;
-}
+abbrev pub startResponseBody : MmeId → MceId → ℕ → Body
+startResponseBody m c n = body.StartResponse (record { mme = mme.Is m; mce = mce.Is c; diagnostics = listOnly n })
 
-unfoldable pub startFailure : MmeId → Cause → Entries → Record
-startFailure m why noted = record {
-  body = body.StartFailure (record { mme = mme.Is m; cause = cause.Is why; diagnostics = listOnly (noted .count) });
-  crit = codeOf message.StartFailure .crit;
-  items = noItems;
-  entries = noted;
-}
+abbrev pub startFailureBody : MmeId → Cause → ℕ → Body
+startFailureBody m why n = body.StartFailure (record { mme = mme.Is m; cause = cause.Is why; diagnostics = listOnly n })
 
-unfoldable pub stopResponse : MmeId → MceId → Entries → Record
-stopResponse m c noted = record {
-  body = body.StopResponse (record { mme = mme.Is m; mce = mce.Is c; diagnostics = listOnly (noted .count) });
-  crit = codeOf message.StopResponse .crit;
-  items = noItems;
-  entries = noted;
-}
+abbrev pub stopResponseBody : MmeId → MceId → ℕ → Body
+stopResponseBody m c n = body.StopResponse (record { mme = mme.Is m; mce = mce.Is c; diagnostics = listOnly n })
+
+-- of so many items; if there is none the list is left out
+abbrev pub acknowledgeBody : ℕ → ℕ → Body
+acknowledgeBody items n = body.ResetAcknowledge (record { listed = ltb 0 items; diagnostics = listOnly n })
+
+abbrev pub errorIndicationBody : Mme → Mce → Cause → MaybeDiagnostics → Body
+errorIndicationBody x y why d = body.ErrorIndication (record { mme = x; mce = y; cause = cause.Is why; diagnostics = d })
+
+-- answer 5: START FAILURE if a start's MME identity was read; none for an ERROR INDICATION; else ERROR INDICATION, with the identities read for a stop
+abbrev failedBody : Frame → Mme → Cause → ℕ → Body
+failedBody f (mme.Is m) why n = startFailureBody m why n
+failedBody f mme.Absent why n = errorIndicationBody mme.Absent mce.Absent why (ofFrame f n)
+
+unfoldable pub rejectionBody : Frame → Body → Cause → ℕ → Body
+rejectionBody f (body.StartRequest b) why n = failedBody f (b .mme) why n
+rejectionBody f (body.StopRequest b) why n = errorIndicationBody (b .mme) (b .mce) why (ofFrame f n)
+rejectionBody f (body.Reset b) why n = errorIndicationBody mme.Absent mce.Absent why (ofFrame f n)
+rejectionBody f (body.ErrorIndication b) why n = body.None
+rejectionBody f (body.StartResponse b) why n = body.None
+rejectionBody f (body.StartFailure b) why n = body.None
+rejectionBody f (body.StopResponse b) why n = body.None
+rejectionBody f (body.ResetAcknowledge b) why n = body.None
+rejectionBody f body.None why n = body.None
+
+-- answer 8: both identities; diagnostics only with a list
+abbrev pub pairNotHeldBody : Frame → MmeId → MceId → ℕ → Body
+pairNotHeldBody f m c n = errorIndicationBody (mme.Is m) (mce.Is c) unknownPair (pick (ltb 0 n) (ofFrame f n) diagnosed.Absent)
+
+-- ---- the items that an acknowledgement lists
 
 abbrev carries : Mme → Mce → Bool
 carries (mme.Is m) c = true
@@ -104,40 +120,32 @@ hasIdentity i = carries (i .mme) (i .mce)
 unfoldable pub withIdentity : Items → Items
 withIdentity items = itemsOf (keep hasIdentity (listed items))
 
--- if none remains the list is left out
-unfoldable pub acknowledge : Items → Entries → Record
-acknowledge items noted = record {
-  body = body.ResetAcknowledge (record { listed = ltb 0 (withIdentity items .count); diagnostics = listOnly (noted .count) });
-  crit = codeOf message.ResetAcknowledge .crit;
-  items = withIdentity items;
-  entries = noted;
-}
+-- ---- the replies as records: a body with the items and the entries that it lists
 
-unfoldable pub errorIndication : Mme → Mce → Cause → MaybeDiagnostics → Entries → Record
-errorIndication x y why d noted = record {
-  body = body.ErrorIndication (record { mme = x; mce = y; cause = cause.Is why; diagnostics = d });
-  crit = codeOf message.ErrorIndication .crit;
-  items = noItems;
-  entries = noted;
-}
+abbrev repliedAs : Items → Entries → Body → Named → Record
+repliedAs items noted b (named.Is m) = record { body = b; crit = codeOf m .crit; items = items; entries = noted }
+repliedAs items noted b named.Other = noRecord
 
--- answer 5: START FAILURE if a start's MME identity was read; none for an ERROR INDICATION; else ERROR INDICATION, with the identities read for a stop
-abbrev failed : Frame → Mme → Cause → Entries → Record
-failed f (mme.Is m) why noted = startFailure m why noted
-failed f mme.Absent why noted = errorIndication mme.Absent mce.Absent why (ofFrame f (noted .count)) noted
+unfoldable pub replied : Items → Entries → Body → Record
+replied items noted b = repliedAs items noted b (messageOf b)
 
-unfoldable pub rejection : Frame → Body → Cause → Entries → Record
-rejection f (body.StartRequest b) why noted = failed f (b .mme) why noted
-rejection f (body.StopRequest b) why noted = errorIndication (b .mme) (b .mce) why (ofFrame f (noted .count)) noted
-rejection f (body.Reset b) why noted = errorIndication mme.Absent mce.Absent why (ofFrame f (noted .count)) noted
-rejection f (body.ErrorIndication b) why noted = noRecord
-rejection f (body.StartResponse b) why noted = noRecord
-rejection f (body.StartFailure b) why noted = noRecord
-rejection f (body.StopResponse b) why noted = noRecord
-rejection f (body.ResetAcknowledge b) why noted = noRecord
-rejection f body.None why noted = noRecord
+abbrev pub startResponse : MmeId → MceId → Entries → Record
+startResponse m c noted = replied noItems noted (startResponseBody m c (noted .count))
 
--- answer 8: both identities; diagnostics only with a list
-unfoldable pub pairNotHeld : Frame → MmeId → MceId → Entries → Record
-pairNotHeld f m c noted =
-    errorIndication (mme.Is m) (mce.Is c) unknownPair (pick (ltb 0 (noted .count)) (ofFrame f (noted .count)) diagnosed.Absent) noted
+abbrev pub startFailure : MmeId → Cause → Entries → Record
+startFailure m why noted = replied noItems noted (startFailureBody m why (noted .count))
+
+abbrev pub stopResponse : MmeId → MceId → Entries → Record
+stopResponse m c noted = replied noItems noted (stopResponseBody m c (noted .count))
+
+abbrev pub acknowledge : Items → Entries → Record
+acknowledge items noted = replied (withIdentity items) noted (acknowledgeBody (withIdentity items .count) (noted .count))
+
+abbrev pub errorIndication : Mme → Mce → Cause → MaybeDiagnostics → Entries → Record
+errorIndication x y why d noted = replied noItems noted (errorIndicationBody x y why d)
+
+abbrev pub rejection : Frame → Body → Cause → Entries → Record
+rejection f b why noted = replied noItems noted (rejectionBody f b why (noted .count))
+
+abbrev pub pairNotHeld : Frame → MmeId → MceId → Entries → Record
+pairNotHeld f m c noted = replied noItems noted (pairNotHeldBody f m c (noted .count))

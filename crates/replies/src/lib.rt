@@ -1,8 +1,7 @@
-// The replies, as records that the writer writes. noted is the list of diagnostics of the message that is answered.
+// The replies. noted is how many diagnostics the message that is answered has.
 ghost use mathlib.Core.Path.{_≡_};
 ghost use Prim.Native.Nat.{min};
-ghost use Rattle.replies.specs.Replies.{hasIdentity, withIdentity, listOnly, ofFrame, startResponse, startFailure, stopResponse, acknowledge, errorIndication, rejection, pairNotHeld};
-use diagnostics::Entries;
+ghost use Rattle.replies.specs.Replies.{hasIdentity, withIdentity, listOnly, ofFrame, startResponseBody, startFailureBody, stopResponseBody, acknowledgeBody, errorIndicationBody, rejectionBody, pairNotHeldBody};
 use diagnostics::Head;
 use diagnostics::Number;
 use identity::Item;
@@ -18,13 +17,8 @@ use records::Failure;
 use records::Indication;
 use records::MaybeCause;
 use records::MaybeDiagnostics;
-use records::Record;
 use records::Response;
 use values::Cause;
-
-const REJECT: u8 = 0;
-
-const IGNORE: u8 = 1;
 
 // Unknown or inconsistent pair of MBMS M3AP IDs.
 const UNKNOWN_PAIR: Cause = Cause { group: 0, value: 2 };
@@ -56,49 +50,34 @@ fn of_frame(f: Frame, noted: usize) -> MaybeDiagnostics
     })
 }
 
-pub fn start_response(m: MmeId, c: MceId, noted: Entries) -> Record
-    ensures { λ r. ⌜ r ≡ startResponse m c noted ⌝ }
+pub fn start_response(m: MmeId, c: MceId, noted: usize) -> Body
+    ensures { λ r. ⌜ r ≡ startResponseBody m c noted ⌝ }
 {
-    Record {
-        body: Body::StartResponse(Response {
-            mme: Mme::Is(m),
-            mce: Mce::Is(c),
-            diagnostics: list_only(noted.count),
-        }),
-        crit: REJECT,
-        items: records::no_items(),
-        entries: noted,
-    }
+    Body::StartResponse(Response {
+        mme: Mme::Is(m),
+        mce: Mce::Is(c),
+        diagnostics: list_only(noted),
+    })
 }
 
-pub fn start_failure(m: MmeId, cause: Cause, noted: Entries) -> Record
-    ensures { λ r. ⌜ r ≡ startFailure m cause noted ⌝ }
+pub fn start_failure(m: MmeId, cause: Cause, noted: usize) -> Body
+    ensures { λ r. ⌜ r ≡ startFailureBody m cause noted ⌝ }
 {
-    Record {
-        body: Body::StartFailure(Failure {
-            mme: Mme::Is(m),
-            cause: MaybeCause::Is(cause),
-            diagnostics: list_only(noted.count),
-        }),
-        crit: REJECT,
-        items: records::no_items(),
-        entries: noted,
-    }
+    Body::StartFailure(Failure {
+        mme: Mme::Is(m),
+        cause: MaybeCause::Is(cause),
+        diagnostics: list_only(noted),
+    })
 }
 
-pub fn stop_response(m: MmeId, c: MceId, noted: Entries) -> Record
-    ensures { λ r. ⌜ r ≡ stopResponse m c noted ⌝ }
+pub fn stop_response(m: MmeId, c: MceId, noted: usize) -> Body
+    ensures { λ r. ⌜ r ≡ stopResponseBody m c noted ⌝ }
 {
-    Record {
-        body: Body::StopResponse(Response {
-            mme: Mme::Is(m),
-            mce: Mce::Is(c),
-            diagnostics: list_only(noted.count),
-        }),
-        crit: REJECT,
-        items: records::no_items(),
-        entries: noted,
-    }
+    Body::StopResponse(Response {
+        mme: Mme::Is(m),
+        mce: Mce::Is(c),
+        diagnostics: list_only(noted),
+    })
 }
 
 fn has_identity(i: Item) -> bool
@@ -122,7 +101,7 @@ fn within(count: usize) -> usize
 }
 
 // The items that have an identity, in order.
-fn with_identity(items: Items) -> Items
+pub fn with_identity(items: Items) -> Items
     ensures { λ r. ⌜ r ≡ withIdentity items ⌝ }
 {
     let n = within(items.count);
@@ -141,84 +120,66 @@ fn with_identity(items: Items) -> Items
     out
 }
 
-// The items received that have an identity, known or not; no list if none remains.
-pub fn acknowledge(items: Items, noted: Entries) -> Record
-    ensures { λ r. ⌜ r ≡ acknowledge items noted ⌝ }
+// An acknowledgement of so many items; no list if there is none.
+pub fn acknowledge(kept: usize, noted: usize) -> Body
+    ensures { λ r. ⌜ r ≡ acknowledgeBody kept noted ⌝ }
 {
-    let kept = with_identity(items);
-    Record {
-        body: Body::ResetAcknowledge(Acknowledged {
-            listed: 0 < kept.count,
-            diagnostics: list_only(noted.count),
-        }),
-        crit: REJECT,
-        items: kept,
-        entries: noted,
-    }
+    Body::ResetAcknowledge(Acknowledged {
+        listed: 0 < kept,
+        diagnostics: list_only(noted),
+    })
 }
 
-fn error_indication(x: Mme, y: Mce, cause: Cause, d: MaybeDiagnostics, noted: Entries) -> Record
-    ensures { λ r. ⌜ r ≡ errorIndication x y cause d noted ⌝ }
+fn error_indication(x: Mme, y: Mce, cause: Cause, d: MaybeDiagnostics) -> Body
+    ensures { λ r. ⌜ r ≡ errorIndicationBody x y cause d ⌝ }
 {
-    Record {
-        body: Body::ErrorIndication(Indication {
-            mme: x,
-            mce: y,
-            cause: MaybeCause::Is(cause),
-            diagnostics: d,
-        }),
-        crit: IGNORE,
-        items: records::no_items(),
-        entries: noted,
-    }
+    Body::ErrorIndication(Indication {
+        mme: x,
+        mce: y,
+        cause: MaybeCause::Is(cause),
+        diagnostics: d,
+    })
 }
 
 // Answer 5: elements of a message rejected.
-pub fn rejection(f: Frame, body: Body, cause: Cause, noted: Entries) -> Record
-    ensures { λ r. ⌜ r ≡ rejection f body cause noted ⌝ }
+pub fn rejection(f: Frame, body: Body, cause: Cause, noted: usize) -> Body
+    ensures { λ r. ⌜ r ≡ rejectionBody f body cause noted ⌝ }
 {
-    let d = of_frame(f, noted.count);
+    let d = of_frame(f, noted);
     match body {
         Body::StartRequest(b) => {
             let mme = b.mme;
             match mme {
                 Mme::Is(m) => start_failure(m, cause, noted),
-                Mme::Absent => error_indication(Mme::Absent, Mce::Absent, cause, d, noted),
+                Mme::Absent => error_indication(Mme::Absent, Mce::Absent, cause, d),
             }
         }
         Body::StopRequest(b) => {
             let x = b.mme;
             let y = b.mce;
-            error_indication(x, y, cause, d, noted)
+            error_indication(x, y, cause, d)
         }
-        Body::Reset(_) => error_indication(Mme::Absent, Mce::Absent, cause, d, noted),
-        Body::ErrorIndication(_) => records::no_record(),
-        Body::StartResponse(_) => records::no_record(),
-        Body::StartFailure(_) => records::no_record(),
-        Body::StopResponse(_) => records::no_record(),
-        Body::ResetAcknowledge(_) => records::no_record(),
-        Body::None => records::no_record(),
+        Body::Reset(_) => error_indication(Mme::Absent, Mce::Absent, cause, d),
+        Body::ErrorIndication(_) => Body::None,
+        Body::StartResponse(_) => Body::None,
+        Body::StartFailure(_) => Body::None,
+        Body::StopResponse(_) => Body::None,
+        Body::ResetAcknowledge(_) => Body::None,
+        Body::None => Body::None,
     }
 }
 
 // Answer 8: a pair that is not held.
-pub fn pair_not_held(f: Frame, m: MmeId, c: MceId, noted: Entries) -> Record
-    ensures { λ r. ⌜ r ≡ pairNotHeld f m c noted ⌝ }
+pub fn pair_not_held(f: Frame, m: MmeId, c: MceId, noted: usize) -> Body
+    ensures { λ r. ⌜ r ≡ pairNotHeldBody f m c noted ⌝ }
 {
-    if 0 < noted.count {
+    if noted == 0 {
         return error_indication(
             Mme::Is(m),
             Mce::Is(c),
             UNKNOWN_PAIR,
-            of_frame(f, noted.count),
-            noted,
+            MaybeDiagnostics::Absent,
         );
     }
-    error_indication(
-        Mme::Is(m),
-        Mce::Is(c),
-        UNKNOWN_PAIR,
-        MaybeDiagnostics::Absent,
-        noted,
-    )
+    error_indication(Mme::Is(m), Mce::Is(c), UNKNOWN_PAIR, of_frame(f, noted))
 }

@@ -14,6 +14,7 @@ use Rattle.identity.specs.declared.Session.the-variants as session
 use Rattle.identity.specs.declared.Item.{Item}
 use Rattle.table.specs.declared.Association.{Association}
 use Rattle.table.specs.declared.Table.{Table}
+use Rattle.table.specs.declared.Standing.{Standing}
 
 -- associations in order of starting
 abbrev pub State : Type 0
@@ -89,6 +90,17 @@ holdsMce c l = some (hasMce c) l
 
 abbrev pub holdsPair : MmeId → MceId → State → Bool
 holdsPair m c l = some (hasPair m c) l
+
+-- some association held has the identities that are there
+abbrev pub heldBy : Mme → Mce → State → Bool
+heldBy (mme.Is m) (mce.Is c) l = holdsPair m c l
+heldBy (mme.Is m) mce.Absent l = holdsMme m l
+heldBy mme.Absent (mce.Is c) l = holdsMce c l
+heldBy mme.Absent mce.Absent l = false
+
+-- what is held of an item's identities: the first, the second, both in one association; and whether there is room
+abbrev pub standing : Item → State → Standing
+standing i l = record { mme = heldBy (i .mme) mce.Absent l; mce = heldBy mme.Absent (i .mce) l; pair = heldBy (i .mme) (i .mce) l; full = full l }
 
 -- two associations have one identity in common
 abbrev pub shareMme : Association → Association → Bool

@@ -1,10 +1,9 @@
-// The table by value, and the rules on it: start, stop and whole reset. The partial reset is the crate reset.
+// The table by value: what is held, stop and whole reset. The partial reset is the crate reset; a start adds a row to the lent octets (crate lent).
 ghost use mathlib.Core.Path.{_≡_};
+ghost use mathlib.Core.Bool.{_||_};
 ghost use mathlib.Core.List.{[]};
 ghost use Prim.Native.Nat.{min};
-ghost use lib.ListN.{length};
-ghost use Rattle.lists.specs.Lists.{some};
-ghost use Rattle.table.specs.Table.{held, tableOf, names, unnamed, full, starting, stopping, holdsMme, holdsMce, holdsPair, distinctHeld};
+ghost use Rattle.table.specs.Table.{held, tableOf, names, unnamed, stopping, standing, distinctHeld};
 use identity::Item;
 use identity::Mce;
 use identity::MceId;
@@ -26,6 +25,14 @@ pub struct Association {
 pub struct Table {
     pub rows: [Association; 256],
     pub count: usize,
+}
+
+// What is held of two identities: the first, the second, both in one association. A full table has no room for one more.
+pub struct Standing {
+    pub mme: bool,
+    pub mce: bool,
+    pub pair: bool,
+    pub full: bool,
 }
 
 // The table that holds nothing; a whole reset leaves it.
@@ -54,13 +61,6 @@ pub fn within(count: usize) -> usize
     if count < 256 { count } else { 256 }
 }
 
-// How many associations the table holds.
-pub fn size(t: Table) -> usize
-    ensures { λ r. ⌜ r ≡ length (held t) ⌝ }
-{
-    within(t.count)
-}
-
 // The item names the association.
 fn names(item: Item, a: Association) -> bool
     ensures { λ r. ⌜ r ≡ names item a ⌝ }
@@ -83,45 +83,44 @@ fn names(item: Item, a: Association) -> bool
     }
 }
 
-// The item names some association held.
-fn holds(t: Table, item: Item) -> bool
-    ensures { λ r. ⌜ r ≡ some (names item) (held t) ⌝ }
+fn either(a: bool, b: bool) -> bool
+    ensures { λ r. ⌜ r ≡ (a || b) ⌝ }
+{
+    a || b
+}
+
+// What is held of an item's identities, in one pass over the rows.
+pub fn look_up(t: Table, item: Item) -> Standing
+    ensures { λ r. ⌜ r ≡ standing item (held t) ⌝ }
 {
     let n = within(t.count);
+    let x = item.mme;
+    let y = item.mce;
+    let first = Item {
+        mme: x,
+        mce: Mce::Absent,
+    };
+    let second = Item {
+        mme: Mme::Absent,
+        mce: y,
+    };
+    let mut mme = false;
+    let mut mce = false;
+    let mut pair = false;
     let mut i = 0;
     while i < n {
         let a = t.rows[i];
-        if names(item, a) {
-            return true;
-        }
         i += 1;
+        mme = either(mme, names(first, a));
+        mce = either(mce, names(second, a));
+        pair = either(pair, names(item, a));
     }
-    false
-}
-
-pub fn holds_mme(t: Table, m: MmeId) -> bool
-    ensures { λ r. ⌜ r ≡ holdsMme m (held t) ⌝ }
-{
-    let mme = Mme::Is(m);
-    let mce = Mce::Absent;
-    holds(t, Item { mme, mce })
-}
-
-pub fn holds_mce(t: Table, c: MceId) -> bool
-    ensures { λ r. ⌜ r ≡ holdsMce c (held t) ⌝ }
-{
-    let mme = Mme::Absent;
-    let mce = Mce::Is(c);
-    holds(t, Item { mme, mce })
-}
-
-// One association held has both identities.
-pub fn holds_pair(t: Table, m: MmeId, c: MceId) -> bool
-    ensures { λ r. ⌜ r ≡ holdsPair m c (held t) ⌝ }
-{
-    let mme = Mme::Is(m);
-    let mce = Mce::Is(c);
-    holds(t, Item { mme, mce })
+    Standing {
+        mme: mme,
+        mce: mce,
+        pair: pair,
+        full: 256 <= t.count,
+    }
 }
 
 // The table without what one item names.
@@ -141,29 +140,6 @@ fn without_one(t: Table, item: Item) -> Table
         }
     }
     out.count = k;
-    out
-}
-
-// There is no room for one more.
-pub fn is_full(t: Table) -> bool
-    ensures { λ r. ⌜ r ≡ full (held t) ⌝ }
-{
-    256 <= t.count
-}
-
-// The association stands behind those that are held; a full table stays as it is.
-pub fn start(t: Table, a: Association) -> Table
-    ensures { λ r. ⌜ r ≡ tableOf (starting a (held t)) ⌝ }
-{
-    // An item without an identity names nothing: what is held, and nothing behind it.
-    let mme = Mme::Absent;
-    let mce = Mce::Absent;
-    let mut out = without_one(t, Item { mme, mce });
-    let n = out.count;
-    if n < 256 {
-        out.rows[n] = a;
-        out.count = n + 1;
-    }
     out
 }
 

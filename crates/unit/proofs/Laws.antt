@@ -9,25 +9,38 @@ use native.Mathlib.Omega.{arith}
 use borrow.Author.Tests.{eq-eqb, le-leb}
 use lib.ListN.{length, drop}
 use Rattle.lists.specs.Lists.{pick}
+use Rattle.identity.specs.declared.MceId.{MceId}
+use Rattle.identity.specs.declared.Item.{Item}
+use Rattle.identity.specs.declared.Items.{Items}
+use Rattle.diagnostics.specs.declared.Entries.{Entries}
+use Rattle.records.specs.declared.Body.{Body}
+use Rattle.records.specs.declared.Body.the-variants as body
 use Rattle.records.specs.declared.Record.{Record}
 use Rattle.said.specs.Said.{saidBy}
 use Rattle.said.specs.Written.{Encoded, octets, none, encoded}
+use Rattle.table.specs.declared.Association.{Association}
 use Rattle.table.specs.declared.Table.{Table}
-use Rattle.table.specs.Table.{State, tableOf}
+use Rattle.table.specs.declared.Standing.{Standing}
+use Rattle.table.specs.Table.{State, held, tableOf, starting, standing}
 use Rattle.table.proofs.Rows.{held-of}
 use Rattle.lent.specs.declared.TableIn.{TableIn}
-use Rattle.lent.specs.Lent.{Lent, Held, NoTable, readTable, tableIn}
+use Rattle.lent.specs.Lent.{Lent, Held, NoTable, readTable, tableOctets, tableIn, tableOut, rowOut}
+use Rattle.lent.proofs.Writing.{row-starts}
 use Rattle.lent.proofs.OneForm.{one-form}
 use Rattle.writer.specs.declared.Written.{Written}
 use Rattle.writer.specs.declared.Written.the-variants.{Done, NoRoom, NotWritten}
 use Rattle.writer.specs.Written.{Writing, writtenIn, Writes}
 use Rattle.carry.specs.declared.Answer.{Answer}
 use Rattle.carry.specs.declared.Answer.the-variants as answer
-use Rattle.carry.specs.declared.Decided as own
+use Rattle.judge.specs.declared.Judged.{Judged}
 use Rattle.judge.specs.Judge.{judgedOf}
-use Rattle.carry.specs.Carry.{Decided, keeps, changes, decided, coded}
+use Rattle.replies.specs.Replies.{replied}
+use Rattle.carry.specs.declared.Change.{Change}
+use Rattle.carry.specs.declared.Change.the-variants as change
+use Rattle.carry.specs.declared.Decision.{Decision}
+use Rattle.carry.specs.Carry.{Decided, decision, asked, acknowledged, changed, applied, decided}
 use Rattle.unit.specs.declared.Back as back
-use Rattle.unit.specs.Unit.{Call, octetsIn, replyOctets, replyOf, answerOf, tableAfter, settled, call, left, Called}
+use Rattle.unit.specs.Unit.{Call, octetsIn, replyOctets, replyOf, answerOf, tableAfter, settled, call, Called}
 
 -- the reply's octets do not fit; or they stand in front; or there is no reply
 pub data Put (d os : List ℕ) : Written → List ℕ → Type 0 where
@@ -45,9 +58,22 @@ put-in d (octets os) = by (leb (length os) (length d)) refl
     by true e = put e
     by false e = not-put e
 
-pub written-put : (d : List ℕ) (r : Record) (s : List ℕ) {w : Written} {m : List ℕ} → s ≡ [] → Writes (writtenIn d (encoded (saidBy r s))) w m → Put d (replyOctets r) w m
-unfolding replyOctets
-written-put d r s z h = rw (h .answer, h .room, z) (put-in d (encoded (saidBy r [])))
+-- a body with its lists has the octets of the record that it is a reply as
+reply-octets : (is : Items) (es : Entries) (b : Body) → octetsIn (encoded (saidBy (record { body = b; crit = 0; items = is; entries = es }) [])) ≡ replyOctets (replied is es b)
+unfolding replyOctets encoded saidBy replied
+reply-octets is es (body.StartRequest b) = refl
+reply-octets is es (body.StartResponse b) = refl
+reply-octets is es (body.StartFailure b) = refl
+reply-octets is es (body.StopRequest b) = refl
+reply-octets is es (body.StopResponse b) = refl
+reply-octets is es (body.Reset b) = refl
+reply-octets is es (body.ResetAcknowledge b) = refl
+reply-octets is es (body.ErrorIndication b) = refl
+reply-octets is es body.None = refl
+
+pub written-put : (d : List ℕ) (is : Items) (es : Entries) (b : Body) (s : List ℕ) {w : Written} {m : List ℕ} → s ≡ []
+    → Writes (writtenIn d (encoded (saidBy (record { body = b; crit = 0; items = is; entries = es }) s))) w m → Put d (replyOctets (replied is es b)) w m
+written-put d is es b s z h = rw (h .answer, h .room, z, ← reply-octets is es b) (put-in d (encoded (saidBy (record { body = b; crit = 0; items = is; entries = es }) [])))
 
 module _ (t d : List ℕ) (x : Decided) where
   pub no-room : {m : List ℕ} → Put d (replyOf x) NoRoom m → Called (settled t d x) (record { answer = answer.NoRoom; octets = 0 }) t m
@@ -64,28 +90,29 @@ module _ (t d : List ℕ) (x : Decided) where
       let f : leb (length (replyOf x)) (length d) ≡ true = rw e (le-leb 0 (length d) (omega arith)) in
       rw (f, e) (record { answer = p; octets = refl; table = q; room = refl })
 
--- what the code has of a decision
-module _ (t₀ : Table) (x : Decided) (d : own.Decided) (e : d ≡ coded t₀ x) where
-  pub answered : d .answer ≡ answerOf x
-  answered = ap (λ (y : own.Decided). y .answer) e ∙ by x
-    where
-      by : (x : Decided) → coded t₀ x .answer ≡ answerOf x
-      by (keeps a r) = refl
-      by (changes l r) = refl
+-- a table that is written over another; and one that gets one row more
+module _ (l : State) (t : List ℕ) {t′ : List ℕ} where
+  pub put-out : {u : Table} → length t ≡ 3074 → u ≡ tableOf l → t′ ≡ tableOut (held u) t → t′ ≡ tableOctets l
+  put-out n e q = q ∙ rw (e, held-of l, eq-eqb (length t) 3074 n)
 
-  pub replied : replyOctets (d .reply) ≡ replyOf x
-  replied = ap (λ (y : own.Decided). replyOctets (y .reply)) e ∙ by x
-    where
-      by : (x : Decided) → replyOctets (coded t₀ x .reply) ≡ replyOf x
-      by (keeps a r) = refl
-      by (changes l r) = refl
+  pub put-more : (a : Association) {n : ℕ} → readTable t ≡ Held l → n ≡ length l → t′ ≡ rowOut a n t → t′ ≡ tableOctets (starting a l)
+  put-more a e k q = q ∙ rw (k, ← one-form .again t l e) (row-starts l a (one-form .table t l e .few))
 
-  pub after : (t : List ℕ) → length t ≡ 3074 → left d t ≡ tableAfter t x
-  after t n = ap (λ (y : own.Decided). left y t) e ∙ by x
-    where
-      by : (x : Decided) → left (coded t₀ x) t ≡ tableAfter t x
-      by (keeps a r) = refl
-      by (changes l r) = rw (eq-eqb (length t) 3074 n, held-of l)
+-- the reply of a decision, whatever becomes of the table
+pub reply-of : (l : State) (is : Items) (r : Record) (x : Change) → replyOctets r ≡ replyOf (changed l is r x)
+reply-of l is r (change.Stays a) = refl
+reply-of l is r (change.Starts a) = refl
+reply-of l is r (change.Stops m c) = refl
+reply-of l is r change.Empties = refl
+reply-of l is r change.Resets = refl
+
+-- what the code has found, step by step, is what is decided
+module _ (l : State) (c : MceId) (s : List ℕ) {t : Table} {j : Judged} {kept : Items} {i : Item} {k : Standing} {d : Decision} where
+  pub decided-by : t ≡ tableOf l → j ≡ judgedOf s → let v = j .verdict in kept ≡ acknowledged (v .message .body) (v .outcome) (v .message .items) → i ≡ asked c (v .message .body)
+      → k ≡ standing i (held t) → d ≡ decision k c (j .frame) (kept .count) (v .noted .count) (v .message .body) (v .outcome)
+      → applied (held t) (v .message .items) kept (v .noted) d ≡ decided l c (judgedOf s)
+  unfolding decided
+  decided-by e f g a b q = rw (← f, q, b, a, g, e, held-of l)
 
 -- what was read of a table
 module _ (s : List ℕ) (t : TableIn) (e : t ≡ tableIn (readTable s)) where
@@ -101,6 +128,9 @@ module _ (s : List ℕ) (t : TableIn) (e : t ≡ tableIn (readTable s)) where
       by : (r : Lent) → readTable s ≡ r → Found
       by (Held l) q = record { state = l; held = q; table = ap (λ (x : TableIn). x .table) e ∙ ap (λ (r : Lent). tableIn r .table) q }
       by NoTable q = let z : true ≡ false = sym h ∙ (ap (λ (x : TableIn). x .ok) e ∙ ap (λ (r : Lent). tableIn r .ok) q) in absurd (true≢false z)
+
+  pub found-held : Found → (readTable s ≡ Held (held (t .table))) × (t .table .count ≡ length (held (t .table)))
+  found-held h = rw (h .table, held-of (h .state)) (h .held, refl)
 
   pub no-table : t .ok ≡ false → readTable s ≡ NoTable
   no-table h = by (readTable s) refl

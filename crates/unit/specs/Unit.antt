@@ -10,14 +10,11 @@ use Rattle.identity.specs.declared.MceId.{MceId}
 use Rattle.records.specs.declared.Record.{Record}
 use Rattle.said.specs.Said.{saidBy}
 use Rattle.said.specs.Written.{Encoded, octets, none, encoded}
-use Rattle.lists.specs.Lists.{pick}
-use Rattle.table.specs.Table.{held}
-use Rattle.lent.specs.Lent.{Lent, Held, NoTable, readTable, tableOctets, tableOut}
+use Rattle.lent.specs.Lent.{Lent, Held, NoTable, readTable, tableOctets}
 use Rattle.judge.specs.Judge.{judgedOf}
 use Rattle.carry.specs.declared.Answer.{Answer}
 use Rattle.carry.specs.declared.Answer.the-variants as answer
 use Rattle.carry.specs.Carry.{Decided, keeps, changes, decided}
-use Rattle.carry.specs.declared.Decided as coded
 use Rattle.unit.specs.declared.Back as own
 
 -- what is handed over with the table
@@ -74,9 +71,10 @@ onTable t c NoTable = nothing answer.NoTable t (c .room)
 unfoldable pub call : List ℕ → Call → Back
 call t c = onTable t c (readTable t)
 
--- what the code leaves in the table
-abbrev pub left : coded.Decided → List ℕ → List ℕ
-left d t = pick (d .changed) (tableOut (held (d .table)) t) t
+-- what is decided, as the code leaves it with a reply of n octets: what it hands back, and the table t
+pub record Finished (x : Decided) (t : List ℕ) (n : ℕ) (r : own.Back) (t′ : List ℕ) : Type 0 where
+  pub back : r ≡ record { answer = answerOf x; octets = n }
+  pub table : t′ ≡ tableAfter t x
 
 -- as the code hands it back: the answer, the reply's length, and what is left in the table and the room
 pub record Called (b : Back) (r : own.Back) (t d : List ℕ) : Type 0 where

@@ -1,16 +1,17 @@
 // The table call: a table, a message, an offered identity and room for a reply in; one numbered answer out.
 ghost use mathlib.Core.Path.{_≡_};
-ghost use mathlib.Core.List.{[]};
 ghost use lib.ListN.{length};
-ghost use Rattle.table.specs.declared.Table as rows;
-ghost use Rattle.carry.specs.Carry as decision;
+ghost use Rattle.table.specs.Table.{held};
+ghost use Rattle.lent.specs.Lent.{Held, readTable};
+ghost use Rattle.records.specs.declared.Record.{Record};
+ghost use Rattle.carry.specs.Carry.{changed};
 ghost use Rattle.unit.specs.Answers.{numbered};
-ghost use Rattle.unit.specs.Unit.{left, Called, settled, call};
+ghost use Rattle.unit.specs.Unit.{Finished, Called, call};
 use carry::Answer;
-use carry::Decided;
+use carry::Change;
+use identity::Items;
 use identity::MceId;
 use octets::Stop;
-use records::Record;
 use table::Table;
 use writer::Written;
 
@@ -74,40 +75,55 @@ fn hand_back(answer: Answer, octets: usize) -> Back
 }
 
 // The answer stands, and the table is the new one, if it changes.
-fn finish(d: Decided, table: &mut [u8], octets: usize) -> Back
-    ensures { λ r. ⌜ (r ≡ record { answer = d .answer; octets = octets }) × (now (table .exit) ≡ left d (now (table .entry))) ⌝ }
+fn finish(change: Change, t: Table, items: Items, table: &mut [u8], octets: usize) -> Back
+    requires { ⌜ (readTable (now table) ≡ Held (held t)) × (t .count ≡ length (held t)) ⌝ }
+    ensures { λ r. ⌜ ((w : Record) → Finished (changed (held t) items w change) (now (table .entry)) octets r (now (table .exit))) ⌝ }
 {
-    let answer = d.answer;
-    if d.changed {
-        let after = d.table;
-        lent::table_out(after, table);
-        return hand_back(answer, octets);
+    match change {
+        Change::Stays(a) => hand_back(a, octets),
+        Change::Starts(a) => {
+            lent::row_out(a, t.count, table);
+            hand_back(Answer::CarriedOut, octets)
+        }
+        Change::Stops(m, c) => {
+            lent::table_out(table::stop(t, m, c), table);
+            hand_back(Answer::CarriedOut, octets)
+        }
+        Change::Empties => {
+            lent::table_out(table::empty(), table);
+            hand_back(Answer::CarriedOut, octets)
+        }
+        Change::Resets => {
+            lent::table_out(reset::reset(t, items), table);
+            hand_back(Answer::CarriedOut, octets)
+        }
     }
-    hand_back(answer, octets)
 }
 
-// The reply first, and then the table: where the reply does not fit, both stay as they were.
-fn settle(d: Decided, none: &[u8], table: &mut [u8], room: &mut [u8]) -> Back
-    requires { ⌜ (now none ≡ []) × (length (now table) ≡ 3074) ⌝ }
-    ensures { λ r. ⌜ ((t : rows.Table) (x : decision.Decided) → d ≡ decision.coded t x → Called (settled (now (table .entry)) (now (room .entry)) x) r (now (table .exit)) (now (room .exit))) ⌝ }
-{
-    let reply = d.reply;
-    match writer::write(reply, none, room) {
-        Written::Done(n) => finish(d, table, n),
-        Written::NoRoom => hand_back(Answer::NoRoom, 0),
-        Written::NotWritten => finish(d, table, 0),
-    }
-}
-
-// What one message does.
+// What one message does. The reply first, and then the table: where the reply does not fit, both stay as they were.
 pub fn call(table: &mut [u8], message: &[u8], offered: MceId, room: &mut [u8]) -> Back
     ensures { λ r. ⌜ Called (call (now (table .entry)) (record { message = now (message .entry); offered = offered; room = now (room .entry) })) r (now (table .exit)) (now (room .exit)) ⌝ }
 {
     let t = lent::table_in(table);
-    if t.ok {
-        let held = t.table;
-        let d = carry::decide(held, offered, judge::judge(message));
-        return settle(d, &message[0..0], table, room);
+    if !t.ok {
+        return hand_back(Answer::NoTable, 0);
     }
-    hand_back(Answer::NoTable, 0)
+    let j = judge::judge(message);
+    let f = j.frame;
+    let v = j.verdict;
+    let o = v.outcome;
+    let r = v.message;
+    let body = r.body;
+    let items = r.items;
+    let noted = v.noted;
+    let kept = carry::acknowledged(body, o, items);
+    let k = table::look_up(t.table, carry::asked(offered, body));
+    let d = carry::decide(k, offered, f, kept.count, noted.count, body, o);
+    let reply = d.reply;
+    let change = d.change;
+    match writer::write_body(reply, kept, noted, &message[0..0], room) {
+        Written::Done(n) => finish(change, t.table, items, table, n),
+        Written::NoRoom => hand_back(Answer::NoRoom, 0),
+        Written::NotWritten => finish(change, t.table, items, table, 0),
+    }
 }

@@ -1,9 +1,14 @@
--- For the public function: any two results that its statement allows are equal, with what is left in the room.
+-- For each public function: any two results that its statement allows are equal, with what is left in the room.
 -- Assumes nothing.
 use mathlib.Core.Path.{refl}
 use Rattle.lists.proofs.Unique.{Determined, _same_, _&_}
+use Rattle.writer.proofs.write_body.Kinds as write-body'
+use Rattle.writer.proofs.write_body.Reads as write-body
 use Rattle.writer.proofs.write.Kinds as write'
 use Rattle.writer.proofs.write.Reads as write
+
+pub write-body-is : Determined write-body'.ps write-body'.r write-body.Asked write-body.Learnt
+write-body-is κs a p x y e f = (e .answer same f .answer) & refl & refl & refl & refl & (e .room same f .room) & refl
 
 pub write-is : Determined write'.ps write'.r write.Asked write.Learnt
 write-is κs a p x y e f = (e .answer same f .answer) & refl & refl & (e .room same f .room) & refl

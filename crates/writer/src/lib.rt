@@ -4,15 +4,16 @@ ghost use Prim.Native.Nat.{ℕ, _<_, _≤_};
 ghost use lib.ListN.{length};
 ghost use Rattle.octets.specs.Write.{Wrote};
 ghost use Rattle.said.specs.Said.{saidBy};
-ghost use Rattle.said.specs.Written.{encoded, encodedAs};
+ghost use Rattle.said.specs.Written.{encoded};
 ghost use Rattle.writer.specs.Plan.{fitted, sizesOf, Small, stepOf, planTo, messageSize, frontOctets, Ready, rowOctets, joinTo, frameOctets};
-ghost use Rattle.writer.specs.Written.{writtenIn, Writes, givenIn};
+ghost use Rattle.writer.specs.Written.{writtenIn, Writes};
 use diagnostics::Entries;
 use elements::Row;
 use elements::Rows;
 use identity::Items;
 use items::Reset;
 use put_values::Criticality;
+use records::Body;
 use records::Record;
 use slots::Slots;
 use slots::Value;
@@ -191,18 +192,24 @@ fn put_rows(
     next
 }
 
-// 11 comes before 10.
-fn write_message(
-    m: Message,
-    slots: Slots,
+// The octets of a record with this body and these lists; they do not depend on its criticality. Its carried values lie in values. 11 comes before 10.
+pub fn write_body(
+    body: Body,
     items: Items,
     entries: Entries,
     values: &[u8],
     room: &mut [u8],
 ) -> Written
-    ensures { λ r. ⌜ Writes (writtenIn (now (room .entry)) (encodedAs (Named.Is m) (givenIn (now (values .entry)) items entries m slots))) r (now (room .exit)) ⌝ }
+    ensures { λ r. ⌜ Writes (writtenIn (now (room .entry)) (encoded (saidBy (record { body = body; crit = 0; items = items; entries = entries }) (now (values .entry))))) r (now (room .exit)) ⌝ }
 {
+    let m = match slots::message_in(body) {
+        Named::Is(m) => m,
+        Named::Other => {
+            return Written::NotWritten;
+        }
+    };
     let rows = tables::rows_of(m);
+    let slots = slots::slots_of(body);
     let sizes = sizes_of(rows.count, slots, values, items, entries);
     match plan_of(rows, sizes) {
         Plan::None => Written::NotWritten,
@@ -220,15 +227,12 @@ fn write_message(
     }
 }
 
-// The octets of a record. Its carried values lie in values.
+// The octets of a record.
 pub fn write(what: Record, values: &[u8], room: &mut [u8]) -> Written
     ensures { λ r. ⌜ Writes (writtenIn (now (room .entry)) (encoded (saidBy what (now (values .entry))))) r (now (room .exit)) ⌝ }
 {
     let body = what.body;
     let items = what.items;
     let entries = what.entries;
-    match slots::message_in(body) {
-        Named::Is(m) => write_message(m, slots::slots_of(body), items, entries, values, room),
-        Named::Other => Written::NotWritten,
-    }
+    write_body(body, items, entries, values, room)
 }

@@ -1,5 +1,4 @@
 -- `carry::carry_out` meets its contract. By the case, what was called says it. Assumes nothing.
-use Rattle.carry.specs.Carry.{carriedOut}
 use borrow.Author.Needs.{needs}
 use Rattle.carry.proofs.carry_out.Statement.{statement}
 use Rattle.carry.proofs.carry_out.Tie as tie
@@ -25,11 +24,8 @@ reset-request-requires c κs = search needs
 enum-told : tie.Need-enum-told
 enum-told c = search needs
 
-no-record-requires : tie.Need-no-record-requires
-no-record-requires c κs = search needs
-
-keeps-requires : tie.Need-keeps-requires
-keeps-requires c κs = search needs
+stays-requires : tie.Need-stays-requires
+stays-requires c κs = search needs
 
 enum-told-2 : tie.Need-enum-told-2
 enum-told-2 c = search needs
@@ -62,39 +58,30 @@ no-request-requires-5 : tie.Need-no-request-requires-5
 no-request-requires-5 c κs = search needs
 
 returns : tie.Need-returns
-unfolding carriedOut
 returns c = rw (c .before .before .body .given .1) (c .start-request .ensures)
 
 returns-2 : tie.Need-returns-2
-unfolding carriedOut
 returns-2 c = rw (c .before .before .body2 .given .1) (c .stop-request .ensures)
 
 returns-3 : tie.Need-returns-3
-unfolding carriedOut
 returns-3 c = rw (c .before .before .body3 .given .1) (c .reset-request .ensures)
 
 returns-4 : tie.Need-returns-4
-unfolding carriedOut
-returns-4 c = rw (c .before .before .enum-told .given .1) (rw (c .before .no-record .ensures) at (c .keeps .ensures))
+returns-4 c = rw (c .before .enum-told .given .1) (c .stays .ensures)
 
 returns-5 : tie.Need-returns-5
-unfolding carriedOut
 returns-5 c = rw (c .before .enum-told2 .given .1) (c .no-request .ensures)
 
 returns-6 : tie.Need-returns-6
-unfolding carriedOut
 returns-6 c = rw (c .before .enum-told3 .given .1) (c .no-request2 .ensures)
 
 returns-7 : tie.Need-returns-7
-unfolding carriedOut
 returns-7 c = rw (c .before .enum-told4 .given .1) (c .no-request3 .ensures)
 
 returns-8 : tie.Need-returns-8
-unfolding carriedOut
 returns-8 c = rw (c .before .enum-told5 .given .1) (c .no-request4 .ensures)
 
 returns-9 : tie.Need-returns-9
-unfolding carriedOut
 returns-9 c = rw (c .before .enum-told6 .given .1) (c .no-request5 .ensures)
 
 pub carry-out-spec : {M : Type 1} → statement M
@@ -108,8 +95,7 @@ carry-out-spec =
     enum-known-body-3
     reset-request-requires
     enum-told
-    no-record-requires
-    keeps-requires
+    stays-requires
     enum-told-2
     no-request-requires
     enum-told-3

@@ -1,5 +1,4 @@
 -- `carry::decide` meets its contract. By the case, what was called says it. Assumes nothing.
-use Rattle.carry.specs.Carry.{decided}
 use borrow.Author.Needs.{needs}
 use Rattle.carry.proofs.decide.Statement.{statement}
 use Rattle.carry.proofs.decide.Tie as tie
@@ -13,29 +12,20 @@ carry-out-requires c κs = search needs
 enum-told-2 : tie.Need-enum-told-2
 enum-told-2 c = search needs
 
-no-record-requires : tie.Need-no-record-requires
-no-record-requires c κs = search needs
-
-keeps-requires : tie.Need-keeps-requires
-keeps-requires c κs = search needs
+stays-requires : tie.Need-stays-requires
+stays-requires c κs = search needs
 
 enum-known-o : tie.Need-enum-known-o
 enum-known-o c = search needs
 
-no-record-requires-2 : tie.Need-no-record-requires-2
-no-record-requires-2 c κs = search needs
-
-keeps-requires-2 : tie.Need-keeps-requires-2
-keeps-requires-2 c κs = search needs
+stays-requires-2 : tie.Need-stays-requires-2
+stays-requires-2 c κs = search needs
 
 enum-told-3 : tie.Need-enum-told-3
 enum-told-3 c = search needs
 
-no-record-requires-3 : tie.Need-no-record-requires-3
-no-record-requires-3 c κs = search needs
-
-keeps-requires-3 : tie.Need-keeps-requires-3
-keeps-requires-3 c κs = search needs
+stays-requires-3 : tie.Need-stays-requires-3
+stays-requires-3 c κs = search needs
 
 enum-told-4 : tie.Need-enum-told-4
 enum-told-4 c = search needs
@@ -50,27 +40,21 @@ rejected-requires-2 : tie.Need-rejected-requires-2
 rejected-requires-2 c κs = search needs
 
 returns : tie.Need-returns
-unfolding decided
 returns c = rw (c .before .enum-told .given .1) (c .carry-out .ensures)
 
 returns-2 : tie.Need-returns-2
-unfolding decided
-returns-2 c = rw (c .before .before .enum-told2 .given .1) (rw (c .before .no-record .ensures) at (c .keeps .ensures))
+returns-2 c = rw (c .before .enum-told2 .given .1) (c .stays .ensures)
 
 returns-3 : tie.Need-returns-3
-unfolding decided
-returns-3 c = rw (c .before .before .before .o .given .1) (rw (c .before .no-record2 .ensures) at (c .keeps2 .ensures))
+returns-3 c = rw (c .before .before .o .given .1) (c .stays2 .ensures)
 
 returns-4 : tie.Need-returns-4
-unfolding decided
-returns-4 c = rw (c .before .before .enum-told3 .given .1) (rw (c .before .no-record3 .ensures) at (c .keeps3 .ensures))
+returns-4 c = rw (c .before .enum-told3 .given .1) (c .stays3 .ensures)
 
 returns-5 : tie.Need-returns-5
-unfolding decided
 returns-5 c = rw (c .before .enum-told4 .given .1) (c .rejected .ensures)
 
 returns-6 : tie.Need-returns-6
-unfolding decided
 returns-6 c = rw (c .before .enum-told5 .given .1) (c .rejected2 .ensures)
 
 pub decide-spec : {M : Type 1} → statement M
@@ -80,14 +64,11 @@ decide-spec =
     enum-told
     carry-out-requires
     enum-told-2
-    no-record-requires
-    keeps-requires
+    stays-requires
     enum-known-o
-    no-record-requires-2
-    keeps-requires-2
+    stays-requires-2
     enum-told-3
-    no-record-requires-3
-    keeps-requires-3
+    stays-requires-3
     enum-told-4
     rejected-requires
     enum-told-5

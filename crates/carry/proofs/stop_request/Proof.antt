@@ -30,10 +30,10 @@ returns : tie.Need-returns
 returns c = rw (c .before .before .before .before .before .mme .given .1, c .before .before .mce .given .1) (c .stop .ensures)
 
 returns-2 : tie.Need-returns-2
-returns-2 c = c .rejected .ensures ∙ no-second _ _ _ _ _ _ (c .before .before .before .before .mme .given .1) (c .before .enum-told .given .1)
+returns-2 c = c .rejected .ensures ∙ no-second _ _ _ _ _ (c .before .before .before .before .mme .given .1) (c .before .enum-told .given .1)
 
 returns-3 : tie.Need-returns-3
-returns-3 c = c .rejected2 .ensures ∙ no-first _ _ _ _ _ _ (c .before .enum-told2 .given .1)
+returns-3 c = c .rejected2 .ensures ∙ no-first _ _ _ _ _ (c .before .enum-told2 .given .1)
 
 pub stop-request-spec : {M : Type 1} → statement M
 stop-request-spec =

@@ -1,4 +1,4 @@
--- Of the rows passed, each had good octets and stands in the array; the empty association stands in the rest.
+-- Of the rows passed, each had good octets and stands in the array; the empty association stands in the rest. Then they are apart, or not.
 use Prim.Native.Nat.{_-_}
 use mathlib.Core.Path.{sym, ap, _∙_}
 use native.Mathlib.Omega.{arith}
@@ -6,7 +6,8 @@ use borrow.Author.Needs.{needs}
 use borrow.Author.Tests.{not-true, not-false}
 use lib.ListN.{length-drop}
 use Rattle.table.specs.declared.Table.{Table}
-use Rattle.lent.proofs.Reading.{ReadTo, tail-part, read-none, read-stop, read-more, read-all}
+use Rattle.lent.specs.Lent.{tableIn}
+use Rattle.lent.proofs.Reading.{ReadTo, tail-part, read-none, read-stop, read-more, read-shared, read-all}
 use Rattle.lent.proofs.rows_in.Statement.{statement}
 use Rattle.lent.proofs.rows_in.Tie as tie
 
@@ -70,8 +71,17 @@ loop-less c = omega arith
 loop-again : tie.Need-loop-again Inv-loop μ-loop
 loop-again c = read-more (c .before .before .before .before .before .before .loop .inv) (omega arith) (omega arith) (sym (c .before .before .before .session-good .ensures) ∙ not-false _ (c .before .before .if1 .left)) _ (c .row-of .ensures)
 
+identities-apart-requires : tie.Need-identities-apart-requires Inv-loop μ-loop
+identities-apart-requires c κs = search needs
+
+no-table-requires-2 : tie.Need-no-table-requires-2 Inv-loop μ-loop
+no-table-requires-2 c κs = search needs
+
 returns-2 : tie.Need-returns-2 Inv-loop μ-loop
-returns-2 c = read-all (c .before .loop .inv) (omega arith)
+returns-2 c = c .no-table2 .ensures ∙ ap tableIn (read-shared (c .before .before .before .before .loop .inv) (omega arith) (c .before .before .identities-apart .ensures) (not-true _ (c .before .if2 .taken)))
+
+returns-3 : tie.Need-returns-3 Inv-loop μ-loop
+returns-3 c = read-all (c .before .before .before .loop .inv) (omega arith) (c .before .identities-apart .ensures) (not-false _ (c .if2 .left))
 
 pub rows-in-spec : {M : Type 1} → statement M
 rows-in-spec =
@@ -97,4 +107,7 @@ rows-in-spec =
     add-at
     loop-less
     loop-again
-    returns-2)
+    identities-apart-requires
+    no-table-requires-2
+    returns-2
+    returns-3)

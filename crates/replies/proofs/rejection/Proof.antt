@@ -1,5 +1,5 @@
 -- `replies::rejection` meets its contract. By the case of the message, what was called says it. Assumes nothing.
-use Rattle.replies.specs.Replies.{rejection}
+use Rattle.replies.specs.Replies.{rejectionBody}
 use borrow.Author.Needs.{needs}
 use Rattle.replies.proofs.rejection.Statement.{statement}
 use Rattle.replies.proofs.rejection.Tie as tie
@@ -37,78 +37,60 @@ error-indication-requires-3 c κs = search needs
 enum-told-3 : tie.Need-enum-told-3
 enum-told-3 c = search needs
 
-no-record-requires : tie.Need-no-record-requires
-no-record-requires c κs = search needs
-
 enum-told-4 : tie.Need-enum-told-4
 enum-told-4 c = search needs
-
-no-record-requires-2 : tie.Need-no-record-requires-2
-no-record-requires-2 c κs = search needs
 
 enum-told-5 : tie.Need-enum-told-5
 enum-told-5 c = search needs
 
-no-record-requires-3 : tie.Need-no-record-requires-3
-no-record-requires-3 c κs = search needs
-
 enum-told-6 : tie.Need-enum-told-6
 enum-told-6 c = search needs
-
-no-record-requires-4 : tie.Need-no-record-requires-4
-no-record-requires-4 c κs = search needs
 
 enum-told-7 : tie.Need-enum-told-7
 enum-told-7 c = search needs
 
-no-record-requires-5 : tie.Need-no-record-requires-5
-no-record-requires-5 c κs = search needs
-
 enum-told-8 : tie.Need-enum-told-8
 enum-told-8 c = search needs
 
-no-record-requires-6 : tie.Need-no-record-requires-6
-no-record-requires-6 c κs = search needs
-
 returns : tie.Need-returns
-unfolding rejection
+unfolding rejectionBody
 returns c = rw (c .before .before .before .before .before .body .given .1, c .before .before .mme .given .1) (c .start-failure .ensures)
 
 returns-2 : tie.Need-returns-2
-unfolding rejection
+unfolding rejectionBody
 returns-2 c = rw (c .before .before .before .before .body .given .1, c .before .enum-told .given .1, ← c .before .before .before .before .before .before .of-frame .ensures) (c .error-indication .ensures)
 
 returns-3 : tie.Need-returns-3
-unfolding rejection
+unfolding rejectionBody
 returns-3 c = rw (c .before .before .body2 .given .1, ← c .before .before .before .before .of-frame .ensures) (c .error-indication2 .ensures)
 
 returns-4 : tie.Need-returns-4
-unfolding rejection
+unfolding rejectionBody
 returns-4 c = rw (c .before .enum-told2 .given .1, ← c .before .before .before .of-frame .ensures) (c .error-indication3 .ensures)
 
 returns-5 : tie.Need-returns-5
-unfolding rejection
-returns-5 c = rw (c .before .enum-told3 .given .1) (c .no-record .ensures)
+unfolding rejectionBody
+returns-5 c = rw (c .enum-told3 .given .1)
 
 returns-6 : tie.Need-returns-6
-unfolding rejection
-returns-6 c = rw (c .before .enum-told4 .given .1) (c .no-record2 .ensures)
+unfolding rejectionBody
+returns-6 c = rw (c .enum-told4 .given .1)
 
 returns-7 : tie.Need-returns-7
-unfolding rejection
-returns-7 c = rw (c .before .enum-told5 .given .1) (c .no-record3 .ensures)
+unfolding rejectionBody
+returns-7 c = rw (c .enum-told5 .given .1)
 
 returns-8 : tie.Need-returns-8
-unfolding rejection
-returns-8 c = rw (c .before .enum-told6 .given .1) (c .no-record4 .ensures)
+unfolding rejectionBody
+returns-8 c = rw (c .enum-told6 .given .1)
 
 returns-9 : tie.Need-returns-9
-unfolding rejection
-returns-9 c = rw (c .before .enum-told7 .given .1) (c .no-record5 .ensures)
+unfolding rejectionBody
+returns-9 c = rw (c .enum-told7 .given .1)
 
 returns-10 : tie.Need-returns-10
-unfolding rejection
-returns-10 c = rw (c .before .enum-told8 .given .1) (c .no-record6 .ensures)
+unfolding rejectionBody
+returns-10 c = rw (c .enum-told8 .given .1)
 
 pub rejection-spec : {M : Type 1} → statement M
 rejection-spec =
@@ -125,17 +107,11 @@ rejection-spec =
     enum-told-2
     error-indication-requires-3
     enum-told-3
-    no-record-requires
     enum-told-4
-    no-record-requires-2
     enum-told-5
-    no-record-requires-3
     enum-told-6
-    no-record-requires-4
     enum-told-7
-    no-record-requires-5
     enum-told-8
-    no-record-requires-6
     returns
     returns-2
     returns-3

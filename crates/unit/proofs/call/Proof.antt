@@ -1,79 +1,172 @@
--- `unit::call` meets its contract. No table; or what was decided is settled. Assumes nothing.
-use Rattle.unit.proofs.Laws.{found, no-table, table-size, on-table, off-table}
-use Rattle.unit.specs.Unit.{Call}
-use Rattle.carry.specs.Carry.{decided, coded}
-use Rattle.judge.specs.Judge.{judgedOf}
-use Rattle.judge.specs.declared.Judged.{Judged}
-use Rattle.table.proofs.Rows.{held-of}
-use Rattle.table.specs.Table.{State, held}
+-- `unit::call` meets its contract. No table; or what was decided is settled: the reply does not fit, or it stands, and then the table. Assumes nothing.
+use mathlib.Core.Path.{_≡_, refl, subst, _∙_}
+use mathlib.Core.List.{List}
+use Prim.Native.Nat.{ℕ}
 use denote.Ref.{now}
-use mathlib.Core.Path.{_∙_, ap, refl}
+use borrow.Author.Tests.{not-true, not-false}
+use Rattle.records.specs.declared.Record.{Record}
+use Rattle.table.specs.Table.{held}
+use Rattle.replies.specs.Replies.{replied}
+use Rattle.judge.specs.Judge.{judgedOf}
+use Rattle.carry.specs.Carry.{Decided, applied, decided}
+use Rattle.unit.specs.declared.Back as back
+use Rattle.unit.specs.Unit.{Call, replyOf, settled, call, Called}
+use Rattle.unit.proofs.Laws.{Put, Found, found, found-held, no-table, written-put, reply-of, decided-by, no-room, done, silent, on-table, off-table}
 use borrow.Author.Needs.{needs}
 use Rattle.unit.proofs.call.Statement.{statement}
 use Rattle.unit.proofs.call.Tie as tie
 
+-- ---- once the reply is written, or not
+
+abbrev table : tie.After-write-body → List ℕ
+table w = now (w .before .before .before .before .before .before .before .before .before .before .before .before .before .before .before .before .before .before .before .before .args .table)
+
+abbrev asking : tie.After-write-body → Call
+asking w = let a = w .before .before .before .before .before .before .before .before .before .before .before .before .before .before .before .before .before .before .before .before .args in record { message = now (a .message); offered = a .offered; room = now (a .room) }
+
+-- the table that was read
+read : (w : tie.After-write-body) → Found (table w) (w .before .before .before .before .before .before .before .before .before .before .before .before .before .before .before .table-in .result) (w .before .before .before .before .before .before .before .before .before .before .before .before .before .before .before .table-in .ensures)
+read w = found (table w) (w .before .before .before .before .before .before .before .before .before .before .before .before .before .before .before .table-in .result) (w .before .before .before .before .before .before .before .before .before .before .before .before .before .before .before .table-in .ensures) (not-false _ (w .before .before .before .before .before .before .before .before .before .before .before .before .before .if1 .left))
+
+-- the reply, and what was decided
+abbrev reply : tie.After-write-body → Record
+reply w = replied (w .before .before .before .before .before .before .acknowledged .result) (w .before .before .before .before .before .before .before .before .before .before .before .before .judge .result .verdict .noted) (w .before .before .before .decide .result .reply)
+
+abbrev made : tie.After-write-body → Decided
+made w =
+    applied (held (w .before .before .before .before .before .before .before .before .before .before .before .before .before .before .before .table-in .result .table)) (w .before .before .before .before .before .before .before .before .before .before .before .before .judge .result .verdict .message .items) (w .before .before .before .before .before .before .acknowledged .result) (w .before .before .before .before .before .before .before .before .before .before .before .before .judge .result .verdict .noted)
+    (w .before .before .before .decide .result)
+
+written : (w : tie.After-write-body) → Put (asking w .room) (replyOf (made w)) (w .write-body .result) (w .write-body .last .1 .1 .1 .1 .0)
+written w =
+    let v = w .before .before .before .before .before .before .before .before .before .before .before .before .judge .result .verdict in
+    let k = w .before .before .before .before .before .before .acknowledged .result in
+    let d = w .before .before .before .decide .result in
+    subst (λ (os : List ℕ). Put (asking w .room) os (w .write-body .result) (w .write-body .last .1 .1 .1 .1 .0)) (reply-of (held (w .before .before .before .before .before .before .before .before .before .before .before .before .before .before .before .table-in .result .table)) (v .message .items) (reply w) (d .change))
+    (written-put (asking w .room) k (v .noted) (d .reply) _ refl (w .write-body .ensures))
+
+settles : (w : tie.After-write-body) {r : back.Back} {t d : List ℕ} → Called (settled (table w) (asking w .room) (made w)) r t d → Called (call (table w) (asking w)) r t d
+settles w {r} {t} {d} h =
+    let e = read w in
+    on-table (table w) (asking w) (e .state) (e .held)
+    (subst (λ (x : Decided). Called (settled (table w) (asking w .room) x) r t d)
+    (decided-by (e .state) (asking w .offered) (asking w .message) (e .table) (w .before .before .before .before .before .before .before .before .before .before .before .before .judge .ensures) (w .before .before .before .before .before .before .acknowledged .ensures) (w .before .before .before .before .before .asked .ensures) (w .before .before .before .before .look-up .ensures) (w .before .before .before .decide .ensures)) h)
+
+-- ---- what is left to prove
+
 table-in-requires : tie.Need-table-in-requires
 table-in-requires c κs = search needs
 
-judge-requires : tie.Need-judge-requires
-judge-requires c κs = search needs
-
-decide-requires : tie.Need-decide-requires
-decide-requires c κs = search needs
-
-sub-settle : tie.Need-sub-settle
-sub-settle c = search needs
-
-part-settle-start : tie.Need-part-settle-start
-part-settle-start c = search needs
-
-part-settle-end : tie.Need-part-settle-end
-part-settle-end c = search needs
-
-settle-requires : tie.Need-settle-requires
-settle-requires c κs = let h = found (now (c .before .before .before .before .before .before .before .before .before .before .before .before .args .table)) (c .before .before .before .before .before .before .before .table-in .result) (c .before .before .before .before .before .before .before .table-in .ensures) (c .before .before .before .before .before .before .if1 .taken) in (refl, table-size (now (c .before .before .before .before .before .before .before .before .before .before .before .before .args .table)) (h .state) (h .held))
+hand-back-requires : tie.Need-hand-back-requires
+hand-back-requires c κs = search needs
 
 same-length : tie.Need-same-length
 same-length c = search needs
 
+returns : tie.Need-returns
+returns c = let a = c .before .before .before .before .before .before .before .before .args in rw (c .hand-back .ensures) (off-table (now (a .table)) (record { message = now (a .message); offered = a .offered; room = now (a .room) }) (no-table (now (a .table)) (c .before .before .before .table-in .result) (c .before .before .before .table-in .ensures) (not-true _ (c .before .if1 .taken))))
+
+judge-requires : tie.Need-judge-requires
+judge-requires c κs = search needs
+
+acknowledged-requires : tie.Need-acknowledged-requires
+acknowledged-requires c κs = search needs
+
+asked-requires : tie.Need-asked-requires
+asked-requires c κs = search needs
+
+look-up-requires : tie.Need-look-up-requires
+look-up-requires c κs = search needs
+
+decide-requires : tie.Need-decide-requires
+decide-requires c κs = search needs
+
+sub-write-body : tie.Need-sub-write-body
+sub-write-body c = search needs
+
+part-write-body-start : tie.Need-part-write-body-start
+part-write-body-start c = search needs
+
+part-write-body-end : tie.Need-part-write-body-end
+part-write-body-end c = search needs
+
+write-body-requires : tie.Need-write-body-requires
+write-body-requires c κs = search needs
+
+enum-known-n : tie.Need-enum-known-n
+enum-known-n c = search needs
+
+finish-requires : tie.Need-finish-requires
+finish-requires c κs = let w = c .before .before .before .before .before .before in found-held (table w) (w .before .before .before .before .before .before .before .before .before .before .before .before .before .before .before .table-in .result) (w .before .before .before .before .before .before .before .before .before .before .before .before .before .before .before .table-in .ensures) (read w)
+
+enum-told : tie.Need-enum-told
+enum-told c = search needs
+
+hand-back-requires-2 : tie.Need-hand-back-requires-2
+hand-back-requires-2 c κs = search needs
+
+enum-told-2 : tie.Need-enum-told-2
+enum-told-2 c = search needs
+
+finish-requires-2 : tie.Need-finish-requires-2
+finish-requires-2 c κs = let w = c .before .before .before .before .before in found-held (table w) (w .before .before .before .before .before .before .before .before .before .before .before .before .before .before .before .table-in .result) (w .before .before .before .before .before .before .before .before .before .before .before .before .before .before .before .table-in .ensures) (read w)
+
 same-length-2 : tie.Need-same-length-2
 same-length-2 c = search needs
-
-returns : tie.Need-returns
-returns c = let h = found (now (c .before .before .before .before .before .before .before .before .before .before .before .before .before .before .before .before .before .args .table)) (c .before .before .before .before .before .before .before .before .before .before .before .before .table-in .result) (c .before .before .before .before .before .before .before .before .before .before .before .before .table-in .ensures) (c .before .before .before .before .before .before .before .before .before .before .before .if1 .taken) in
-    let s = now (c .before .before .before .before .before .before .before .before .before .before .before .before .before .before .before .before .before .args .table) in
-    let m = now (c .before .before .before .before .before .before .before .before .before .before .before .before .before .before .before .before .before .args .message) in
-    let o = c .before .before .before .before .before .before .before .before .before .before .before .before .before .before .before .before .before .args .offered in
-    let q : Call = record { message = m; offered = o; room = now (c .before .before .before .before .before .before .before .before .before .before .before .before .before .before .before .before .before .args .room) } in
-    let t = c .before .before .before .before .before .before .before .before .before .before .before .before .table-in .result .table in
-    let e = c .before .before .before .before .before .before .before .before .decide .ensures
-    ∙ (ap (λ (y : State). coded t (decided y o (c .before .before .before .before .before .before .before .before .before .judge .result))) (ap held (h .table) ∙ held-of (h .state))
-    ∙ ap (λ (j : Judged). coded t (decided (h .state) o j)) (c .before .before .before .before .before .before .before .before .before .judge .ensures)) in
-    on-table s q (h .state) (h .held) (c .before .before .before .before .settle .ensures t (decided (h .state) o (judgedOf m)) e)
-
-hand-back-requires : tie.Need-hand-back-requires
-hand-back-requires c κs = search needs
 
 same-length-3 : tie.Need-same-length-3
 same-length-3 c = search needs
 
 returns-2 : tie.Need-returns-2
-returns-2 c = rw (c .hand-back .ensures) (off-table (now (c .before .before .before .before .before .before .before .args .table)) (record { message = now (c .before .before .before .before .before .before .before .args .message); offered = c .before .before .before .before .before .before .before .args .offered; room = now (c .before .before .before .before .before .before .before .args .room) }) (no-table (now (c .before .before .before .before .before .before .before .args .table)) (c .before .before .table-in .result) (c .before .before .table-in .ensures) (c .before .if1 .left)))
+returns-2 c = let w = c .before .before .before .before .before .before .before .before .before in let f = c .before .before .finish .ensures (reply w) in settles w (rw (f .back) (done _ _ (made w) (rw (c .before .before .before .before .before .n .given .1) at (written w)) refl (f .table)))
+
+same-length-4 : tie.Need-same-length-4
+same-length-4 c = search needs
+
+same-length-5 : tie.Need-same-length-5
+same-length-5 c = search needs
+
+returns-3 : tie.Need-returns-3
+returns-3 c = let w = c .before .before .before .before .before in settles w (rw (c .hand-back2 .ensures) (no-room _ _ (made w) (rw (c .before .enum-told .given .1) at (written w))))
+
+same-length-6 : tie.Need-same-length-6
+same-length-6 c = search needs
+
+same-length-7 : tie.Need-same-length-7
+same-length-7 c = search needs
+
+returns-4 : tie.Need-returns-4
+returns-4 c = let w = c .before .before .before .before .before .before .before .before in let f = c .before .before .finish2 .ensures (reply w) in settles w (rw (f .back) (silent _ _ (made w) (rw (c .before .before .before .before .enum-told2 .given .1) at (written w)) refl (f .table)))
 
 pub call-spec : {M : Type 1} → statement M
 call-spec =
     tie.close
     (tie.spec
     table-in-requires
-    judge-requires
-    decide-requires
-    sub-settle
-    part-settle-start
-    part-settle-end
-    settle-requires
-    same-length
-    same-length-2
-    returns
     hand-back-requires
+    same-length
+    returns
+    judge-requires
+    acknowledged-requires
+    asked-requires
+    look-up-requires
+    decide-requires
+    sub-write-body
+    part-write-body-start
+    part-write-body-end
+    write-body-requires
+    enum-known-n
+    finish-requires
+    enum-told
+    hand-back-requires-2
+    enum-told-2
+    finish-requires-2
+    same-length-2
     same-length-3
-    returns-2)
+    returns-2
+    same-length-4
+    same-length-5
+    returns-3
+    same-length-6
+    same-length-7
+    returns-4)

@@ -1,0 +1,314 @@
+//! Both programs on the same seeded cases, octet for octet.
+use crate::layout::{record_octets, record_of, Lists, ENTRIES, ENTRY, ENTRY_COUNT, ITEM, ITEMS, ITEM_COUNT, OCTETS, SLOT, SLOTS};
+use crate::ours::{self, Answer};
+use second::make::{Calls, Reads, Rng, Step};
+use second::text::hex;
+use second::{Fault, Read, Record, Refused, LIMIT, ROW_OCTETS, TABLE_OCTETS};
+use std::collections::BTreeMap;
+
+/// What lent octets hold before a call, so that it is seen which of them were written.
+const FILL: u8 = 0xA5;
+/// How many octets behind what is lent are looked at.
+const BEHIND: usize = 16;
+/// A room in which any message leaves octets.
+const LARGE: usize = LIMIT + 100;
+
+/// How many cases of a kind were equal, and with which answers.
+struct Kind {
+    name: &'static str,
+    answers: BTreeMap<u32, usize>,
+}
+
+impl Kind {
+    fn new(name: &'static str) -> Self {
+        Kind { name, answers: BTreeMap::new() }
+    }
+
+    fn cases(&self) -> usize {
+        self.answers.values().sum()
+    }
+
+    /// One case: answers and octets of both, ours first.
+    fn case(&mut self, ours: (Answer, &[&[u8]]), second: (Answer, &[&[u8]]), inputs: &[(&str, &[u8])]) -> Result<(), String> {
+        if ours == second {
+            *self.answers.entry(ours.0.answer).or_default() += 1;
+            return Ok(());
+        }
+        let mut text = format!("{}: case {} differs\nours   {:?}\nsecond {:?}", self.name, self.cases() + 1, ours.0, second.0);
+        for (a, b) in ours.1.iter().zip(second.1) {
+            if let Some(at) = (0..a.len().max(b.len())).find(|&at| a.get(at) != b.get(at)) {
+                text += &format!("\nfirst octet that differs: {at}\nours   {}\nsecond {}", hex(a), hex(b));
+            }
+        }
+        for (name, octets) in inputs {
+            text += &format!("\n{name} ({} octets): {}", octets.len(), hex(octets));
+        }
+        Err(text)
+    }
+
+    fn print(&self) {
+        let by_answer: Vec<String> = self.answers.iter().map(|(answer, n)| format!("{answer}: {n}")).collect();
+        println!("{}: {}, equal (answer {})", self.name, self.cases(), by_answer.join(", "));
+    }
+}
+
+fn answered(answer: u32, place: usize, octets: usize) -> Answer {
+    Answer { answer, place: place as u32, octets: octets as u32 }
+}
+
+// ---- the second program, by the header
+
+/// What `m3ap_read` must do, by the second program's reading. The record's octets go to `whole`.
+fn read_by_second(read: &Read, message: &[u8], whole: &mut [u8; OCTETS]) -> Answer {
+    match read {
+        Read::TooLong => answered(1, 0, 0),
+        Read::Faulty(Fault::Encoding(at)) => answered(2, *at, 0),
+        Read::Faulty(Fault::Extension(at)) => answered(3, *at, 0),
+        Read::NotOurs => answered(4, 0, 0),
+        Read::Message(reading) => {
+            record_octets(reading, message, whole);
+            answered(if reading.rejected.is_some() { 5 } else { 0 }, 0, OCTETS)
+        }
+    }
+}
+
+fn write_by_second(record: Option<&Record>, room: &mut [u8]) -> Answer {
+    match record.map(|record| second::write(record, room)) {
+        Some(Ok(size)) => answered(0, 0, size),
+        Some(Err(Refused::Room)) => answered(10, 0, 0),
+        Some(Err(Refused::Record)) | None => answered(11, 0, 0),
+    }
+}
+
+pub fn call_by_second(table: &mut [u8], message: &[u8], offered: u16, room: &mut [u8]) -> Answer {
+    let done = second::call(table, message, offered, room);
+    answered(done.answer.into(), done.offset, done.reply)
+}
+
+// ---- reading and writing
+
+/// The front of both rooms as it is before a call: what is lent, and some octets behind it.
+fn front(rooms: &mut [Vec<u8>; 2], lent: usize) -> (&mut [u8], &mut [u8]) {
+    let [a, b] = rooms;
+    let (a, b) = (&mut a[..lent + BEHIND], &mut b[..lent + BEHIND]);
+    a.fill(FILL);
+    b.fill(FILL);
+    (a, b)
+}
+
+struct Messages {
+    rng: Rng,
+    reads: Kind,
+    small: Kind,
+    /// By room: large, exact, an octet short.
+    writes: [Kind; 3],
+    damaged: Kind,
+    lists: Box<Lists>,
+    rooms: [Vec<u8>; 2],
+}
+
+impl Messages {
+    fn message(&mut self, message: &[u8]) -> Result<(), String> {
+        let read = second::read(message);
+        let mut record = [0; OCTETS];
+        let due = read_by_second(&read, message, &mut record);
+        let put = due.octets as usize;
+
+        let size = OCTETS + if self.rng.percent(50) { 0 } else { self.rng.below(OCTETS) };
+        let (a, b) = front(&mut self.rooms, size);
+        b[..put].copy_from_slice(&record[..put]);
+        let got = ours::read(message, &mut a[..size]);
+        self.reads.case((got, &[a]), (due, &[b]), &[("message", message)])?;
+
+        // One octet short, or any number of them.
+        let size = if self.rng.percent(50) { OCTETS - 1 } else { self.rng.below(OCTETS) };
+        let (a, b) = front(&mut self.rooms, size);
+        let got = ours::read(message, &mut a[..size]);
+        let due = if put > 0 { answered(10, 0, 0) } else { due };
+        self.small.case((got, &[a]), (due, &[b]), &[("message", message)])?;
+
+        if let Read::Message(reading) = &read {
+            self.write(&reading.record, &record, message)?;
+            self.damage(&record, message)?;
+        }
+        Ok(())
+    }
+
+    fn write(&mut self, record: &Record, octets: &[u8], values: &[u8]) -> Result<(), String> {
+        let size = second::write(record, &mut self.rooms[1]).unwrap_or(0);
+        for (kind, size) in self.writes.iter_mut().zip([LARGE, size, size.saturating_sub(1)]) {
+            let (a, b) = front(&mut self.rooms, size);
+            let got = ours::write(octets, values, &mut a[..size]);
+            let due = write_by_second(Some(record), &mut b[..size]);
+            kind.case((got, &[a]), (due, &[b]), &[("record", octets), ("values", values)])?;
+        }
+        Ok(())
+    }
+
+    /// Octets of a record with some of them changed: what they are, if they are a record still, or 11.
+    fn damage(&mut self, octets: &[u8; OCTETS], message: &[u8]) -> Result<(), String> {
+        let rng = &mut self.rng;
+        let mut octets = octets.to_vec();
+        for _ in 0..rng.pick(&[1, 1, 1, 2, 3]) {
+            let at = place_in_record(rng, &octets);
+            octets[at] = changed(rng, octets[at]);
+        }
+        // Now and then fewer values, so that carried ones lie outside; and octets that are too few or too many for a record.
+        let values = &message[..if rng.one_in(8) { rng.below(message.len() + 1) } else { message.len() }];
+        if rng.one_in(50) {
+            let size = rng.pick(&[0, 1, OCTETS - 1, OCTETS + 1, 2 * OCTETS]);
+            octets.resize(size, 0);
+        }
+
+        let record = record_of(&octets, values, &mut self.lists);
+        let size = record.as_ref().and_then(|record| second::write(record, &mut self.rooms[1]).ok()).unwrap_or(0);
+        let size = rng.pick(&[LARGE, size, size.saturating_sub(1), 0]);
+        let (a, b) = front(&mut self.rooms, size);
+        let got = ours::write(&octets, values, &mut a[..size]);
+        let due = write_by_second(record.as_ref(), &mut b[..size]);
+        self.damaged.case((got, &[a]), (due, &[b]), &[("record", &octets), ("values", values)])
+    }
+}
+
+/// A place in a record's octets, mostly where something is said or where it ends.
+fn place_in_record(rng: &mut Rng, octets: &[u8]) -> usize {
+    let number = |at: usize| u16::from_be_bytes([octets[at], octets[at + 1]]) as usize;
+    let (items, entries) = (number(ITEM_COUNT).min(255), number(ENTRY_COUNT).min(255));
+    let there: Vec<usize> = (0..12).map(|slot| SLOTS + SLOT * slot).filter(|&at| octets[at] != 0).collect();
+    match rng.below(20) {
+        0 => 0,
+        1 => 1,
+        2..=6 if !there.is_empty() => rng.pick(&there) + rng.between(1, 4),
+        7 | 8 if !there.is_empty() => rng.pick(&there) + rng.below(SLOT),
+        9 => SLOTS + SLOT * rng.below(12),
+        10 => rng.between(SLOTS, ITEM_COUNT - 1),
+        11 => rng.between(ITEM_COUNT, ITEM_COUNT + 1),
+        12..=14 => ITEMS + rng.below((items + 1) * ITEM),
+        15 => rng.between(ENTRY_COUNT, ENTRY_COUNT + 1),
+        16..=18 => ENTRIES + rng.below((entries + 1) * ENTRY),
+        _ => rng.below(OCTETS),
+    }
+}
+
+/// Another octet: a small one, one that is near, or any.
+fn changed(rng: &mut Rng, octet: u8) -> u8 {
+    let other = match rng.below(4) {
+        0 => rng.below(4) as u8,
+        1 => octet ^ 1 << rng.below(8),
+        2 => octet.wrapping_add(rng.pick(&[1, 255])),
+        _ => rng.word() as u8,
+    };
+    if other == octet { octet ^ 1 } else { other }
+}
+
+// ---- calls
+
+struct Tables {
+    rng: Rng,
+    calls: Kind,
+    damaged: Kind,
+    tables: [Vec<u8>; 2],
+    rooms: [Vec<u8>; 2],
+}
+
+impl Tables {
+    fn step(&mut self, step: Step) -> Result<(), String> {
+        let Step::Call { offered, room, message, .. } = step else {
+            self.tables.iter_mut().for_each(|table| table.fill(0));
+            return Ok(());
+        };
+        let mut spoilt = spoil(&mut self.rng, &self.tables[0]);
+        one_call(&mut self.damaged, [&mut spoilt.clone(), &mut spoilt], &mut self.rooms, offered, room.into(), &message)?;
+        let [a, b] = &mut self.tables;
+        one_call(&mut self.calls, [a, b], &mut self.rooms, offered, room.into(), &message)
+    }
+}
+
+/// A call by both, on tables that are equal.
+fn one_call(kind: &mut Kind, [x, y]: [&mut Vec<u8>; 2], rooms: &mut [Vec<u8>; 2], offered: u16, room: usize, message: &[u8]) -> Result<(), String> {
+    let before = x.clone();
+    let (a, b) = front(rooms, room);
+    let got = ours::call(x, message, offered, &mut a[..room]);
+    let due = call_by_second(y, message, offered, &mut b[..room]);
+    kind.case((got, &[x, a]), (due, &[y, b]), &[("table", &before), ("offered", &offered.to_be_bytes()), ("message", message)])
+}
+
+/// A table with some octets changed, an identity put in another row too, or of another size: mostly none, and now and then another table.
+fn spoil(rng: &mut Rng, table: &[u8]) -> Vec<u8> {
+    let mut table = table.to_vec();
+    let held = u16::from_be_bytes([table[0], table[1]]) as usize;
+    match rng.below(12) {
+        0 => {
+            let size = rng.pick(&[0, 1, 2, TABLE_OCTETS - ROW_OCTETS, TABLE_OCTETS - 1, TABLE_OCTETS + 1, TABLE_OCTETS + ROW_OCTETS]);
+            table.resize(size, 0);
+        }
+        1 => {
+            let at = rng.below(2);
+            table[at] = changed(rng, table[at]);
+        }
+        2 | 3 if held > 1 => {
+            let series = 2 * rng.below(2);
+            let (from, to) = (2 + ROW_OCTETS * rng.below(held) + series, 2 + ROW_OCTETS * rng.below(held) + series);
+            table.copy_within(from..from + 2, to);
+        }
+        4 | 5 if held > 0 => {
+            // The flag of a Session Identity, or the identity.
+            let at = 2 + ROW_OCTETS * rng.below(held) + rng.between(10, 11);
+            table[at] = changed(rng, table[at]);
+        }
+        6..=8 if held > 0 => {
+            let at = 2 + rng.below(ROW_OCTETS * held);
+            table[at] = changed(rng, table[at]);
+        }
+        9 if held < 256 => {
+            let at = 2 + ROW_OCTETS * held + rng.below(ROW_OCTETS);
+            table[at] = changed(rng, table[at]);
+        }
+        _ => {
+            let at = rng.below(TABLE_OCTETS);
+            table[at] = changed(rng, table[at]);
+        }
+    }
+    table
+}
+
+/// At least `count` cases of each kind: messages are made until that many records were read.
+pub fn compare(seed: u64, count: usize) -> Result<(), String> {
+    // A room's size is two octets in a call's case.
+    let rooms = || [vec![FILL; usize::from(u16::MAX) + BEHIND], vec![FILL; usize::from(u16::MAX) + BEHIND]];
+    let mut m = Messages {
+        rng: Rng::new(!seed),
+        reads: Kind::new("reads"),
+        small: Kind::new("reads, room too small"),
+        writes: ["writes, large room", "writes, exact room", "writes, room an octet short"].map(Kind::new),
+        damaged: Kind::new("writes of damaged records"),
+        lists: Box::new(Lists::new()),
+        rooms: rooms(),
+    };
+    for message in Reads::new(seed) {
+        if m.writes[0].cases() >= count {
+            break;
+        }
+        m.message(&message)?;
+    }
+    for kind in [&m.reads, &m.small].into_iter().chain(&m.writes).chain([&m.damaged]) {
+        kind.print();
+    }
+    let mut t = Tables {
+        rng: Rng::new(!seed),
+        calls: Kind::new("calls"),
+        damaged: Kind::new("calls on damaged tables"),
+        tables: [vec![0; TABLE_OCTETS], vec![0; TABLE_OCTETS]],
+        rooms: rooms(),
+    };
+    for step in Calls::new(seed) {
+        if t.calls.cases() >= count {
+            break;
+        }
+        t.step(step)?;
+    }
+    for kind in [&t.calls, &t.damaged] {
+        kind.print();
+    }
+    Ok(())
+}

@@ -1,0 +1,79 @@
+//! The messages that are measured, encoded by hand.
+
+fn length(n: usize) -> Vec<u8> {
+    if n < 128 { vec![n as u8] } else { vec![0x80 | (n >> 8) as u8, n as u8] }
+}
+
+fn element(id: u16, crit: u8, value: &[u8]) -> Vec<u8> {
+    [&id.to_be_bytes()[..], &[crit << 6], &length(value.len()), value].concat()
+}
+
+fn message(choice: u8, code: u8, elements: &[Vec<u8>]) -> Vec<u8> {
+    let inside = [&[0][..], &(elements.len() as u16).to_be_bytes(), &elements.concat()].concat();
+    [&[choice << 5, code, 0][..], &length(inside.len()), &inside].concat()
+}
+
+/// Some 150 octets, carried values as long as in practice.
+pub fn start(mme: u16) -> Vec<u8> {
+    let mut e = vec![element(0, 0, &mme.to_be_bytes()), element(2, 0, &[0, 1, 2, 3, 4, 5, 6])];
+    e.extend([(4, 9), (5, 3), (6, 40), (16, 2), (7, 18), (21, 8), (25, 20)].map(|(id, n)| element(id, u8::from(id == 21), &vec![7; n])));
+    message(0, 0, &e)
+}
+
+pub fn stop(mme: u16, mce: u16) -> Vec<u8> {
+    message(0, 1, &[element(0, 0, &mme.to_be_bytes()), element(1, 0, &mce.to_be_bytes())])
+}
+
+fn items(items: &[(u16, u16)], crit: u8) -> Vec<u8> {
+    let list: Vec<Vec<u8>> = items.iter().map(|&(m, c)| element(14, crit, &[&[0x60][..], &m.to_be_bytes(), &c.to_be_bytes()].concat())).collect();
+    [&[(items.len() - 1) as u8][..], &list.concat()].concat()
+}
+
+pub fn reset(list: &[(u16, u16)]) -> Vec<u8> {
+    message(0, 4, &[element(9, 1, &[0x42]), element(13, 0, &[&[0x40][..], &items(list, 0)].concat())])
+}
+
+pub fn acknowledge(list: &[(u16, u16)]) -> Vec<u8> {
+    message(1, 4, &[element(15, 1, &items(list, 1))])
+}
+
+/// The k-th association's identities.
+pub fn identities(k: u16) -> (u16, u16) {
+    (k.wrapping_mul(257), 65535 - k)
+}
+
+/// Offers and messages of an evening: starts, stops, resets of one or three pairs, seldom a reset of all. Some 60 associations are held, and half of the entries are carried out.
+pub fn evening(entries: usize) -> Vec<(u16, Vec<u8>)> {
+    let mut rng = second::make::Rng::new(1);
+    let mut all = Vec::new();
+    while all.len() < entries {
+        let (a, b) = (rng.below(240) as u16, rng.below(240) as u16);
+        // Mostly one pair for each identity, so that stops and resets find what was started.
+        let pair = if rng.percent(80) { (a, 2 * a) } else { (a, b) };
+        all.push(match rng.below(200) {
+            0..=104 => (pair.1, start(pair.0)),
+            105..=185 => (0, stop(pair.0, pair.1)),
+            186..=192 => (0, reset(&[pair, (b, a), (b, 2 * b)])),
+            193..=198 => (0, reset(&[pair])),
+            _ => (0, message(0, 4, &[element(9, 1, &[0x42]), element(13, 0, &[0])])),
+        });
+    }
+    all
+}
+
+#[cfg(test)]
+mod tests {
+    use super::*;
+
+    #[test]
+    fn an_evening_is_mostly_carried_out() {
+        let mut table = [0; second::TABLE_OCTETS];
+        let (mut answers, mut held) = ([0; 22], 0);
+        for (offered, message) in evening(2000) {
+            answers[second::call(&mut table, &message, offered, &mut [0; second::LIMIT]).answer as usize] += 1;
+            held += u16::from_be_bytes([table[0], table[1]]) as usize;
+        }
+        assert!(answers[0] > 1000, "{answers:?}");
+        assert!((30..150).contains(&(held / 2000)), "{}", held / 2000);
+    }
+}

@@ -1,0 +1,179 @@
+//! Times, as ratios to the second program. Both take turns on the same octets and the same rooms, which the rounds before have warmed; the least round counts.
+use crate::compare::call_by_second;
+use crate::layout::{record_octets, record_of, Lists, OCTETS};
+use crate::made::{acknowledge, evening, identities, reset, start, stop};
+use crate::ours::{self, Answer};
+use second::{Read, Reading, LIMIT, TABLE_OCTETS};
+use std::cell::RefCell;
+use std::hint::black_box;
+use std::time::Instant;
+
+/// Many short rounds: some of them are not disturbed by other work of the machine.
+const ROUNDS: usize = 200;
+const ROUND_NS: f64 = 5e5;
+
+/// Nanoseconds a turn.
+fn timed(turns: usize, turn: &mut dyn FnMut()) -> f64 {
+    let from = Instant::now();
+    for _ in 0..turns {
+        turn();
+    }
+    from.elapsed().as_secs_f64() * 1e9 / turns as f64
+}
+
+/// The least of the rounds. How many turns make a round is found first, which warms.
+fn row(name: &str, per: usize, ours: &mut dyn FnMut(), second: &mut dyn FnMut()) {
+    let turns = |turn: &mut dyn FnMut()| (ROUND_NS / timed(20, turn).max(1.0)).ceil() as usize;
+    let (a, b) = (turns(ours), turns(second));
+    let (mut x, mut y) = (f64::MAX, f64::MAX);
+    for _ in 0..ROUNDS {
+        x = x.min(timed(a, ours));
+        y = y.min(timed(b, second));
+    }
+    println!("| {name} | {:.0} | {:.0} | {:.2} |", x / per as f64, y / per as f64, x / y);
+}
+
+fn head(title: &str) {
+    println!("{title}\n\n| | ours, ns | second, ns | ratio |\n|---|---|---|---|");
+}
+
+// ---- reading and writing
+
+fn reading(message: &[u8]) -> Reading<'_> {
+    match second::read(message) {
+        Read::Message(reading) => reading,
+        _ => unreachable!("a message that is measured is read"),
+    }
+}
+
+fn read_rows(name: &str, message: &[u8]) {
+    let (mut room, mut record) = ([0; OCTETS], [0; OCTETS]);
+    assert_eq!(ours::read(message, &mut room).answer, 0);
+    record_octets(&reading(message), message, &mut record);
+    assert_eq!(room, record);
+    let name = format!("read {name} ({} octets)", message.len());
+    let mut ours = || {
+        black_box(ours::read(black_box(message), &mut room));
+    };
+    row(&format!("{name}; second: `read`, record octets made"), 1, &mut ours, &mut || {
+        if let Read::Message(reading) = second::read(black_box(message)) {
+            record_octets(&reading, message, &mut record);
+        }
+        black_box(&mut record);
+    });
+    row(&format!("{name}; second: `read` alone"), 1, &mut ours, &mut || {
+        black_box(second::read(black_box(message)));
+    });
+}
+
+fn write_rows(name: &str, message: &[u8]) {
+    let mut octets = [0; OCTETS];
+    let (mut room, mut other) = ([0; LIMIT], [0; LIMIT]);
+    record_octets(&reading(message), message, &mut octets);
+    let (mut lists, mut lists_again) = (Lists::new(), Lists::new());
+    let record = record_of(&octets, message, &mut lists).expect("a record");
+    assert_eq!(ours::write(&octets, message, &mut room), Answer { answer: 0, place: 0, octets: message.len() as u32 });
+    assert_eq!(second::write(&record, &mut other), Ok(message.len()));
+    assert_eq!(room, other);
+    let name = format!("write {name} ({} octets)", message.len());
+    let mut ours = || {
+        black_box(ours::write(black_box(&octets), message, &mut room));
+    };
+    row(&format!("{name}; second: record octets taken, `write`"), 1, &mut ours, &mut || {
+        let record = record_of(black_box(&octets), message, &mut lists_again);
+        let _ = black_box(record.map(|record| second::write(&record, &mut other)));
+    });
+    row(&format!("{name}; second: `write` alone"), 1, &mut ours, &mut || {
+        let _ = black_box(second::write(black_box(&record), &mut other));
+    });
+}
+
+// ---- calls
+
+type Call = fn(&mut [u8], &[u8], u16, &mut [u8]) -> Answer;
+
+/// The same turn by both. It gives its last answer.
+fn call_row(name: &str, per: usize, mut turn: impl FnMut(Call) -> Answer) {
+    assert_eq!(turn(ours::call), turn(call_by_second));
+    let turn = RefCell::new(turn);
+    let by = |call: Call| {
+        black_box((turn.borrow_mut())(call));
+    };
+    row(name, per, &mut || by(ours::call), &mut || by(call_by_second));
+}
+
+/// A table of the first n associations.
+fn held(n: u16) -> Vec<u8> {
+    let mut table = vec![0; TABLE_OCTETS];
+    for k in 0..n {
+        let (m, c) = identities(k);
+        assert_eq!(call_by_second(&mut table, &start(m), c, &mut [0; LIMIT]).answer, 0);
+    }
+    table
+}
+
+/// A reset, on a table that is put back each time (for both).
+fn reset_row(items: &[(u16, u16)], n: u16) {
+    let full = held(n);
+    let mut table = full.clone();
+    let mut room = [0; LIMIT];
+    let message = reset(items);
+    let plural = if items.len() == 1 { "" } else { "s" };
+    call_row(&format!("call RESET, {} item{plural} ({} octets), {n} held", items.len(), message.len()), 1, |call| {
+        table.copy_from_slice(&full);
+        call(&mut table, black_box(&message), 0, &mut room)
+    });
+}
+
+fn call_rows(items: &[(u16, u16)]) {
+    let mut room = [0; LIMIT];
+    for n in [0, 16, 255] {
+        let mut table = held(n);
+        let (a, z) = (start(300), stop(300, 300));
+        call_row(&format!("call START REQUEST, then STOP REQUEST, {n} held"), 1, |call| {
+            black_box(call(&mut table, black_box(&a), 300, &mut room));
+            call(&mut table, black_box(&z), 0, &mut room)
+        });
+    }
+    reset_row(items, 256);
+    reset_row(items, 0);
+    let mut table = held(255);
+    let one = reset(&[identities(300)]);
+    call_row("call RESET, 1 item that is not held, 255 held", 1, |call| {
+        call(&mut table, black_box(&one), 0, &mut room)
+    });
+    let entries = evening(2000);
+    call_row(&format!("capture of {} entries by calls, per entry", entries.len()), entries.len(), |call| {
+        table.fill(0);
+        entries.iter().fold(Answer { answer: 0, place: 0, octets: 0 }, |_, (offered, message)| black_box(call(&mut table, message, *offered, &mut room)))
+    });
+}
+
+fn growth(items: &[(u16, u16)]) {
+    let mut room = [0; LIMIT];
+    let (m, c) = identities(300);
+    let message = stop(m, c);
+    for n in [0, 1, 4, 16, 64, 256] {
+        let mut table = held(n);
+        call_row(&format!("call STOP REQUEST, not held, {n} held"), 1, |call| {
+            call(&mut table, black_box(&message), 0, &mut room)
+        });
+    }
+    for n in [1, 4, 16, 64, 256] {
+        reset_row(&items[..n], 256);
+    }
+}
+
+pub fn measure() {
+    let items: Vec<_> = (0..256).map(identities).collect();
+    head("### Times");
+    read_rows("START REQUEST", &start(300));
+    read_rows("STOP REQUEST", &stop(300, 300));
+    read_rows("RESET of 256 items", &reset(&items));
+    write_rows("START REQUEST", &start(300));
+    write_rows("RESET ACKNOWLEDGE of 256 items", &acknowledge(&items));
+    call_rows(&items);
+    println!();
+    head("### How the cost grows");
+    growth(&items);
+}

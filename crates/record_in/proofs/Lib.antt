@@ -1,0 +1,12 @@
+pub mod Reading
+pub mod Rows
+pub mod Same
+pub mod Back
+pub mod Parts
+pub mod Held
+pub mod SaidGood
+pub mod Formed
+pub mod OneForm
+pub mod ReadGood
+pub mod Examples
+pub mod Determined

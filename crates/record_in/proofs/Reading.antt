@@ -1,0 +1,33 @@
+-- Octets from a place on: their first, a number of two, and parts of them.
+use mathlib.Core.Path.{_≡_, ap, _∙_}
+use mathlib.Core.Bool.{true, false}
+use mathlib.Core.List.{List}
+use Prim.Native.Nat.{ℕ, _+_}
+use native.Mathlib.Nat.{add-zero}
+use native.Mathlib.Omega.{arith}
+use borrow.Author.Tests.{eq-eqb, ne-eqb}
+use lib.Dec.{eqb}
+use lib.ListN.{getD, drop}
+use lib.Seq.{getD-drop, drop-drop}
+use Rattle.octets.specs.Field.{valueAt}
+use Rattle.record_in.specs.RecordIn.{mmeOf, mceOf, listOf, numberOf, headOf, itemOf}
+
+module _ (s : List ℕ) (at : ℕ) where
+  pub first-drop : getD (drop at s) 0 0 ≡ getD s at 0
+  first-drop = getD-drop at s 0 0 ∙ ap (λ (k : ℕ). getD s k 0) (add-zero at)
+
+  -- the first octet is 0, or not
+  pub zero-at : getD s at 0 ≡ 0 → eqb (getD (drop at s) 0 0) 0 ≡ true
+  zero-at e = rw first-drop (eq-eqb (getD s at 0) 0 e)
+
+  pub more-at : (getD s at 0 ≡ 0 → ⊥) → eqb (getD (drop at s) 0 0) 0 ≡ false
+  more-at n = rw first-drop (ne-eqb (getD s at 0) 0 n)
+
+  pub value-drop : (k : ℕ) → valueAt 2 (drop at s) k ≡ valueAt 2 s (at + k)
+  value-drop k = let e : at + k + 1 ≡ at + (k + 1) = omega arith in rw (e, getD-drop at s k 0, getD-drop at s (k + 1) 0)
+
+  pub head-drop : record { code = numberOf (drop (at + 1) s); trigger = numberOf (drop (at + 3) s); crit = numberOf (drop (at + 5) s); listed = listOf (drop (at + 7) s) } ≡ headOf (drop at s)
+  head-drop = rw (drop-drop 1 at s, drop-drop 3 at s, drop-drop 5 at s, drop-drop 7 at s)
+
+  pub item-drop : record { mme = mmeOf (drop at s); mce = mceOf (drop (at + 3) s) } ≡ itemOf (drop at s)
+  item-drop = rw (drop-drop 3 at s)
