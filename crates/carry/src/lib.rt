@@ -1,27 +1,33 @@
 // What is decided about a judged message: 01's rules on the table, and the replies.
 ghost use mathlib.Core.Path.{_≡_};
-ghost use Rattle.identity.specs.Items.{emptyItem};
-ghost use Rattle.carry.specs.Carry.{stays, rejected, started, stopped, startedBy, stoppedBy, resetBy, carriedOut, decision, asked, partial, acknowledged};
+ghost use Rattle.carry.specs.Carry.{stays, started, stopped, rejection, rejected, carriedOut, decision, asked, requestOf};
 use identity::Item;
-use identity::Items;
 use identity::Mce;
 use identity::MceId;
 use identity::Mme;
 use identity::MmeId;
 use identity::Session;
 use identity::Tmgi;
-use messages::Frame;
 use messages::Outcome;
 use octets::Stop;
 use records::Body;
 use records::MaybeReset;
 use records::MaybeTmgi;
-use records::Resetting;
-use records::Start;
-use records::Stopping;
+use replies::Reply;
 use table::Association;
 use table::Standing;
 use values::Cause;
+
+// What a message asks for.
+pub enum Request {
+    Start(Mme, MaybeTmgi, Session),
+    Stop(Mme, Mce),
+    Reset(MaybeReset),
+    // ERROR INDICATION
+    Indication,
+    // a response, failure or acknowledgement, or no message
+    None,
+}
 
 pub enum Answer {
     // 0
@@ -59,10 +65,10 @@ pub enum Change {
     Resets,
 }
 
-// What becomes of the table, and the reply: no body where there is none.
+// What becomes of the table, and the reply.
 pub struct Decision {
     pub change: Change,
-    pub reply: Body,
+    pub reply: Reply,
 }
 
 // Unknown or already allocated MME MBMS M3AP ID.
@@ -77,7 +83,7 @@ const ABSTRACT_SYNTAX: Cause = Cause { group: 3, value: 1 };
 // Abstract syntax error (falsely constructed message).
 const FALSELY_CONSTRUCTED: Cause = Cause { group: 3, value: 5 };
 
-fn stays(a: Answer, reply: Body) -> Decision
+fn stays(a: Answer, reply: Reply) -> Decision
     ensures { λ d. ⌜ d ≡ stays a reply ⌝ }
 {
     Decision {
@@ -87,17 +93,17 @@ fn stays(a: Answer, reply: Body) -> Decision
 }
 
 // A start: 6, 7, 9, or the new association stands behind the others.
-fn start(k: Standing, c: MceId, noted: usize, m: MmeId, tmgi: Tmgi, session: Session) -> Decision
-    ensures { λ d. ⌜ d ≡ started k c noted m tmgi session ⌝ }
+fn start(k: Standing, c: MceId, m: MmeId, tmgi: Tmgi, session: Session) -> Decision
+    ensures { λ d. ⌜ d ≡ started k c m tmgi session ⌝ }
 {
     if k.mme {
-        return stays(Answer::MmeHeld, replies::start_failure(m, MME_TAKEN, noted));
+        return stays(Answer::MmeHeld, Reply::StartFailure(m, MME_TAKEN));
     }
     if k.mce {
-        return stays(Answer::OfferHeld, Body::None);
+        return stays(Answer::OfferHeld, Reply::None);
     }
     if k.full {
-        return stays(Answer::Full, replies::start_failure(m, NO_RESOURCES, noted));
+        return stays(Answer::Full, Reply::StartFailure(m, NO_RESOURCES));
     }
     let a = Association {
         mme: m,
@@ -107,198 +113,165 @@ fn start(k: Standing, c: MceId, noted: usize, m: MmeId, tmgi: Tmgi, session: Ses
     };
     Decision {
         change: Change::Starts(a),
-        reply: replies::start_response(m, c, noted),
+        reply: Reply::StartResponse(m, c),
     }
 }
 
 // A stop: 8, or the association that has both identities is gone.
-fn stop(k: Standing, f: Frame, noted: usize, m: MmeId, c: MceId) -> Decision
-    ensures { λ d. ⌜ d ≡ stopped k f noted m c ⌝ }
+fn stop(k: Standing, m: MmeId, c: MceId) -> Decision
+    ensures { λ d. ⌜ d ≡ stopped k m c ⌝ }
 {
     if k.pair {
         return Decision {
             change: Change::Stops(m, c),
-            reply: replies::stop_response(m, c, noted),
+            reply: Reply::StopResponse(m, c),
         };
     }
-    stays(Answer::PairNotHeld, replies::pair_not_held(f, m, c, noted))
+    stays(Answer::PairNotHeld, Reply::PairNotHeld(m, c))
+}
+
+// Answer 5's reply.
+fn rejection(q: Request, why: Cause) -> Reply
+    ensures { λ r. ⌜ r ≡ rejection q why ⌝ }
+{
+    match q {
+        Request::Start(x, _, _) => match x {
+            Mme::Is(m) => Reply::StartFailure(m, why),
+            Mme::Absent => Reply::Rejection(Mme::Absent, Mce::Absent, why),
+        },
+        Request::Stop(x, y) => Reply::Rejection(x, y, why),
+        Request::Reset(_) => Reply::Rejection(Mme::Absent, Mce::Absent, why),
+        Request::Indication => Reply::None,
+        Request::None => Reply::None,
+    }
 }
 
 // Elements rejected, for a cause.
-fn rejected(f: Frame, body: Body, noted: usize, why: Cause) -> Decision
-    ensures { λ d. ⌜ d ≡ rejected f body noted why ⌝ }
+fn rejected(q: Request, why: Cause) -> Decision
+    ensures { λ d. ⌜ d ≡ rejected q why ⌝ }
 {
-    stays(Answer::Rejected, replies::rejection(f, body, why, noted))
+    stays(Answer::Rejected, rejection(q, why))
 }
 
 // A start that was accepted. A mandatory element of reject is never absent here; if it were, it would be rejected.
-fn start_request(k: Standing, c: MceId, f: Frame, b: Start, noted: usize) -> Decision
-    ensures { λ d. ⌜ d ≡ startedBy k c f (Body.StartRequest b) noted (b .mme) (b .tmgi) (b .session) ⌝ }
+fn start_request(k: Standing, c: MceId, x: Mme, g: MaybeTmgi, session: Session) -> Decision
+    ensures { λ d. ⌜ d ≡ carriedOut k c (Request.Start x g session) ⌝ }
 {
-    let mme = b.mme;
-    let tmgi = b.tmgi;
-    let session = b.session;
-    match mme {
-        Mme::Is(m) => match tmgi {
-            MaybeTmgi::Is(g) => start(k, c, noted, m, g, session),
-            MaybeTmgi::Absent => rejected(f, Body::StartRequest(b), noted, ABSTRACT_SYNTAX),
+    match x {
+        Mme::Is(m) => match g {
+            MaybeTmgi::Is(tmgi) => start(k, c, m, tmgi, session),
+            MaybeTmgi::Absent => rejected(Request::Start(x, g, session), ABSTRACT_SYNTAX),
         },
-        Mme::Absent => rejected(f, Body::StartRequest(b), noted, ABSTRACT_SYNTAX),
+        Mme::Absent => rejected(Request::Start(x, g, session), ABSTRACT_SYNTAX),
     }
 }
 
 // A stop that was accepted.
-fn stop_request(k: Standing, f: Frame, b: Stopping, noted: usize) -> Decision
-    ensures { λ d. ⌜ d ≡ stoppedBy k f (Body.StopRequest b) noted (b .mme) (b .mce) ⌝ }
+fn stop_request(k: Standing, c: MceId, x: Mme, y: Mce) -> Decision
+    ensures { λ d. ⌜ d ≡ carriedOut k c (Request.Stop x y) ⌝ }
 {
-    let mme = b.mme;
-    let mce = b.mce;
-    match mme {
-        Mme::Is(m) => match mce {
-            Mce::Is(c) => stop(k, f, noted, m, c),
-            Mce::Absent => rejected(f, Body::StopRequest(b), noted, ABSTRACT_SYNTAX),
+    match x {
+        Mme::Is(m) => match y {
+            Mce::Is(i) => stop(k, m, i),
+            Mce::Absent => rejected(Request::Stop(x, y), ABSTRACT_SYNTAX),
         },
-        Mme::Absent => rejected(f, Body::StopRequest(b), noted, ABSTRACT_SYNTAX),
+        Mme::Absent => rejected(Request::Stop(x, y), ABSTRACT_SYNTAX),
     }
 }
 
-// A reset that was accepted: of the whole interface, or of what the items name. kept of them are acknowledged.
-fn reset_request(f: Frame, b: Resetting, kept: usize, noted: usize) -> Decision
-    ensures { λ d. ⌜ d ≡ resetBy f (Body.Reset b) kept noted (b .reset) ⌝ }
+// A reset that was accepted.
+fn reset_request(k: Standing, c: MceId, x: MaybeReset) -> Decision
+    ensures { λ d. ⌜ d ≡ carriedOut k c (Request.Reset x) ⌝ }
 {
-    let reset = b.reset;
-    match reset {
+    match x {
         MaybeReset::Whole => Decision {
             change: Change::Empties,
-            reply: replies::acknowledge(0, noted),
+            reply: Reply::Acknowledge,
         },
         MaybeReset::Part => Decision {
             change: Change::Resets,
-            reply: replies::acknowledge(kept, noted),
+            reply: Reply::AcknowledgeItems,
         },
-        MaybeReset::Absent => rejected(f, Body::Reset(b), noted, ABSTRACT_SYNTAX),
+        MaybeReset::Absent => rejected(Request::Reset(x), ABSTRACT_SYNTAX),
     }
 }
 
-// Nothing is asked for.
-fn no_request() -> Decision
-    ensures { λ d. ⌜ d ≡ stays Answer.NoRequest Body.None ⌝ }
-{
-    stays(Answer::NoRequest, Body::None)
-}
-
 // A request that was accepted, carried out. ERROR INDICATION changes nothing and gets no reply.
-fn carry_out(k: Standing, c: MceId, f: Frame, kept: usize, noted: usize, body: Body) -> Decision
-    ensures { λ d. ⌜ d ≡ carriedOut k c f kept noted body ⌝ }
+fn carry_out(k: Standing, c: MceId, q: Request) -> Decision
+    ensures { λ d. ⌜ d ≡ carriedOut k c q ⌝ }
 {
-    match body {
-        Body::StartRequest(b) => start_request(k, c, f, b, noted),
-        Body::StopRequest(b) => stop_request(k, f, b, noted),
-        Body::Reset(b) => reset_request(f, b, kept, noted),
-        Body::ErrorIndication(_) => stays(Answer::CarriedOut, Body::None),
-        Body::StartResponse(_) => no_request(),
-        Body::StartFailure(_) => no_request(),
-        Body::StopResponse(_) => no_request(),
-        Body::ResetAcknowledge(_) => no_request(),
-        Body::None => no_request(),
+    match q {
+        Request::Start(x, g, session) => start_request(k, c, x, g, session),
+        Request::Stop(x, y) => stop_request(k, c, x, y),
+        Request::Reset(x) => reset_request(k, c, x),
+        Request::Indication => stays(Answer::CarriedOut, Reply::None),
+        Request::None => stays(Answer::NoRequest, Reply::None),
     }
 }
 
 // What is decided about a judged message, by what is held of the identities that it asks about.
-pub fn decide(
-    k: Standing,
-    c: MceId,
-    f: Frame,
-    kept: usize,
-    noted: usize,
-    body: Body,
-    o: Outcome,
-) -> Decision
-    ensures { λ d. ⌜ d ≡ decision k c f kept noted body o ⌝ }
+pub fn decide(k: Standing, c: MceId, q: Request, o: Outcome) -> Decision
+    ensures { λ d. ⌜ d ≡ decision k c q o ⌝ }
 {
     match o {
-        Outcome::Accepted => carry_out(k, c, f, kept, noted, body),
-        Outcome::TooLong => stays(Answer::TooLong, Body::None),
-        Outcome::Stopped(x) => stays(Answer::Stopped(x), Body::None),
-        Outcome::NotAmong => stays(Answer::NoRequest, Body::None),
-        Outcome::Misplaced(_) => rejected(f, body, noted, FALSELY_CONSTRUCTED),
-        Outcome::Rejected => rejected(f, body, noted, ABSTRACT_SYNTAX),
+        Outcome::Accepted => carry_out(k, c, q),
+        Outcome::TooLong => stays(Answer::TooLong, Reply::None),
+        Outcome::Stopped(x) => stays(Answer::Stopped(x), Reply::None),
+        Outcome::NotAmong => stays(Answer::NoRequest, Reply::None),
+        Outcome::Misplaced(_) => rejected(q, FALSELY_CONSTRUCTED),
+        Outcome::Rejected => rejected(q, ABSTRACT_SYNTAX),
     }
 }
 
 // A start asks about its MME identity and the offered one, a stop about its two; nothing else asks.
-pub fn asked(c: MceId, body: Body) -> Item
-    ensures { λ d. ⌜ d ≡ asked c body ⌝ }
+pub fn asked(c: MceId, q: Request) -> Item
+    ensures { λ i. ⌜ i ≡ asked c q ⌝ }
+{
+    match q {
+        Request::Start(x, _, _) => Item {
+            mme: x,
+            mce: Mce::Is(c),
+        },
+        Request::Stop(x, y) => Item { mme: x, mce: y },
+        Request::Reset(_) => Item {
+            mme: Mme::Absent,
+            mce: Mce::Absent,
+        },
+        Request::Indication => Item {
+            mme: Mme::Absent,
+            mce: Mce::Absent,
+        },
+        Request::None => Item {
+            mme: Mme::Absent,
+            mce: Mce::Absent,
+        },
+    }
+}
+
+pub fn request_of(body: Body) -> Request
+    ensures { λ q. ⌜ q ≡ requestOf body ⌝ }
 {
     match body {
         Body::StartRequest(b) => {
-            let m = b.mme;
-            Item {
-                mme: m,
-                mce: Mce::Is(c),
-            }
+            let x = b.mme;
+            let g = b.tmgi;
+            let session = b.session;
+            Request::Start(x, g, session)
         }
         Body::StopRequest(b) => {
-            let m = b.mme;
-            let x = b.mce;
-            Item { mme: m, mce: x }
+            let x = b.mme;
+            let y = b.mce;
+            Request::Stop(x, y)
         }
-        Body::Reset(_) => no_item(),
-        Body::ErrorIndication(_) => no_item(),
-        Body::StartResponse(_) => no_item(),
-        Body::StartFailure(_) => no_item(),
-        Body::StopResponse(_) => no_item(),
-        Body::ResetAcknowledge(_) => no_item(),
-        Body::None => no_item(),
+        Body::Reset(b) => {
+            let x = b.reset;
+            Request::Reset(x)
+        }
+        Body::ErrorIndication(_) => Request::Indication,
+        Body::StartResponse(_) => Request::None,
+        Body::StartFailure(_) => Request::None,
+        Body::StopResponse(_) => Request::None,
+        Body::ResetAcknowledge(_) => Request::None,
+        Body::None => Request::None,
     }
-}
-
-fn no_item() -> Item
-    ensures { λ d. ⌜ d ≡ emptyItem ⌝ }
-{
-    Item {
-        mme: Mme::Absent,
-        mce: Mce::Absent,
-    }
-}
-
-// A partial reset that was accepted.
-fn partial(body: Body, o: Outcome) -> bool
-    ensures { λ d. ⌜ d ≡ partial body o ⌝ }
-{
-    match o {
-        Outcome::Accepted => match body {
-            Body::Reset(b) => {
-                let reset = b.reset;
-                match reset {
-                    MaybeReset::Part => true,
-                    MaybeReset::Whole => false,
-                    MaybeReset::Absent => false,
-                }
-            }
-            Body::StartRequest(_) => false,
-            Body::StopRequest(_) => false,
-            Body::ErrorIndication(_) => false,
-            Body::StartResponse(_) => false,
-            Body::StartFailure(_) => false,
-            Body::StopResponse(_) => false,
-            Body::ResetAcknowledge(_) => false,
-            Body::None => false,
-        },
-        Outcome::TooLong => false,
-        Outcome::Stopped(_) => false,
-        Outcome::NotAmong => false,
-        Outcome::Misplaced(_) => false,
-        Outcome::Rejected => false,
-    }
-}
-
-// The items that are acknowledged.
-pub fn acknowledged(body: Body, o: Outcome, items: Items) -> Items
-    ensures { λ d. ⌜ d ≡ acknowledged body o items ⌝ }
-{
-    if partial(body, o) {
-        return replies::with_identity(items);
-    }
-    records::no_items()
 }

@@ -25,13 +25,13 @@ use Rattle.identity.specs.declared.Mce.{Mce}
 use Rattle.identity.specs.declared.Mce.the-variants as mce
 use Rattle.values.specs.Values.{mmeAt, mceAt, tmgiAt}
 use Rattle.items.specs.Items.{ResetType, whole, part, resetAt}
-use Rattle.diagnostics.specs.declared.Entry.{Entry}
+use Rattle.entries.specs.declared.Entry.{Entry}
 use Rattle.kinds.specs.declared.Kind.the-variants as kind
 use Rattle.kinds.specs.Kinds.{valueAt}
-use Rattle.elements.specs.declared.Row.{Row}
-use Rattle.elements.specs.declared.Head.{Head}
-use Rattle.elements.specs.Table.{find, known, kindOf, noRow}
-use Rattle.elements.specs.Envelope.{scanAt, headsAt}
+use Rattle.envelopes.specs.declared.Row.{Row}
+use Rattle.envelopes.specs.declared.Head.{Head}
+use Rattle.envelopes.specs.Table.{find, known, kindOf, noRow}
+use Rattle.envelopes.specs.Envelope.{scanAt, headsAt}
 use Rattle.elements.specs.Judge as elements
 use Rattle.elements.specs.Judge.{front, readInto, noSpan, present, ignored, unknownOf, missingEntry, missingOf}
 use Rattle.elements.proofs.WalkLaws.{read-rows}

@@ -15,15 +15,17 @@ use Rattle.octets.specs.Stands.{Octets}
 use Rattle.identity.specs.declared.Item.{Item}
 use Rattle.identity.specs.declared.Items.{Items}
 use Rattle.identity.specs.Items.{emptyItem, listed}
-use Rattle.diagnostics.specs.declared.Entries.{Entries}
-use Rattle.diagnostics.specs.Diagnostics.{entriesOf}
+use Rattle.entries.specs.declared.Entries.{Entries}
+use Rattle.entries.specs.Entries.{entriesOf}
+use Rattle.messages.specs.declared.Frame.{Frame}
 use Rattle.messages.specs.Verdict.{readOf}
 use Rattle.said.specs.Said.{itemsSaid}
-use Rattle.replies.specs.Replies.{hasIdentity, acknowledge}
+use Rattle.replies.specs.declared.Reply.the-variants as reply
+use Rattle.replies.specs.Replies.{hasIdentity, replied}
 use Rattle.judge.specs.Judge.{judgedOf}
 use Rattle.unit.specs.Unit.{replyOctets}
 use Rattle.demands.specs.Words.{PartialReset, _acknowledges_}
-use Rattle.demands.proofs.Written.{listSaid, acknowledge-written}
+use Rattle.demands.proofs.Written.{listSaid, part-written}
 use Rattle.demands.proofs.Sound.{judged-sound}
 use Rattle.demands.proofs.Bodies.{says-acknowledged}
 use Rattle.demands.proofs.Verdicts.{Filled, read-filled}
@@ -47,11 +49,12 @@ list-or-none a is false e h = sym (drop-of-length-le is {i = 0} (ltb-false 0 (le
 pub reply-acknowledges : (s : List ℕ) (is : List Item) → Octets s → PartialReset (judgedOf s .verdict) is → acknowledgement s acknowledges keep hasIdentity is
 reply-acknowledges s is o p =
     let v = judged-sound s o .verdict in
+    let f : Frame = judgedOf s .frame in
     let items : Items = judgedOf s .verdict .message .items in
     let ks : List Item = keep hasIdentity (listed items) in
-    let w = acknowledge-written (v .list) (v .entries) items (v .items) in
-    let os : List ℕ = replyOctets (acknowledge items (entriesOf (v .list))) in
-    let n : acknowledgement s ≡ os = ap (λ (x : Entries). replyOctets (acknowledge items x)) (v .noted) in
+    let w = part-written f items (v .list) (v .entries) (v .items) in
+    let os : List ℕ = replyOctets (replied f items (entriesOf (v .list)) reply.AcknowledgeItems) in
+    let n : acknowledgement s ≡ os = ap (λ (x : Entries). replyOctets (replied f items x reply.AcknowledgeItems)) (v .noted) in
     let b : length ks ≤ 256 = omega (arith, length-keep hasIdentity (listed items), v .items .few) in
     let l = says-acknowledged (readOf os .message) os ks (ltb 0 (length ks)) (listSaid (v .list)) (w .back .said ∙ w .says) in
     rw (n, ← p .items) (record {

@@ -9,8 +9,9 @@ use borrow.Author.Tests.{ltb-true}
 use lib.Dec.{ltb}
 use lib.ListN.{length, getD, replicate}
 use Rattle.octets.specs.Stands.{Octets}
-use Rattle.octets.specs.Write.{Field, _bits_, packed, Fit, numberOctets, lengthOctets}
-use Rattle.octets.proofs.Packed.{packed-below}
+use Rattle.packed.specs.Packed.{Field, _bits_, packed, Fit}
+use Rattle.octets.specs.Write.{numberOctets, lengthOctets}
+use Rattle.packed.proofs.Packed.{packed-below}
 use Rattle.octets.specs.Many.{eachOctets}
 use Rattle.table.specs.declared.Association.{Association}
 use Rattle.table.specs.Table.{State}

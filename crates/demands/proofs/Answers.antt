@@ -15,7 +15,7 @@ use Rattle.identity.specs.declared.Mme.the-variants as mme
 use Rattle.identity.specs.declared.Mce.{Mce}
 use Rattle.identity.specs.declared.Mce.the-variants as mce
 use Rattle.identity.specs.declared.Items.{Items}
-use Rattle.diagnostics.specs.declared.Entries.{Entries}
+use Rattle.entries.specs.declared.Entries.{Entries}
 use Rattle.tables.specs.declared.Message.{Message}
 use Rattle.tables.specs.declared.Named.{Named}
 use Rattle.tables.specs.declared.Named.the-variants as named
@@ -29,19 +29,18 @@ use Rattle.records.specs.declared.Stopping.{Stopping}
 use Rattle.records.specs.declared.Resetting.{Resetting}
 use Rattle.records.specs.declared.Body.{Body}
 use Rattle.records.specs.declared.Body.the-variants as body
-use Rattle.records.specs.Records.{noItems}
 use Rattle.messages.specs.declared.Frame.{Frame}
 use Rattle.messages.specs.declared.Outcome.{Outcome}
 use Rattle.messages.specs.declared.Outcome.the-variants as outcome
 use Rattle.messages.specs.declared.Verdict.{Verdict}
 use Rattle.messages.specs.Frame.{frameAt}
 use Rattle.messages.specs.Verdict.{without, insideOf}
-use Rattle.table.specs.Table.{State, full, holdsMme, holdsMce, holdsPair}
+use Rattle.table.specs.Table.{State, full, holdsMme, holdsMce, holdsPair, standing}
 use Rattle.lent.specs.Lent.{Lent, Held, NoTable, readTable}
 use Rattle.judge.specs.declared.Judged.{Judged}
 use Rattle.judge.specs.Judge.{asks, noFrame, judgedBy, verdictBy, judgedIn, judgedOf}
 use Rattle.carry.specs.declared.Decision.{Decision}
-use Rattle.carry.specs.Carry.{Decided, started, stopped, acknowledged, applied, ruled, decided}
+use Rattle.carry.specs.Carry.{Decided, started, stopped, decision, requestOf, asked, applied, decided}
 use Rattle.unit.specs.Answers.{numbered}
 use Rattle.unit.specs.Unit.{answerOf, settledIf, fits, settled, onTable, call}
 use Rattle.demands.specs.Due.{firstDue, dueFor, due, fitsIn, AnswersAs}
@@ -66,15 +65,14 @@ module _ (g : Decision → ℕ) where
 -- over a table that holds l; of a message of at most 8,192 octets with the frame of a request
 module _ (l : State) (c : MceId) (s : List ℕ) (small : ltb 8192 (length s) ≡ false)
     (f : Frame) (m : Message) (name : namedBy (f .kind) (f .code) ≡ named.Is m) (request : asks m ≡ true) (items : Items) (noted : Entries) where
-  -- the number of a decision about a message that acknowledges no items
   abbrev numberBy : Decision → ℕ
-  numberBy d = number (applied l items noItems noted d)
+  numberBy d = number (applied l f items noted d)
 
-  abbrev ruledBy : Body → Outcome → Decided
-  ruledBy b o = ruled l c f b o items (acknowledged b o items) noted
+  abbrev ruledBy : Body → Outcome → Decision
+  ruledBy b o = let q = requestOf b in decision (standing (asked c q) l) c q o
 
   start-due : (b : Start) (x : Mme) (i : MaybeTmgi) → IsMme x → IsTmgi i
-      → number (ruledBy (body.StartRequest (record { mme = x; tmgi = i; session = b .session; carried = b .carried })) outcome.Accepted)
+      → numberBy (ruledBy (body.StartRequest (record { mme = x; tmgi = i; session = b .session; carried = b .carried })) outcome.Accepted)
       ≡ firstDue (dueFor (Held l) s (got f) outcome.Accepted (body.StartRequest (record { mme = x; tmgi = i; session = b .session; carried = b .carried })) c)
   unfolding started
   start-due b (mme.Is x) (tmgi.Is i) g h = rw (small, name, request) (of-three numberBy (holdsMme x l) (holdsMce c l) (full l) _ _ _ _)
@@ -82,7 +80,7 @@ module _ (l : State) (c : MceId) (s : List ℕ) (small : ltb 8192 (length s) ≡
   start-due b mme.Absent i g h = absurd g
 
   stop-due : (b : Stopping) (x : Mme) (y : Mce) → IsMme x → IsMce y
-      → number (ruledBy (body.StopRequest (record { mme = x; mce = y; time = b .time })) outcome.Accepted)
+      → numberBy (ruledBy (body.StopRequest (record { mme = x; mce = y; time = b .time })) outcome.Accepted)
       ≡ firstDue (dueFor (Held l) s (got f) outcome.Accepted (body.StopRequest (record { mme = x; mce = y; time = b .time })) c)
   unfolding stopped
   stop-due b (mme.Is x) (mce.Is y) g h = rw (small, name, request) (of-two numberBy (holdsPair x y l) _ _)
@@ -90,13 +88,13 @@ module _ (l : State) (c : MceId) (s : List ℕ) (small : ltb 8192 (length s) ≡
   stop-due b mme.Absent y g h = absurd g
 
   reset-due : (b : Resetting) (x : MaybeReset) → IsReset x
-      → number (ruledBy (body.Reset (record { cause = b .cause; reset = x })) outcome.Accepted)
+      → numberBy (ruledBy (body.Reset (record { cause = b .cause; reset = x })) outcome.Accepted)
       ≡ firstDue (dueFor (Held l) s (got f) outcome.Accepted (body.Reset (record { cause = b .cause; reset = x })) c)
   reset-due b reset.Whole g = rw (small, name, request)
   reset-due b reset.Part g = rw (small, name, request)
   reset-due b reset.Absent g = absurd g
 
-  asked-due : (b : Body) → Complete b → number (ruledBy b outcome.Accepted) ≡ firstDue (dueFor (Held l) s (got f) outcome.Accepted b c)
+  asked-due : (b : Body) → Complete b → numberBy (ruledBy b outcome.Accepted) ≡ firstDue (dueFor (Held l) s (got f) outcome.Accepted b c)
   asked-due (body.StartRequest b) g = start-due b (b .mme) (b .tmgi) (g .0) (g .1)
   asked-due (body.StopRequest b) g = stop-due b (b .mme) (b .mce) (g .0) (g .1)
   asked-due (body.Reset b) g = reset-due b (b .reset) g
@@ -107,7 +105,7 @@ module _ (l : State) (c : MceId) (s : List ℕ) (small : ltb 8192 (length s) ≡
   asked-due (body.ResetAcknowledge b) g = absurd g
   asked-due body.None g = absurd g
 
-  ruled-due : (b : Body) (o : Outcome) → Usual o → (o ≡ outcome.Accepted → Complete b) → number (ruledBy b o) ≡ firstDue (dueFor (Held l) s (got f) o b c)
+  ruled-due : (b : Body) (o : Outcome) → Usual o → (o ≡ outcome.Accepted → Complete b) → numberBy (ruledBy b o) ≡ firstDue (dueFor (Held l) s (got f) o b c)
   ruled-due b outcome.Accepted u g = asked-due b (g refl)
   ruled-due b outcome.TooLong u g = absurd u
   ruled-due b (outcome.Stopped (Fault p)) u g = rw (small, name, request)

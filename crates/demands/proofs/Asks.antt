@@ -18,21 +18,20 @@ use Rattle.records.specs.declared.MaybeTmgi.the-variants as tmgi
 use Rattle.records.specs.declared.Start.{Start}
 use Rattle.records.specs.declared.Stopping.{Stopping}
 use Rattle.records.specs.declared.Body.the-variants as body
-use Rattle.records.specs.Records.{noItems}
 use Rattle.messages.specs.declared.Outcome.{Outcome}
 use Rattle.messages.specs.declared.Outcome.the-variants as outcome
 use Rattle.table.specs.Table.{State, standing}
 use Rattle.lent.specs.Lent.{Lent, Held, NoTable, readTable}
 use Rattle.judge.specs.declared.Judged.{Judged}
 use Rattle.judge.specs.Judge.{judgedOf}
-use Rattle.carry.specs.declared.Decision.{Decision}
-use Rattle.carry.specs.Carry.{Decided, startedBy, stoppedBy, applied, decided}
+use Rattle.carry.specs.declared.Request.the-variants as request
+use Rattle.carry.specs.Carry.{carriedOut, decided}
 use Rattle.unit.specs.Answers.{numbered}
 use Rattle.unit.specs.Unit.{Call, onTable, call}
 use Rattle.demands.specs.Answered.{numberOf}
 use Rattle.demands.specs.Words.{Starts, Stops}
 use Rattle.demands.specs.Resets.{NoneLeftOut}
-use Rattle.demands.proofs.Done.{number, done}
+use Rattle.demands.proofs.Done.{number, done, meaning}
 
 -- ---- a decision that accepts is about an accepted message
 
@@ -50,16 +49,12 @@ module _ (l : State) (x : MceId) (j : Judged) (h : number (decided l x j) ≡ 0)
       by (outcome.Misplaced k) e = absurd (omega (arith, rw e at h))
       by outcome.Rejected e = absurd (omega (arith, rw e at h))
 
-  -- a decision about a message that acknowledges no items
-  abbrev given : Decision → Decided
-  given d = applied l (j .verdict .message .items) noItems (j .verdict .noted) d
-
   start-asks : (b : Start) → j .verdict .message .body ≡ body.StartRequest b → (m : MmeId) × (t : Tmgi) × Starts (j .verdict) m t (b .session)
   unfolding decided
   start-asks b e = by (b .mme) (b .tmgi) refl refl (rw (was-accepted, e) at h)
     where
       by : (y : Mme) (z : MaybeTmgi) → b .mme ≡ y → b .tmgi ≡ z
-          → number (given (startedBy (standing (record { mme = y; mce = mce.Is x }) l) x (j .frame) (body.StartRequest b) (j .verdict .noted .count) y z (b .session))) ≡ 0 → (m : MmeId) × (t : Tmgi) × Starts (j .verdict) m t (b .session)
+          → number (meaning l j (carriedOut (standing (record { mme = y; mce = mce.Is x }) l) x (request.Start y z (b .session)))) ≡ 0 → (m : MmeId) × (t : Tmgi) × Starts (j .verdict) m t (b .session)
       by (mme.Is m) (tmgi.Is t) p q n = (
         m,
         t,
@@ -77,7 +72,7 @@ module _ (l : State) (x : MceId) (j : Judged) (h : number (decided l x j) ≡ 0)
   stop-asks b e = by (b .mme) (b .mce) refl refl (rw (was-accepted, e) at h)
     where
       by : (y : Mme) (z : Mce) → b .mme ≡ y → b .mce ≡ z
-          → number (given (stoppedBy (standing (record { mme = y; mce = z }) l) (j .frame) (body.StopRequest b) (j .verdict .noted .count) y z)) ≡ 0 → (m : MmeId) × (c : MceId) × Stops (j .verdict) m c
+          → number (meaning l j (carriedOut (standing (record { mme = y; mce = z }) l) x (request.Stop y z))) ≡ 0 → (m : MmeId) × (c : MceId) × Stops (j .verdict) m c
       by (mme.Is m) (mce.Is c) p q n =
           (m, c, record { accepted = was-accepted; time = b .time; body = e ∙ λ i. body.StopRequest (record { mme = p i; mce = q i; time = b .time }) })
       by (mme.Is m) mce.Absent p q n = absurd (omega arith)

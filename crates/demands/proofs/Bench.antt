@@ -8,15 +8,17 @@ use native.Mathlib.Omega.{arith}
 use borrow.Author.Tests.{le-leb}
 use lib.ListN.{length}
 use Rattle.octets.specs.Read.{_>>=_, cutShort, noMeaning, leftOver, extended}
-use Rattle.octets.specs.Field.{bitsOf, flagAt, plainAt, choiceAt, padAt, numberAt, sameAt, longLengthAt, lengthAt, openAt, endsAt}
+use Rattle.packed.specs.Packed.{bitsOf, packedIn}
+use Rattle.octets.specs.Field.{flagAt, plainAt, choiceAt, padAt, numberAt, sameAt, longLengthAt, lengthAt, openAt, endsAt}
 use Rattle.octets.specs.Many as several
-use Rattle.octets.specs.Write.{packedIn, numberOctets, lengthOctets}
+use Rattle.octets.specs.Write.{numberOctets, lengthOctets}
 use Rattle.values.specs.Values.{causeAt}
-use Rattle.items.specs.Items.{marksAt, itemAt, itemElementAt, itemsAt, resetAt}
+use Rattle.item.specs.Item.{marksAt, itemAt, itemElementAt}
+use Rattle.items.specs.Items.{itemsAt, resetAt}
 use Rattle.items.specs.Written.{itemOctets, itemElementOctets, itemsOctets}
 use Rattle.kinds.specs.Kinds.{valueAt}
-use Rattle.elements.specs.Table.{find}
-use Rattle.elements.specs.Envelope.{criticalityAt, envelopeAt, scanAt, headsAt}
+use Rattle.envelopes.specs.Table.{find}
+use Rattle.envelopes.specs.Envelope.{criticalityAt, envelopeAt, scanAt, headsAt}
 use Rattle.elements.specs.Judge as elements
 use Rattle.elements.specs.Judge.{front, readInto, unknownOf, missingOf, elementsAt}
 use Rattle.tables.specs.Tables.{tableOf, namedBy}
@@ -32,7 +34,7 @@ use Rattle.table.specs.Table.{State, named, without}
 use Rattle.lent.specs.Lent.{tableOctets, Good}
 use Rattle.lent.proofs.OneForm.{one-form}
 use Rattle.ties.specs.Examples.{partialReset}
-use Rattle.replies.specs.Replies.{listOnly, withIdentity, replied}
+use Rattle.replies.specs.Replies.{listOnly, bodyOf, withIdentity, replied}
 use Rattle.judge.specs.Judge.{judgedOf}
 use Rattle.carry.specs.declared.Answer.the-variants as answer
 use Rattle.carry.specs.Carry.{decided}
@@ -51,7 +53,7 @@ does l s l′ g a r t d h =
     call-on (tableOctets l) (record { message = s; offered = offer; room = d }) l (one-form .back l g) ∙ rw (f, a, r, t)
 
 pub bench-calls : BenchCalls
-unfolding decided judgedOf frameAt kindAt countAt insideOf elementsAt elements.judgedOf front find readInto missingOf scanAt headsAt envelopeAt criticalityAt valueAt resetAt recordOf resetIn tableOf namedBy flagAt plainAt choiceAt padAt numberAt openAt lengthAt longLengthAt endsAt bitsOf cutShort noMeaning leftOver extended _>>=_ numberOctets replyOctets saidBy encoded replied withIdentity listOnly elementsGood elementsOctets messageOctets insideOctets present lengthOctets packedIn causeAt causeIn itemsAt several.many itemElementAt sameAt itemAt marksAt without named hasOctets octetsOf itemsOctets itemElementOctets itemOctets unknownOf
+unfolding decided judgedOf frameAt kindAt countAt insideOf elementsAt elements.judgedOf front find readInto missingOf scanAt headsAt envelopeAt criticalityAt valueAt resetAt recordOf resetIn tableOf namedBy flagAt plainAt choiceAt padAt numberAt openAt lengthAt longLengthAt endsAt bitsOf cutShort noMeaning leftOver extended _>>=_ numberOctets replyOctets saidBy encoded replied bodyOf withIdentity listOnly elementsGood elementsOctets messageOctets insideOctets present lengthOctets packedIn causeAt causeIn itemsAt several.many itemElementAt sameAt itemAt marksAt without named hasOctets octetsOf itemsOctets itemElementOctets itemOctets unknownOf
 bench-calls = record {
   named = does (pair 1 2 ∷ []) partialReset [] (one-good 1 2 (omega arith) (omega arith)) refl refl refl;
   unknown = does [] partialReset [] none-good refl refl refl;

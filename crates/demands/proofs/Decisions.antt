@@ -6,7 +6,6 @@ use mathlib.Core.Path.{_≡_, refl, sym, subst}
 use mathlib.Core.Bool.{Bool, true, false}
 use mathlib.Core.List.{List, [], _∷_, List·Memᴰ, List·Memᴰ·append-cases, List·Memᴰ·eq-of-singleton, List·Memᴰ·not-nil}
 use native.Mathlib.Omega.{arith}
-use lib.ListN.{length}
 use Rattle.lists.specs.Lists.{pick}
 use Rattle.lists.proofs.Tests.{on-pick}
 use Rattle.lists.proofs.Keep.{mem-keep}
@@ -23,18 +22,14 @@ use Rattle.identity.specs.declared.Items.{Items}
 use Rattle.identity.specs.Items.{listed}
 use Rattle.values.specs.declared.Cause.{Cause}
 use Rattle.values.specs.Written.{GoodCause}
-use Rattle.diagnostics.specs.declared.Entry.{Entry}
-use Rattle.diagnostics.specs.declared.Entries.{Entries}
-use Rattle.diagnostics.specs.Diagnostics.{entriesOf}
+use Rattle.entries.specs.declared.Entry.{Entry}
+use Rattle.entries.specs.declared.Entries.{Entries}
+use Rattle.entries.specs.Entries.{entriesOf}
 use Rattle.tables.specs.declared.Message.{Message}
-use Rattle.records.specs.declared.MaybeTmgi.{MaybeTmgi}
 use Rattle.records.specs.declared.MaybeTmgi.the-variants as tmgi
-use Rattle.records.specs.declared.MaybeReset.{MaybeReset}
 use Rattle.records.specs.declared.MaybeReset.the-variants as reset
-use Rattle.records.specs.declared.Body.{Body}
-use Rattle.records.specs.declared.Body.the-variants as body
 use Rattle.records.specs.declared.Record.{Record}
-use Rattle.records.specs.Records.{noItems, noRecord}
+use Rattle.records.specs.Records.{noRecord}
 use Rattle.messages.specs.declared.Frame.{Frame}
 use Rattle.messages.specs.declared.Outcome.{Outcome}
 use Rattle.messages.specs.declared.Outcome.the-variants as outcome
@@ -44,13 +39,19 @@ use Rattle.table.specs.declared.Standing.{Standing}
 use Rattle.table.specs.Table.{State, without, full, starting, stopping, holdsMme, holdsMce, holdsPair, standing, distinctHeld}
 use Rattle.table.proofs.Rules.{always}
 use Rattle.lent.specs.Lent.{InRange, Good}
-use Rattle.replies.specs.Replies.{mmeTaken, noResources, abstractSyntax, falselyConstructed, rejectionBody, withIdentity, replied, rejection}
+use Rattle.replies.specs.declared.Reply.{Reply}
+use Rattle.replies.specs.declared.Reply.the-variants as reply
+use Rattle.replies.specs.Replies.{abstractSyntax, falselyConstructed, bodyOf, replied}
 use Rattle.judge.specs.declared.Judged.{Judged}
+use Rattle.carry.specs.declared.Request.{Request}
+use Rattle.carry.specs.declared.Request.the-variants as request
+use Rattle.carry.specs.declared.Change.{Change}
+use Rattle.carry.specs.declared.Change.the-variants as change
 use Rattle.carry.specs.declared.Decision.{Decision}
-use Rattle.carry.specs.Carry.{Decided, keeps, changes, rejected, started, startedBy, stopped, stoppedBy, resetBy, isPart, acknowledged, applied, ruled, decided}
+use Rattle.carry.specs.Carry.{Decided, keeps, changes, rejection, started, stopped, carriedOut, decision, requestOf, asked, changed, applied, decided}
 use Rattle.demands.proofs.Taken.{Written}
-use Rattle.demands.proofs.Written.{GoodEntries, GoodFrame, GoodMme, GoodMce, GoodList, start-response-written, stop-response-written, start-failure-written, acknowledge-written, error-indication-written, pair-not-held-written}
-use Rattle.demands.proofs.Sound.{GoodBody, Sound}
+use Rattle.demands.proofs.Written.{GoodEntries, GoodFrame, GoodMme, GoodMce, GoodList, start-response-written, stop-response-written, start-failure-written, whole-written, part-written, rejection-written, pair-not-held-written}
+use Rattle.demands.proofs.Sound.{GoodRequest, Sound}
 
 -- ---- what a table can hold, after the rules
 
@@ -92,106 +93,113 @@ module _ (l : State) (g : Good l) where
 
 -- ---- replies
 
-pub data Reply (r : Record) : Type 0 where
-  nothing : r ≡ noRecord → Reply r
-  says : (m : Message) (vs : List Given) → Written r m vs → Reply r
+-- no record, or one that is written
+pub data Spoken (r : Record) : Type 0 where
+  nothing : r ≡ noRecord → Spoken r
+  says : (m : Message) (vs : List Given) → Written r m vs → Spoken r
 
-no-reply : (items : Items) (noted : Entries) → Reply (replied items noted body.None)
-unfolding replied
-no-reply items noted = nothing refl
+-- what a reply says of its own is in range
+abbrev GoodReply : Reply → Type 0
+GoodReply reply.None = Unit
+GoodReply (reply.StartResponse m c) = (m .0 < 65536) × (c .0 < 65536)
+GoodReply (reply.StartFailure m why) = (m .0 < 65536) × GoodCause why
+GoodReply (reply.StopResponse m c) = (m .0 < 65536) × (c .0 < 65536)
+GoodReply reply.Acknowledge = Unit
+GoodReply reply.AcknowledgeItems = Unit
+GoodReply (reply.Rejection x y why) = GoodMme x × GoodMce y × GoodCause why
+GoodReply (reply.PairNotHeld m c) = (m .0 < 65536) × (c .0 < 65536)
+
+module _ (f : Frame) (u : GoodFrame f) (items : Items) (i : GoodList items) (es : List Entry) (n : GoodEntries es) where
+  spoken : (r : Reply) → GoodReply r → Spoken (replied f items (entriesOf es) r)
+  unfolding replied bodyOf
+  spoken reply.None g = nothing refl
+  spoken (reply.StartResponse m c) g = says _ _ (start-response-written f items es n m c (g .0) (g .1))
+  spoken (reply.StartFailure m why) g = says _ _ (start-failure-written f items es n m why (g .0) (g .1))
+  spoken (reply.StopResponse m c) g = says _ _ (stop-response-written f items es n m c (g .0) (g .1))
+  spoken reply.Acknowledge g = says _ _ (whole-written f items es n)
+  spoken reply.AcknowledgeItems g = says _ _ (part-written f items es n i)
+  spoken (reply.Rejection x y why) g = says _ _ (rejection-written f items es n x y why u (g .0) (g .1) (g .2))
+  spoken (reply.PairNotHeld m c) g = says _ _ (pair-not-held-written f items es n m c u (g .0) (g .1))
+
+-- ---- the rules
+
+rejection-good : (q : Request) (why : Cause) → GoodRequest q → GoodCause why → GoodReply (rejection q why)
+unfolding rejection
+rejection-good (request.Start (mme.Is m) t s) why g k = (g, k)
+rejection-good (request.Start mme.Absent t s) why g k = (tt, tt, k)
+rejection-good (request.Stop x y) why g k = (g .0, g .1, k)
+rejection-good (request.Reset x) why g k = (tt, tt, k)
+rejection-good request.Indication why g k = tt
+rejection-good request.None why g k = tt
 
 -- what is decided: a reply, and what the table then holds
 abbrev pub Sure : Decided → Type 0
-Sure (keeps a r) = Reply r
-Sure (changes l r) = Reply r × Good l
+Sure (keeps a r) = Spoken r
+Sure (changes l r) = Spoken r × Good l
 
-module _ (f : Frame) (u : GoodFrame f) (es : List Entry) (n : GoodEntries es) where
-  rejection-sure : (b : Body) (why : Cause) → GoodBody b → GoodCause why → Reply (rejection f b why (entriesOf es))
-  unfolding rejectionBody
-  rejection-sure (body.StartRequest b) why g k = by (b .mme) g
-    where
-      by : (x : Mme) → GoodMme x → Reply (rejection f (body.StartRequest (record { mme = x; tmgi = b .tmgi; session = b .session; carried = b .carried })) why (entriesOf es))
-      by (mme.Is m) g = says _ _ (start-failure-written es n m why g k)
-      by mme.Absent g = says _ _ (error-indication-written es n mme.Absent mce.Absent why f tt tt k u)
-  rejection-sure (body.StopRequest b) why g k = says _ _ (error-indication-written es n (b .mme) (b .mce) why f (g .0) (g .1) k u)
-  rejection-sure (body.Reset b) why g k = says _ _ (error-indication-written es n mme.Absent mce.Absent why f tt tt k u)
-  rejection-sure (body.ErrorIndication b) why g k = no-reply noItems (entriesOf es)
-  rejection-sure (body.StartResponse b) why g k = no-reply noItems (entriesOf es)
-  rejection-sure (body.StartFailure b) why g k = no-reply noItems (entriesOf es)
-  rejection-sure (body.StopResponse b) why g k = no-reply noItems (entriesOf es)
-  rejection-sure (body.ResetAcknowledge b) why g k = no-reply noItems (entriesOf es)
-  rejection-sure body.None why g k = no-reply noItems (entriesOf es)
+module _ (l : State) (t : Good l) where
+  -- only a start asks for something
+  abbrev GoodChange : Change → Type 0
+  GoodChange (change.Stays a) = Unit
+  GoodChange (change.Starts a) = Good (starting a l)
+  GoodChange (change.Stops m c) = Unit
+  GoodChange change.Empties = Unit
+  GoodChange change.Resets = Unit
 
-  module _ (l : State) (t : Good l) (items : Items) where
-    -- of a message that acknowledges no items
-    abbrev SureBy : Decision → Type 0
-    SureBy d = Sure (applied l items noItems (entriesOf es) d)
+  abbrev GoodDecision : Decision → Type 0
+  GoodDecision d = GoodReply (d .reply) × GoodChange (d .change)
 
-    syntax-sure : (b : Body) → GoodBody b → SureBy (rejected f b (length es) abstractSyntax)
-    syntax-sure b g = rejection-sure b abstractSyntax g (omega arith)
+  changed-sure : (items : Items) {r : Record} → Spoken r → (x : Change) → GoodChange x → Sure (changed l items r x)
+  changed-sure items s (change.Stays a) g = s
+  changed-sure items s (change.Starts a) g = (s, g)
+  changed-sure items s (change.Stops m c) g = (s, stopping-good l t m c)
+  changed-sure items s change.Empties g = (s, none-good)
+  changed-sure items s change.Resets g = (s, without-good l t (listed items))
 
-    -- of a message that asks about two identities
-    abbrev about : Mme → Mce → Standing
-    about x y = standing (record { mme = x; mce = y }) l
+  -- of a message that asks about two identities
+  abbrev about : Mme → Mce → Standing
+  about x y = standing (record { mme = x; mce = y }) l
 
-    module _ (c : MceId) (o : c .0 < 65536) where
-      started-sure : (m : MmeId) (i : Tmgi) (s : Session) → m .0 < 65536 → SureBy (started (about (mme.Is m) (mce.Is c)) c (length es) m i s)
-      unfolding started
-      started-sure m i s g =
-          by-test SureBy (holdsMme m l) (λ e. says _ _ (start-failure-written es n m mmeTaken g (omega arith)))
-          (λ h. by-test SureBy (holdsMce c l) (λ e. no-reply noItems (entriesOf es))
-          (λ k. on-pick SureBy (full l) (says _ _ (start-failure-written es n m noResources g (omega arith)))
-          (says _ _ (start-response-written es n m c g o), starting-good l t _ (record { mme = g; mce = o }) h k)))
+  module _ (c : MceId) (o : c .0 < 65536) where
+    started-good : (m : MmeId) (i : Tmgi) (s : Session) → m .0 < 65536 → GoodDecision (started (about (mme.Is m) (mce.Is c)) c m i s)
+    unfolding started
+    started-good m i s g =
+        by-test GoodDecision (holdsMme m l) (λ e. ((g, omega arith), tt))
+        (λ h. by-test GoodDecision (holdsMce c l) (λ e. (tt, tt))
+        (λ k. on-pick GoodDecision (full l) ((g, omega arith), tt) ((g, o), starting-good l t _ (record { mme = g; mce = o }) h k)))
 
-      stopped-sure : (m : MmeId) (x : MceId) → m .0 < 65536 → x .0 < 65536 → SureBy (stopped (about (mme.Is m) (mce.Is x)) f (length es) m x)
-      unfolding stopped
-      stopped-sure m x g h =
-          on-pick SureBy (holdsPair m x l) (says _ _ (stop-response-written es n m x g h), stopping-good l t m x) (says _ _ (pair-not-held-written es n f m x u g h))
+    stopped-good : (m : MmeId) (x : MceId) → m .0 < 65536 → x .0 < 65536 → GoodDecision (stopped (about (mme.Is m) (mce.Is x)) m x)
+    unfolding stopped
+    stopped-good m x g h = on-pick GoodDecision (holdsPair m x l) ((g, h), tt) ((g, h), tt)
 
-      start-sure : (b : Body) → GoodBody b → (x : Mme) (i : MaybeTmgi) (s : Session) → GoodMme x → SureBy (startedBy (about x (mce.Is c)) c f b (length es) x i s)
-      start-sure b q (mme.Is m) (tmgi.Is i) s g = started-sure m i s g
-      start-sure b q (mme.Is m) tmgi.Absent s g = syntax-sure b q
-      start-sure b q mme.Absent i s g = syntax-sure b q
+    carried-good : (q : Request) → GoodRequest q → GoodDecision (carriedOut (standing (asked c q) l) c q)
+    carried-good (request.Start (mme.Is m) (tmgi.Is i) s) g = started-good m i s g
+    carried-good (request.Start (mme.Is m) tmgi.Absent s) g = (rejection-good _ abstractSyntax g (omega arith), tt)
+    carried-good (request.Start mme.Absent i s) g = (rejection-good _ abstractSyntax g (omega arith), tt)
+    carried-good (request.Stop (mme.Is m) (mce.Is x)) g = stopped-good m x (g .0) (g .1)
+    carried-good (request.Stop (mme.Is m) mce.Absent) g = (rejection-good _ abstractSyntax g (omega arith), tt)
+    carried-good (request.Stop mme.Absent y) g = (rejection-good _ abstractSyntax g (omega arith), tt)
+    carried-good (request.Reset reset.Whole) g = (tt, tt)
+    carried-good (request.Reset reset.Part) g = (tt, tt)
+    carried-good (request.Reset reset.Absent) g = (rejection-good _ abstractSyntax g (omega arith), tt)
+    carried-good request.Indication g = (tt, tt)
+    carried-good request.None g = (tt, tt)
 
-      stop-sure : (b : Body) → GoodBody b → (x : Mme) (y : Mce) → GoodMme x → GoodMce y → SureBy (stoppedBy (about x y) f b (length es) x y)
-      stop-sure b q (mme.Is m) (mce.Is y) g h = stopped-sure m y g h
-      stop-sure b q (mme.Is m) mce.Absent g h = syntax-sure b q
-      stop-sure b q mme.Absent y g h = syntax-sure b q
-
-      reset-sure : (b : Body) → GoodBody b → GoodList items → (x : MaybeReset)
-          → let kept = pick (isPart x) (withIdentity items) noItems in Sure (applied l items kept (entriesOf es) (resetBy f b (kept .count) (length es) x))
-      unfolding withIdentity
-      reset-sure b q g reset.Whole = (says _ _ (acknowledge-written es n noItems (record { few = omega arith; each = tt })), none-good)
-      reset-sure b q g reset.Part = (says _ _ (acknowledge-written es n items g), without-good l t (listed items))
-      reset-sure b q g reset.Absent = syntax-sure b q
-
-      abbrev ruledBy : Body → Outcome → Decided
-      ruledBy b x = ruled l c f b x items (acknowledged b x items) (entriesOf es)
-
-      asked-sure : (b : Body) → GoodBody b → GoodList items → Sure (ruledBy b outcome.Accepted)
-      asked-sure (body.StartRequest b) g i = start-sure (body.StartRequest b) g (b .mme) (b .tmgi) (b .session) g
-      asked-sure (body.StopRequest b) g i = stop-sure (body.StopRequest b) g (b .mme) (b .mce) (g .0) (g .1)
-      asked-sure (body.Reset b) g i = reset-sure (body.Reset b) g i (b .reset)
-      asked-sure (body.ErrorIndication b) g i = no-reply noItems (entriesOf es)
-      asked-sure (body.StartResponse b) g i = no-reply noItems (entriesOf es)
-      asked-sure (body.StartFailure b) g i = no-reply noItems (entriesOf es)
-      asked-sure (body.StopResponse b) g i = no-reply noItems (entriesOf es)
-      asked-sure (body.ResetAcknowledge b) g i = no-reply noItems (entriesOf es)
-      asked-sure body.None g i = no-reply noItems (entriesOf es)
-
-      ruled-sure : (b : Body) (x : Outcome) → GoodBody b → GoodList items → Sure (ruledBy b x)
-      ruled-sure b outcome.Accepted g i = asked-sure b g i
-      ruled-sure b outcome.TooLong g i = no-reply noItems (entriesOf es)
-      ruled-sure b (outcome.Stopped x) g i = no-reply noItems (entriesOf es)
-      ruled-sure b outcome.NotAmong g i = no-reply noItems (entriesOf es)
-      ruled-sure b (outcome.Misplaced k) g i = rejection-sure b falselyConstructed g (omega arith)
-      ruled-sure b outcome.Rejected g i = syntax-sure b g
+    ruled-good : (q : Request) (x : Outcome) → GoodRequest q → GoodDecision (decision (standing (asked c q) l) c q x)
+    ruled-good q outcome.Accepted g = carried-good q g
+    ruled-good q outcome.TooLong g = (tt, tt)
+    ruled-good q (outcome.Stopped x) g = (tt, tt)
+    ruled-good q outcome.NotAmong g = (tt, tt)
+    ruled-good q (outcome.Misplaced k) g = (rejection-good q falselyConstructed g (omega arith), tt)
+    ruled-good q outcome.Rejected g = (rejection-good q abstractSyntax g (omega arith), tt)
 
 pub decided-sure : (l : State) (c : MceId) (j : Judged) → Good l → c .0 < 65536 → Sound j → Sure (decided l c j)
 unfolding decided
 decided-sure l c j t o s =
     let v = s .verdict in
     let r = j .verdict .message in
-    let x = j .verdict .outcome in
-    subst (λ (a : Entries). Sure (ruled l c (j .frame) (r .body) x (r .items) (acknowledged (r .body) x (r .items)) a)) (sym (v .noted))
-    (ruled-sure (j .frame) (s .frame) (v .list) (v .entries) l t (r .items) c o (r .body) x (v .body) (v .items))
+    let q : Request = requestOf (r .body) in
+    let d : Decision = decision (standing (asked c q) l) c q (j .verdict .outcome) in
+    let g = ruled-good l t c o q (j .verdict .outcome) (v .body) in
+    subst (λ (a : Entries). Sure (applied l (j .frame) (r .items) a d)) (sym (v .noted))
+    (changed-sure l t (r .items) (spoken (j .frame) (s .frame) (r .items) (v .items) (v .list) (v .entries) (d .reply) (g .0)) (d .change) (g .1))

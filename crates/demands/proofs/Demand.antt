@@ -15,10 +15,10 @@ use Rattle.carry.specs.Carry.{Decided, keeps, changes, decided}
 use Rattle.unit.specs.Unit.{Call, replyOctets, settledIf, fits, settled, onTable, call}
 use Rattle.demands.specs.Answered.{Handed, ReadsBack, replyIn, decidedOn, Demand1}
 use Rattle.demands.proofs.Settle.{answered, none-said}
-use Rattle.demands.proofs.Decisions.{Reply, nothing, says, Sure}
+use Rattle.demands.proofs.Decisions.{Spoken, nothing, says, Sure}
 use Rattle.demands.proofs.TableOut.{sure, call-on, table-out}
 
-reads-back : (r : Record) → Reply r → (replyOctets r ≡ [] → ⊥) → ReadsBack (replyOctets r)
+reads-back : (r : Record) → Spoken r → (replyOctets r ≡ [] → ⊥) → ReadsBack (replyOctets r)
 reads-back r (nothing e) h = absurd (h (rw e none-said))
 reads-back r (says m vs w) h = (w .back .accepted, w .back .noted)
 
@@ -37,7 +37,7 @@ reply-back t c h = by (readTable t) refl
         settled-back t (c .room) (fits (c .room) x) x (sure t c l h q) k
     by NoTable q k = absurd (k refl)
 
-says-back : (r : Record) → Reply r → (r ≡ noRecord → ⊥) → ReadAs (replyOctets r) (saidBy r [])
+says-back : (r : Record) → Spoken r → (r ≡ noRecord → ⊥) → ReadAs (replyOctets r) (saidBy r [])
 says-back r (nothing e) h = absurd (h e)
 says-back r (says m vs w) h = w .back
 

@@ -14,16 +14,16 @@ use Rattle.identity.specs.declared.Session.{Session}
 use Rattle.identity.specs.declared.Mme.the-variants as mme
 use Rattle.identity.specs.declared.Mce.the-variants as mce
 use Rattle.identity.specs.declared.Item.{Item}
-use Rattle.identity.specs.declared.Items.{Items}
-use Rattle.diagnostics.specs.declared.Entries.{Entries}
-use Rattle.records.specs.Records.{noItems}
-use Rattle.messages.specs.declared.Frame.{Frame}
+use Rattle.records.specs.declared.Record.{Record}
 use Rattle.table.specs.declared.Association.{Association}
 use Rattle.table.specs.Table.{State, without, full, starting, stopping, holdsMme, holdsMce, holdsPair, standing}
 use Rattle.lent.specs.Lent.{Held, readTable}
-use Rattle.replies.specs.Replies.{startResponse, stopResponse, acknowledge}
+use Rattle.replies.specs.declared.Reply.{Reply}
+use Rattle.replies.specs.declared.Reply.the-variants as reply
+use Rattle.replies.specs.Replies.{replied}
 use Rattle.judge.specs.declared.Judged.{Judged}
 use Rattle.judge.specs.Judge.{judgedOf}
+use Rattle.carry.specs.declared.Decision.{Decision}
 use Rattle.carry.specs.Carry.{Decided, changes, started, stopped, applied, decided}
 use Rattle.unit.specs.Answers.{numbered}
 use Rattle.unit.specs.Unit.{Call, Back, call, settled, settledIf, fits, replyOf, answerOf, tableAfter}
@@ -67,49 +67,53 @@ module _ (t : List ℕ) (c : Call) (l : State) (e : readTable t ≡ Held l) wher
 
 -- ---- the rules, where they accept
 
--- a start and a stop, on what is held, in a message with these items and diagnostics
-module _ (l : State) (items : Items) (noted : Entries) where
-  abbrev pub startedOn : MceId → MmeId → Tmgi → Session → Decided
-  startedOn x m t s = applied l items noItems noted (started (standing (record { mme = mme.Is m; mce = mce.Is x }) l) x (noted .count) m t s)
+-- a reply to a judged message, and what a decision about it means
+abbrev pub replyTo : Judged → Reply → Record
+replyTo j r = replied (j .frame) (j .verdict .message .items) (j .verdict .noted) r
 
-  abbrev pub stoppedOn : Frame → MmeId → MceId → Decided
-  stoppedOn f m y = applied l items noItems noted (stopped (standing (record { mme = mme.Is m; mce = mce.Is y }) l) f (noted .count) m y)
+abbrev pub meaning : State → Judged → Decision → Decided
+meaning l j d = applied l (j .frame) (j .verdict .message .items) (j .verdict .noted) d
+
+abbrev pub startedOn : State → Judged → MceId → MmeId → Tmgi → Session → Decided
+startedOn l j x m t s = meaning l j (started (standing (record { mme = mme.Is m; mce = mce.Is x }) l) x m t s)
+
+abbrev pub stoppedOn : State → Judged → MmeId → MceId → Decided
+stoppedOn l j m y = meaning l j (stopped (standing (record { mme = mme.Is m; mce = mce.Is y }) l) m y)
 
 module _ (l : State) (x : MceId) (j : Judged) where
-  pub reset-decided : {is : List Item} → PartialReset (j .verdict) is → decided l x j ≡ changes (without is l) (acknowledge (j .verdict .message .items) (j .verdict .noted))
+  pub reset-decided : {is : List Item} → PartialReset (j .verdict) is → decided l x j ≡ changes (without is l) (replyTo j reply.AcknowledgeItems)
   unfolding decided
   reset-decided p = rw (p .accepted, p .body, p .items)
 
-  pub start-decided : {m : MmeId} {t : Tmgi} {s : Session} → Starts (j .verdict) m t s → decided l x j ≡ startedOn l (j .verdict .message .items) (j .verdict .noted) x m t s
+  pub start-decided : {m : MmeId} {t : Tmgi} {s : Session} → Starts (j .verdict) m t s → decided l x j ≡ startedOn l j x m t s
   unfolding decided
   start-decided p = rw (p .accepted, p .body)
 
-  pub stop-decided : {m : MmeId} {y : MceId} → Stops (j .verdict) m y → decided l x j ≡ stoppedOn l (j .verdict .message .items) (j .verdict .noted) (j .frame) m y
+  pub stop-decided : {m : MmeId} {y : MceId} → Stops (j .verdict) m y → decided l x j ≡ stoppedOn l j m y
   unfolding decided
   stop-decided p = rw (p .accepted, p .body)
 
 -- an accepted start: neither identity is held, and there is room
-pub record Started (l : State) (a : Association) (items : Items) (noted : Entries) : Type 0 where
+pub record Started (l : State) (j : Judged) (a : Association) : Type 0 where
   pub mme : holdsMme (a .mme) l ≡ false
   pub mce : holdsMce (a .mce) l ≡ false
   pub few : length l < 256
-  pub decision : startedOn l items noted (a .mce) (a .mme) (a .tmgi) (a .session) ≡ changes (starting a l) (startResponse (a .mme) (a .mce) noted)
+  pub decision : startedOn l j (a .mce) (a .mme) (a .tmgi) (a .session) ≡ changes (starting a l) (replyTo j (reply.StartResponse (a .mme) (a .mce)))
 
-pub start-accepted : (l : State) (a : Association) (items : Items) (noted : Entries) → number (startedOn l items noted (a .mce) (a .mme) (a .tmgi) (a .session)) ≡ 0 → Started l a items noted
+pub start-accepted : (l : State) (j : Judged) (a : Association) → number (startedOn l j (a .mce) (a .mme) (a .tmgi) (a .session)) ≡ 0 → Started l j a
 unfolding started
-start-accepted l a items noted = by (holdsMme (a .mme) l) (holdsMce (a .mce) l) (full l) refl refl refl
+start-accepted l j a = by (holdsMme (a .mme) l) (holdsMce (a .mce) l) (full l) refl refl refl
   where
-    by : (p q r : Bool) → holdsMme (a .mme) l ≡ p → holdsMce (a .mce) l ≡ q → full l ≡ r → number (startedOn l items noted (a .mce) (a .mme) (a .tmgi) (a .session)) ≡ 0 → Started l a items noted
+    by : (p q r : Bool) → holdsMme (a .mme) l ≡ p → holdsMce (a .mce) l ≡ q → full l ≡ r → number (startedOn l j (a .mce) (a .mme) (a .tmgi) (a .session)) ≡ 0 → Started l j a
     by true q r e f g h = absurd (omega (arith, rw e at h))
     by false true r e f g h = absurd (omega (arith, rw (e, f) at h))
     by false false true e f g h = absurd (omega (arith, rw (e, f, g) at h))
     by false false false e f g h = record { mme = e; mce = f; few = few l g; decision = rw (e, f, g) }
 
-pub stop-accepted : (l : State) (f : Frame) (items : Items) (noted : Entries) (m : MmeId) (y : MceId) → number (stoppedOn l items noted f m y) ≡ 0 →
-    stoppedOn l items noted f m y ≡ changes (stopping m y l) (stopResponse m y noted)
+pub stop-accepted : (l : State) (j : Judged) (m : MmeId) (y : MceId) → number (stoppedOn l j m y) ≡ 0 → stoppedOn l j m y ≡ changes (stopping m y l) (replyTo j (reply.StopResponse m y))
 unfolding stopped
-stop-accepted l f items noted m y = by (holdsPair m y l) refl
+stop-accepted l j m y = by (holdsPair m y l) refl
   where
-    by : (p : Bool) → holdsPair m y l ≡ p → number (stoppedOn l items noted f m y) ≡ 0 → stoppedOn l items noted f m y ≡ changes (stopping m y l) (stopResponse m y noted)
+    by : (p : Bool) → holdsPair m y l ≡ p → number (stoppedOn l j m y) ≡ 0 → stoppedOn l j m y ≡ changes (stopping m y l) (replyTo j (reply.StopResponse m y))
     by true e h = rw e
     by false e h = absurd (omega (arith, rw e at h))

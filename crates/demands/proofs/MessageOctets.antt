@@ -7,7 +7,8 @@ use native.Mathlib.Omega.{arith}
 use native.Mathlib.Nat.{lt-of-lt-of-le}
 use lib.ListN.{length}
 use Rattle.octets.specs.Stands.{Octets}
-use Rattle.octets.specs.Write.{Field, _bits_, bit, packed, Fit, lengthOctets}
+use Rattle.packed.specs.Packed.{Field, _bits_, bit, packed, Fit}
+use Rattle.octets.specs.Write.{lengthOctets}
 use Rattle.octets.specs.Many.{Each}
 use Rattle.identity.specs.declared.MmeId.{MmeId}
 use Rattle.identity.specs.declared.MceId.{MceId}
@@ -20,11 +21,11 @@ use Rattle.values.specs.Values.{bitsOfRoot}
 use Rattle.values.specs.Written.{tmgiOctets, causeOctets, GoodCause}
 use Rattle.values.proofs.Back.{cause-octets}
 use Rattle.values.proofs.Roots.{root-width, root-group}
-use Rattle.items.specs.declared.Maybe.{Maybe}
-use Rattle.items.specs.declared.Maybe.the-variants as maybe
+use Rattle.item.specs.declared.Maybe.{Maybe}
+use Rattle.item.specs.declared.Maybe.the-variants as maybe
 use Rattle.items.specs.Items.{part}
 use Rattle.items.specs.Written.{mmeIn, mceIn, isThere, maybeOctets, itemOctets, itemElementOctets, itemsOctets, reject, resetOctets}
-use Rattle.elements.specs.declared.Row.{Row}
+use Rattle.envelopes.specs.declared.Row.{Row}
 use Rattle.tables.specs.declared.Code.{Code}
 use Rattle.tables.specs.declared.Message.{Message}
 use Rattle.tables.specs.declared.Message.the-variants as message

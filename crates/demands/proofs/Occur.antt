@@ -1,6 +1,6 @@
 -- Each answer of the table call occurs: messages and tables that get it. And a room of 3,200 octets is always enough.
 -- Assumes nothing.
-use Prim.Native.Nat.{ℕ, zero, suc, _+_, _<_, _≤_}
+use Prim.Native.Nat.{ℕ, zero, suc, _<_, _≤_}
 use mathlib.Core.Path.{_≡_, _∙_, refl, ap}
 use mathlib.Core.Bool.{true, false, not}
 use mathlib.Core.List.{List, [], _∷_, List·Memᴰ, List·Memᴰ·head, List·Memᴰ·tail, List·Memᴰ·eq-of-singleton, List·Memᴰ·not-nil}
@@ -11,23 +11,23 @@ use lib.ListN.{length}
 use Rattle.lists.specs.Lists.{some}
 use Rattle.lists.proofs.Tests.{or-left, or-right}
 use Rattle.octets.specs.Read.{_>>=_, cutShort, noMeaning, leftOver, extended}
-use Rattle.octets.specs.Field.{bitsOf, flagAt, plainAt, choiceAt, padAt, numberAt, stringAt, longLengthAt, lengthAt, openAt, endsAt}
-use Rattle.octets.specs.Write.{packedIn, numberOctets, lengthOctets}
+use Rattle.packed.specs.Packed.{bitsOf, packedIn}
+use Rattle.octets.specs.Field.{flagAt, plainAt, choiceAt, padAt, numberAt, stringAt, longLengthAt, lengthAt, openAt, endsAt}
+use Rattle.octets.specs.Write.{numberOctets, lengthOctets}
 use Rattle.octets.specs.Stands.{Octets}
 use Rattle.identity.specs.declared.MceId.{MceId}
-use Rattle.identity.specs.declared.Session.the-variants as session
 use Rattle.values.specs.Values.{mmeAt, mceAt, tmgiAt}
 use Rattle.items.specs.Items.{resetAt}
 use Rattle.kinds.specs.Kinds.{valueAt}
-use Rattle.elements.specs.Table.{find}
-use Rattle.elements.specs.Envelope.{criticalityAt, envelopeAt, scanAt, headsAt}
+use Rattle.envelopes.specs.Table.{find}
+use Rattle.envelopes.specs.Envelope.{criticalityAt, envelopeAt, scanAt, headsAt}
 use Rattle.elements.specs.Judge as elements
 use Rattle.elements.specs.Judge.{front, readInto, unknownOf, missingOf, elementsAt}
 use Rattle.tables.specs.Tables.{tableOf, namedBy}
 use Rattle.records.specs.declared.Record.{Record}
 use Rattle.records.specs.Values.{mmeIn, mceIn, tmgiIn, resetIn}
-use Rattle.records.specs.declared.Body.the-variants as body
-use Rattle.records.specs.Records.{noItems, noEntries, recordOf}
+use Rattle.records.specs.Records.{noItems, recordOf}
+use Rattle.entries.specs.Entries.{noEntries}
 use Rattle.messages.specs.Frame.{kindAt, frameAt, countAt}
 use Rattle.messages.specs.declared.Outcome.the-variants as outcome
 use Rattle.messages.specs.Verdict.{without, insideOf}
@@ -38,7 +38,8 @@ use Rattle.table.specs.declared.Association.{Association}
 use Rattle.table.specs.Table.{State, full, holdsMme, holdsMce, distinctHeld}
 use Rattle.lent.specs.Lent.{rowsOctets, tableOctets, rowsOf, same, Lent, Held, NoTable, readTable, InRange, Good}
 use Rattle.lent.proofs.OneForm.{one-form}
-use Rattle.replies.specs.Replies.{listOnly, withIdentity, replied}
+use Rattle.replies.specs.declared.Reply.the-variants as reply
+use Rattle.replies.specs.Replies.{listOnly, bodyOf, withIdentity, replied}
 use Rattle.judge.specs.declared.Judged.{Judged}
 use Rattle.judge.specs.Judge.{noFrame, judgedBy, judgedOf}
 use Rattle.carry.specs.declared.Answer.{Answer}
@@ -49,12 +50,12 @@ use Rattle.unit.specs.Unit.{Back, replyOctets, replyOf, answerOf, fits, settled
 use Rattle.demands.specs.Occur.{offer, Gives, pair, many, start, stop, whole, error, numberOf, EveryAnswer}
 use Rattle.demands.proofs.Settle.{no-record, none-said}
 use Rattle.demands.proofs.Sound.{judged-sound}
-use Rattle.demands.proofs.Decisions.{none-good, Reply, nothing, says, Sure, decided-sure}
+use Rattle.demands.proofs.Decisions.{none-good, Spoken, nothing, says, Sure, decided-sure}
 use Rattle.demands.proofs.TableOut.{call-on}
 
 -- ---- a room of 3,200 octets is enough
 
-reply-small : (r : Record) → Reply r → length (replyOctets r) ≤ 3200
+reply-small : (r : Record) → Spoken r → length (replyOctets r) ≤ 3200
 reply-small r (nothing e) = rw (e, none-said) (omega arith)
 reply-small r (says m vs w) = w .size
 
@@ -99,9 +100,9 @@ unfolding many distinctHeld
 many-good = record { few = omega arith; apart = refl; each = many-range 256 (omega arith) }
 
 -- a decision without a reply is settled in any room
-silent-number : (t d : List ℕ) (a : Answer) → numbered (settled t d (keeps a (replied noItems noEntries body.None)) .answer) .number ≡ numbered a .number
+silent-number : (t d : List ℕ) (a : Answer) → numbered (settled t d (keeps a (replied noFrame noItems noEntries reply.None)) .answer) .number ≡ numbered a .number
 unfolding settled
-silent-number t d a = rw (no-record noItems noEntries, le-leb 0 (length d) (omega arith))
+silent-number t d a = rw (no-record noFrame noItems noEntries, le-leb 0 (length d) (omega arith))
 
 long-number : (t s d : List ℕ) (l : State) → readTable t ≡ Held l → 8192 < length s → numberOf t s d ≡ 1
 unfolding decided judgedOf
@@ -122,7 +123,7 @@ room-number s k d h =
 
 -- the rest is computed
 pub every-answer : EveryAnswer
-unfolding many decided started stopped full judgedOf frameAt kindAt countAt insideOf elementsAt elements.judgedOf front find readInto unknownOf missingOf scanAt headsAt envelopeAt criticalityAt valueAt mmeAt mceAt tmgiAt resetAt recordOf mmeIn mceIn tmgiIn resetIn tableOf namedBy flagAt plainAt choiceAt padAt numberAt stringAt openAt lengthAt longLengthAt endsAt bitsOf cutShort noMeaning leftOver extended _>>=_ readTable same rowsOf rowsOctets numberOctets distinctHeld replyOctets saidBy encoded replied withIdentity listOnly elementsGood elementsOctets messageOctets insideOctets present lengthOctets packedIn
+unfolding many decided started stopped full judgedOf frameAt kindAt countAt insideOf elementsAt elements.judgedOf front find readInto unknownOf missingOf scanAt headsAt envelopeAt criticalityAt valueAt mmeAt mceAt tmgiAt resetAt recordOf mmeIn mceIn tmgiIn resetIn tableOf namedBy flagAt plainAt choiceAt padAt numberAt stringAt openAt lengthAt longLengthAt endsAt bitsOf cutShort noMeaning leftOver extended _>>=_ readTable same rowsOf rowsOctets numberOctets distinctHeld replyOctets saidBy encoded replied bodyOf withIdentity listOnly elementsGood elementsOctets messageOctets insideOctets present lengthOctets packedIn
 every-answer = record {
   carried-out = gives [] start none-good refl refl;
   too-long = long-number;

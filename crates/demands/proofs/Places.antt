@@ -16,14 +16,14 @@ use Rattle.table.specs.Table.{State, named, without, starting, stopping}
 use Rattle.table.proofs.Rules.{changing-places}
 use Rattle.lent.specs.Lent.{Held, readTable, tableOctets, Good}
 use Rattle.lent.proofs.OneForm.{one-form}
-use Rattle.replies.specs.Replies.{startResponse, stopResponse}
+use Rattle.replies.specs.declared.Reply.the-variants as reply
 use Rattle.judge.specs.declared.Judged.{Judged}
 use Rattle.judge.specs.Judge.{judgedOf}
 use Rattle.carry.specs.Carry.{Decided, changes, decided}
 use Rattle.unit.specs.Unit.{Call, call}
 use Rattle.demands.specs.Words.{PartialReset, Asked, start, stop, run}
 use Rattle.demands.specs.Resets.{Neighbours, SameEnds, ChangingPlaces}
-use Rattle.demands.proofs.Done.{number, Does, done, start-decided, stop-decided, start-accepted, stop-accepted}
+use Rattle.demands.proofs.Done.{number, Does, done, replyTo, start-decided, stop-decided, start-accepted, stop-accepted}
 use Rattle.demands.proofs.Sound.{GoodBody, judged-sound}
 use Rattle.demands.proofs.Decisions.{starting-good, stopping-good}
 use Rattle.demands.proofs.States.{lent-good}
@@ -77,20 +77,20 @@ by-asked (start m q e) {t} {l} {s} {p} {p′} {s′} {is} n =
     let j : Judged = judgedOf (s .message) in
     let i = start-decided l (s .offered) j (n .session .0) in
     let k = start-decided (without is l) (s .offered) j (n .session .0) in
-    let x = start-accepted l a (j .verdict .message .items) (j .verdict .noted) (ap number (sym i) ∙ first-does n .answer) in
-    let y = start-accepted (without is l) a (j .verdict .message .items) (j .verdict .noted) (ap number (sym k) ∙ second-does n .answer) in
+    let x = start-accepted l j a (ap number (sym i) ∙ first-does n .answer) in
+    let y = start-accepted (without is l) j a (ap number (sym k) ∙ second-does n .answer) in
     let b : GoodBody (body.StartRequest (record { mme = mme.Is m; tmgi = tmgi.Is q; session = e; carried = n .session .0 .carried })) =
     subst GoodBody (n .session .0 .body) (judged-sound (s .message) (n .handed .message) .verdict .body) in
-    swap n (starting a) (startResponse m (s .offered) (j .verdict .noted)) (i ∙ x .decision) (k ∙ y .decision)
+    swap n (starting a) (replyTo j (reply.StartResponse m (s .offered))) (i ∙ x .decision) (k ∙ y .decision)
     (starting-good l (good n) a (record { mme = b; mce = n .handed .offered }) (x .mme) (x .mce))
     (changing-places .start is a l (or-left (named is a) false (n .spared .0)) (x .few))
 by-asked (stop m y) {t} {l} {s} {p} {p′} {s′} {is} n =
     let j : Judged = judgedOf (s .message) in
     let i = stop-decided l (s .offered) j (n .session .0) in
     let k = stop-decided (without is l) (s .offered) j (n .session .0) in
-    swap n (stopping m y) (stopResponse m y (j .verdict .noted))
-    (i ∙ stop-accepted l (j .frame) (j .verdict .message .items) (j .verdict .noted) m y (ap number (sym i) ∙ first-does n .answer))
-    (k ∙ stop-accepted (without is l) (j .frame) (j .verdict .message .items) (j .verdict .noted) m y (ap number (sym k) ∙ second-does n .answer))
+    swap n (stopping m y) (replyTo j (reply.StopResponse m y))
+    (i ∙ stop-accepted l j m y (ap number (sym i) ∙ first-does n .answer))
+    (k ∙ stop-accepted (without is l) j m y (ap number (sym k) ∙ second-does n .answer))
     (stopping-good l (good n) m y) (changing-places .stop is m y l)
 
 pub changing : ChangingPlaces

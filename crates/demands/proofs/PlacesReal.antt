@@ -22,11 +22,8 @@ use Rattle.identity.specs.declared.Mce.the-variants as mce
 use Rattle.identity.specs.declared.Session.{Session}
 use Rattle.identity.specs.declared.Session.the-variants as session
 use Rattle.identity.specs.declared.Item.{Item}
-use Rattle.identity.specs.declared.Items.{Items}
 use Rattle.items.specs.Written.{GoodItems}
-use Rattle.diagnostics.specs.declared.Entries.{Entries}
 use Rattle.records.specs.declared.Record.{Record}
-use Rattle.messages.specs.declared.Frame.{Frame}
 use Rattle.said.specs.Value as value
 use Rattle.said.specs.Ranges as ranges
 use Rattle.table.specs.declared.Association.{Association}
@@ -34,14 +31,14 @@ use Rattle.table.specs.Table.{State, hasMme, hasMce, hasPair, names, named, wit
 use Rattle.table.proofs.Rules.{resets, always}
 use Rattle.lent.specs.Lent.{Held, readTable, valueOf, rowOctets, InRange, Good}
 use Rattle.lent.proofs.OneForm.{one-form}
-use Rattle.replies.specs.Replies.{startResponse, stopResponse}
+use Rattle.replies.specs.declared.Reply.the-variants as reply
 use Rattle.judge.specs.declared.Judged.{Judged}
 use Rattle.judge.specs.Judge.{judgedOf}
 use Rattle.carry.specs.Carry.{changes, started, stopped, decided}
 use Rattle.unit.specs.Unit.{Call, call}
 use Rattle.demands.specs.Words.{Lent, start, stop, someNamed, Accepted}
 use Rattle.demands.specs.Resets.{SomeNeighbours, ChangingPlacesIsReal}
-use Rattle.demands.proofs.Done.{done, startedOn, stoppedOn, start-decided, stop-decided}
+use Rattle.demands.proofs.Done.{done, replyTo, startedOn, stoppedOn, start-decided, stop-decided}
 use Rattle.demands.proofs.Granted.{granted}
 use Rattle.demands.proofs.Decisions.{starting-good, stopping-good}
 use Rattle.demands.proofs.States.{lent-good}
@@ -73,10 +70,10 @@ module _ {t : List ℕ} {l : State} (h : Lent t l) (is : List Item) (i : GoodIte
 
 -- ---- starts
 
-start-fits : (l : State) (a : Association) (items : Items) (noted : Entries) → length l < 256 → holdsMme (a .mme) l ≡ false → holdsMce (a .mce) l ≡ false
-    → startedOn l items noted (a .mce) (a .mme) (a .tmgi) (a .session) ≡ changes (starting a l) (startResponse (a .mme) (a .mce) noted)
+start-fits : (l : State) (j : Judged) (a : Association) → length l < 256 → holdsMme (a .mme) l ≡ false → holdsMce (a .mce) l ≡ false
+    → startedOn l j (a .mce) (a .mme) (a .tmgi) (a .session) ≡ changes (starting a l) (replyTo j (reply.StartResponse (a .mme) (a .mce)))
 unfolding started full
-start-fits l a items noted b e f = rw (e, f, lt-leb 256 (length l) b)
+start-fits l j a b e f = rw (e, f, lt-leb 256 (length l) b)
 
 -- what is not held is not held behind a reset
 still-none : (p : Association → Bool) (is : List Item) (l : State) → some p l ≡ false → some p (without is l) ≡ false
@@ -106,9 +103,9 @@ starts t l a is h r o b e f i n =
     let c = start-carries (a .mme) (a .tmgi) (a .session) (r .mme) (tmgi-range a o) (session-range a o) in
     let j : Judged = judgedOf m in
     let k = always .reset-size is l in
-    let x = start-decided l (a .mce) j c ∙ start-fits l a (j .verdict .message .items) (j .verdict .noted) b e f in
+    let x = start-decided l (a .mce) j c ∙ start-fits l j a b e f in
     let y = start-decided (without is l) (a .mce) j c
-    ∙ start-fits (without is l) a (j .verdict .message .items) (j .verdict .noted) (omega arith) (still-none (hasMme (a .mme)) is l e) (still-none (hasMce (a .mce)) is l f) in
+    ∙ start-fits (without is l) j a (omega arith) (still-none (hasMme (a .mme)) is l e) (still-none (hasMce (a .mce)) is l f) in
     record {
       s = s;
       p = someCall is;
@@ -131,9 +128,9 @@ starts t l a is h r o b e f i n =
 
 -- ---- stops
 
-stop-fits : (l : State) (f : Frame) (items : Items) (noted : Entries) (m : MmeId) (c : MceId) → holdsPair m c l ≡ true → stoppedOn l items noted f m c ≡ changes (stopping m c l) (stopResponse m c noted)
+stop-fits : (l : State) (j : Judged) (m : MmeId) (c : MceId) → holdsPair m c l ≡ true → stoppedOn l j m c ≡ changes (stopping m c l) (replyTo j (reply.StopResponse m c))
 unfolding stopped
-stop-fits l f items noted m c e = rw e
+stop-fits l j m c e = rw e
 
 -- items name by identities only
 pair-names : (i : Item) (a b : Association) → a .mme .0 ≡ b .mme .0 → a .mce .0 ≡ b .mce .0 → names i a ≡ names i b
@@ -169,9 +166,9 @@ stops t l a is h m i n =
     let r = lent-good h .each a m in
     let c = stop-carries (a .mme) (a .mce) (r .mme) (r .mce) in
     let j : Judged = judgedOf o in
-    let x = stop-decided l (s .offered) j c ∙ stop-fits l (j .frame) (j .verdict .message .items) (j .verdict .noted) (a .mme) (a .mce) (some-at (hasPair (a .mme) (a .mce)) m (own-pair a)) in
+    let x = stop-decided l (s .offered) j c ∙ stop-fits l j (a .mme) (a .mce) (some-at (hasPair (a .mme) (a .mce)) m (own-pair a)) in
     let y = stop-decided (without is l) (s .offered) j c
-    ∙ stop-fits (without is l) (j .frame) (j .verdict .message .items) (j .verdict .noted) (a .mme) (a .mce) (some-at (hasPair (a .mme) (a .mce)) (resets .left is l a .1 (m, n)) (own-pair a)) in
+    ∙ stop-fits (without is l) j (a .mme) (a .mce) (some-at (hasPair (a .mme) (a .mce)) (resets .left is l a .1 (m, n)) (own-pair a)) in
     record {
       s = s;
       p = someCall is;

@@ -9,17 +9,17 @@ use Rattle.table.specs.Table.{State, named, without}
 use Rattle.table.proofs.Rules.{resets}
 use Rattle.lent.specs.Lent.{Held, readTable, tableOctets, Good}
 use Rattle.lent.proofs.OneForm.{one-form}
-use Rattle.replies.specs.Replies.{acknowledge}
+use Rattle.replies.specs.declared.Reply.the-variants as reply
 use Rattle.judge.specs.Judge.{judgedOf}
 use Rattle.unit.specs.Unit.{Call, call, replyOctets}
 use Rattle.demands.specs.Answered.{numberOf}
 use Rattle.demands.specs.Words.{PartialReset, run, Accepted, PartialResets, none, more}
-use Rattle.demands.proofs.Done.{done, reset-decided}
+use Rattle.demands.proofs.Done.{done, replyTo, reset-decided}
 use Rattle.demands.proofs.Decisions.{without-good}
 
 -- the reply to a message, if that is a partial reset
 abbrev pub acknowledgement : List ℕ → List ℕ
-acknowledgement s = replyOctets (acknowledge (judgedOf s .verdict .message .items) (judgedOf s .verdict .noted))
+acknowledgement s = replyOctets (replyTo (judgedOf s) reply.AcknowledgeItems)
 
 module _ (t : List ℕ) (c : Call) (l : State) (is : List Item) (g : Good l) (e : readTable t ≡ Held l)
     (p : PartialReset (judgedOf (c .message) .verdict) is) (h : numberOf t c ≡ 0) where

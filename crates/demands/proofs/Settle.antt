@@ -12,22 +12,15 @@ use Rattle.lists.proofs.Tests.{on-pick}
 use Rattle.octets.specs.declared.Stop.the-variants.{Fault, Extension}
 use Rattle.identity.specs.declared.MmeId.{MmeId}
 use Rattle.identity.specs.declared.MceId.{MceId}
-use Rattle.identity.specs.declared.Mme.{Mme}
 use Rattle.identity.specs.declared.Mme.the-variants as mme
-use Rattle.identity.specs.declared.Mce.{Mce}
 use Rattle.identity.specs.declared.Mce.the-variants as mce
 use Rattle.identity.specs.declared.Session.{Session}
 use Rattle.identity.specs.declared.Tmgi.{Tmgi}
 use Rattle.identity.specs.declared.Items.{Items}
-use Rattle.diagnostics.specs.declared.Entries.{Entries}
-use Rattle.records.specs.declared.MaybeTmgi.{MaybeTmgi}
+use Rattle.entries.specs.declared.Entries.{Entries}
 use Rattle.records.specs.declared.MaybeTmgi.the-variants as tmgi
-use Rattle.records.specs.declared.MaybeReset.{MaybeReset}
 use Rattle.records.specs.declared.MaybeReset.the-variants as reset
-use Rattle.records.specs.declared.Body.{Body}
-use Rattle.records.specs.declared.Body.the-variants as body
 use Rattle.records.specs.Records.{noRecord}
-use Rattle.records.specs.declared.Record.{Record}
 use Rattle.messages.specs.declared.Frame.{Frame}
 use Rattle.messages.specs.declared.Outcome.{Outcome}
 use Rattle.messages.specs.declared.Outcome.the-variants as outcome
@@ -36,13 +29,16 @@ use Rattle.said.specs.Written.{encoded}
 use Rattle.table.specs.declared.Standing.{Standing}
 use Rattle.table.specs.Table.{State, standing}
 use Rattle.lent.specs.Lent.{Lent, Held, NoTable, readTable}
-use Rattle.replies.specs.Replies.{replied}
+use Rattle.replies.specs.declared.Reply.the-variants as reply
+use Rattle.replies.specs.Replies.{bodyOf, replied}
 use Rattle.judge.specs.declared.Judged.{Judged}
 use Rattle.judge.specs.Judge.{judgedOf}
 use Rattle.carry.specs.declared.Answer.{Answer}
 use Rattle.carry.specs.declared.Answer.the-variants as answer
+use Rattle.carry.specs.declared.Request.{Request}
+use Rattle.carry.specs.declared.Request.the-variants as request
 use Rattle.carry.specs.declared.Decision.{Decision}
-use Rattle.carry.specs.Carry.{Decided, keeps, changes, started, startedBy, stopped, stoppedBy, resetBy, carriedOut, decision, asked, acknowledged, applied, decided}
+use Rattle.carry.specs.Carry.{Decided, keeps, changes, started, stopped, carriedOut, decision, requestOf, asked, applied, decided}
 use Rattle.unit.specs.Answers.{numbered}
 use Rattle.unit.specs.Unit.{Call, Back, replyOctets, replyOf, answerOf, settledIf, fits, settled, onTable, call}
 use Rattle.demands.specs.Answered.{isAmong, numbers, silentNumbers, Answered}
@@ -106,72 +102,58 @@ module _ (t d : List ℕ) where
 abbrev Silent : Decided → Type 0
 Silent x = isAmong silentNumbers (numbered (answerOf x) .number) ≡ true → replyOf x ≡ []
 
--- what is judged, by its parts
-abbrev pub judged : Frame → Record → Entries → Outcome → Judged
-judged f r noted o = record { frame = f; verdict = record { outcome = o; message = r; noted = noted } }
-
-pub no-record : (items : Items) (noted : Entries) → replyOctets (replied items noted body.None) ≡ []
-unfolding replyOctets encoded saidBy replied
-no-record items noted = refl
+pub no-record : (f : Frame) (items : Items) (noted : Entries) → replyOctets (replied f items noted reply.None) ≡ []
+unfolding replyOctets encoded saidBy replied bodyOf
+no-record f items noted = refl
 
 pub none-said : replyOctets noRecord ≡ []
 unfolding replyOctets encoded saidBy
 none-said = refl
 
-module _ (l : State) (items kept : Items) (noted : Entries) where
+module _ (l : State) (f : Frame) (items : Items) (noted : Entries) where
   abbrev SilentBy : Decision → Type 0
-  SilentBy d = Silent (applied l items kept noted d)
+  SilentBy d = Silent (applied l f items noted d)
 
-  module _ (k : Standing) (c : MceId) (f : Frame) (i n : ℕ) where
-    started-silent : (m : MmeId) (t : Tmgi) (s : Session) → SilentBy (started k c n m t s)
+  -- no reply
+  none : replyOctets (replied f items noted reply.None) ≡ []
+  none = no-record f items noted
+
+  module _ (k : Standing) (c : MceId) where
+    started-silent : (m : MmeId) (t : Tmgi) (s : Session) → SilentBy (started k c m t s)
     unfolding started
-    started-silent m t s =
-        on-pick SilentBy (k .mme) (λ e. cc) (on-pick SilentBy (k .mce) (λ e. no-record kept noted) (on-pick SilentBy (k .full) (λ e. cc) (λ e. cc)))
+    started-silent m t s = on-pick SilentBy (k .mme) (λ e. cc) (on-pick SilentBy (k .mce) (λ e. none) (on-pick SilentBy (k .full) (λ e. cc) (λ e. cc)))
 
-    stopped-silent : (m : MmeId) (x : MceId) → SilentBy (stopped k f n m x)
+    stopped-silent : (m : MmeId) (x : MceId) → SilentBy (stopped k m x)
     unfolding stopped
     stopped-silent m x = on-pick SilentBy (k .pair) (λ e. cc) (λ e. cc)
 
-    start-silent : (b : Body) (x : Mme) (t : MaybeTmgi) (s : Session) → SilentBy (startedBy k c f b n x t s)
-    start-silent b (mme.Is m) (tmgi.Is t) s = started-silent m t s
-    start-silent b (mme.Is m) tmgi.Absent s = λ e. cc
-    start-silent b mme.Absent t s = λ e. cc
+    carried-silent : (q : Request) → SilentBy (carriedOut k c q)
+    carried-silent (request.Start (mme.Is m) (tmgi.Is t) s) = started-silent m t s
+    carried-silent (request.Start (mme.Is m) tmgi.Absent s) = λ e. cc
+    carried-silent (request.Start mme.Absent t s) = λ e. cc
+    carried-silent (request.Stop (mme.Is m) (mce.Is x)) = stopped-silent m x
+    carried-silent (request.Stop (mme.Is m) mce.Absent) = λ e. cc
+    carried-silent (request.Stop mme.Absent y) = λ e. cc
+    carried-silent (request.Reset reset.Whole) = λ e. cc
+    carried-silent (request.Reset reset.Part) = λ e. cc
+    carried-silent (request.Reset reset.Absent) = λ e. cc
+    carried-silent request.Indication = λ e. none
+    carried-silent request.None = λ e. none
 
-    stop-silent : (b : Body) (x : Mme) (y : Mce) → SilentBy (stoppedBy k f b n x y)
-    stop-silent b (mme.Is m) (mce.Is x) = stopped-silent m x
-    stop-silent b (mme.Is m) mce.Absent = λ e. cc
-    stop-silent b mme.Absent y = λ e. cc
-
-    reset-silent : (b : Body) (x : MaybeReset) → SilentBy (resetBy f b i n x)
-    reset-silent b reset.Whole = λ e. cc
-    reset-silent b reset.Part = λ e. cc
-    reset-silent b reset.Absent = λ e. cc
-
-    asked-silent : (b : Body) → SilentBy (carriedOut k c f i n b)
-    asked-silent (body.StartRequest b) = start-silent (body.StartRequest b) (b .mme) (b .tmgi) (b .session)
-    asked-silent (body.StopRequest b) = stop-silent (body.StopRequest b) (b .mme) (b .mce)
-    asked-silent (body.Reset b) = reset-silent (body.Reset b) (b .reset)
-    asked-silent (body.ErrorIndication b) = λ e. no-record kept noted
-    asked-silent (body.StartResponse b) = λ e. no-record kept noted
-    asked-silent (body.StartFailure b) = λ e. no-record kept noted
-    asked-silent (body.StopResponse b) = λ e. no-record kept noted
-    asked-silent (body.ResetAcknowledge b) = λ e. no-record kept noted
-    asked-silent body.None = λ e. no-record kept noted
-
-    ruled-silent : (b : Body) (o : Outcome) → SilentBy (decision k c f i n b o)
-    ruled-silent b outcome.Accepted = asked-silent b
-    ruled-silent b outcome.TooLong = λ e. no-record kept noted
-    ruled-silent b (outcome.Stopped x) = λ e. no-record kept noted
-    ruled-silent b outcome.NotAmong = λ e. no-record kept noted
-    ruled-silent b (outcome.Misplaced p) = λ e. cc
-    ruled-silent b outcome.Rejected = λ e. cc
+    ruled-silent : (q : Request) (o : Outcome) → SilentBy (decision k c q o)
+    ruled-silent q outcome.Accepted = carried-silent q
+    ruled-silent q outcome.TooLong = λ e. none
+    ruled-silent q (outcome.Stopped x) = λ e. none
+    ruled-silent q outcome.NotAmong = λ e. none
+    ruled-silent q (outcome.Misplaced p) = λ e. cc
+    ruled-silent q outcome.Rejected = λ e. cc
 
 pub decided-silent : (l : State) (c : MceId) (j : Judged) → Silent (decided l c j)
 unfolding decided
 decided-silent l c j =
     let v = j .verdict in
-    let kept = acknowledged (v .message .body) (v .outcome) (v .message .items) in
-    ruled-silent l (v .message .items) kept (v .noted) (standing (asked c (v .message .body)) l) c (j .frame) (kept .count) (v .noted .count) (v .message .body) (v .outcome)
+    let q : Request = requestOf (v .message .body) in
+    ruled-silent l (j .frame) (v .message .items) (v .noted) (standing (asked c q) l) c q (v .outcome)
 
 -- ---- the call
 

@@ -28,13 +28,13 @@ use Rattle.values.proofs.Good.{mme-good, mce-good}
 use Rattle.items.specs.Items.{ResetType, whole, part, itemsAt, resetAt}
 use Rattle.items.specs.Written.{GoodItem, GoodReset}
 use Rattle.items.proofs.Good.{items-good, reset-good}
-use Rattle.diagnostics.specs.declared.Entry.{Entry}
-use Rattle.diagnostics.specs.Diagnostics.{entriesOf}
+use Rattle.entries.specs.declared.Entry.{Entry}
+use Rattle.entries.specs.Entries.{entriesOf}
 use Rattle.diagnostics.specs.Written.{GoodEntry}
-use Rattle.elements.specs.declared.Row.{Row}
-use Rattle.elements.specs.declared.Head.{Head}
-use Rattle.elements.specs.Table.{find, known}
-use Rattle.elements.specs.Envelope.{criticalityAt, envelopeAt, scanAt, onHead, headsAt}
+use Rattle.envelopes.specs.declared.Row.{Row}
+use Rattle.envelopes.specs.declared.Head.{Head}
+use Rattle.envelopes.specs.Table.{find, known}
+use Rattle.envelopes.specs.Envelope.{criticalityAt, envelopeAt, scanAt, onHead, headsAt}
 use Rattle.elements.specs.Judge as elements
 use Rattle.elements.specs.Judge.{Found, front, ignored, unknownEntry, unknownOf, missingEntry, missingOf, elementsAt}
 use Rattle.tables.specs.declared.Message.{Message}
@@ -43,7 +43,6 @@ use Rattle.tables.specs.declared.Named.{Named}
 use Rattle.tables.specs.declared.Named.the-variants as named
 use Rattle.tables.specs.Tables.{tableOf, namedBy}
 use Rattle.records.specs.declared.Body.{Body}
-use Rattle.records.specs.declared.Body.the-variants as body
 use Rattle.records.specs.Values.{orElse, within, mmeIn, mceIn, resetOf, resetIn, listedBy, listIn}
 use Rattle.records.specs.Records.{rowIn, recordOf}
 use Rattle.messages.specs.declared.Frame.{Frame}
@@ -55,22 +54,24 @@ use Rattle.messages.specs.Verdict.{without, verdictOf, orStopped, insideOf}
 use Rattle.ties.proofs.Each.{each-append}
 use Rattle.judge.specs.declared.Judged.{Judged}
 use Rattle.judge.specs.Judge.{asks, noFrame, verdictBy, judgedIn, judgedOf}
+use Rattle.carry.specs.declared.Request.{Request}
+use Rattle.carry.specs.declared.Request.the-variants as request
+use Rattle.carry.specs.Carry.{requestOf}
 use Rattle.ties.proofs.Placed.{Fits, table-lawful}
 use Rattle.demands.proofs.Written.{GoodEntries, GoodFrame, GoodMme, GoodMce, GoodList}
 
 -- ---- what is said
 
 -- the identities that a decision looks at
+abbrev pub GoodRequest : Request → Type 0
+GoodRequest (request.Start x t s) = GoodMme x
+GoodRequest (request.Stop x y) = GoodMme x × GoodMce y
+GoodRequest (request.Reset x) = Unit
+GoodRequest request.Indication = Unit
+GoodRequest request.None = Unit
+
 abbrev pub GoodBody : Body → Type 0
-GoodBody (body.StartRequest b) = GoodMme (b .mme)
-GoodBody (body.StopRequest b) = GoodMme (b .mme) × GoodMce (b .mce)
-GoodBody (body.StartResponse b) = Unit
-GoodBody (body.StartFailure b) = Unit
-GoodBody (body.StopResponse b) = Unit
-GoodBody (body.Reset b) = Unit
-GoodBody (body.ResetAcknowledge b) = Unit
-GoodBody (body.ErrorIndication b) = Unit
-GoodBody body.None = Unit
+GoodBody b = GoodRequest (requestOf b)
 
 pub record SoundVerdict (v : Verdict) : Type 0 where
   pub body : GoodBody (v .message .body)

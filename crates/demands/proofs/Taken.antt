@@ -9,9 +9,10 @@ use borrow.Author.Tests.{le-leb}
 use lib.Dec.{ltb}
 use lib.ListN.{length, length-append}
 use Rattle.lists.proofs.Tests.{on-pick}
-use Rattle.octets.specs.Write.{_bits_, packed, numberOctets, lengthOctets}
+use Rattle.packed.specs.Packed.{_bits_, packed}
+use Rattle.octets.specs.Write.{numberOctets, lengthOctets}
 use Rattle.octets.proofs.Back.{length-number}
-use Rattle.elements.specs.declared.Row.{Row}
+use Rattle.envelopes.specs.declared.Row.{Row}
 use Rattle.tables.specs.declared.Message.{Message}
 use Rattle.tables.specs.declared.Named.the-variants as named
 use Rattle.tables.specs.Tables.{tableOf}

@@ -26,27 +26,31 @@ use Rattle.identity.specs.Items.{emptyItem, listed}
 use Rattle.values.specs.declared.Cause.{Cause}
 use Rattle.values.specs.Written.{GoodCause, causeOctets}
 use Rattle.items.specs.Written.{ignore, itemsOctets, mmeIn, mceIn, GoodMaybe, GoodItem}
-use Rattle.diagnostics.specs.declared.Entry.{Entry}
+use Rattle.entries.specs.declared.Entry.{Entry}
 use Rattle.diagnostics.specs.declared.Head.{Head}
 use Rattle.diagnostics.specs.declared.Number.the-variants as number
-use Rattle.diagnostics.specs.Diagnostics.{Diagnostics, emptyEntry, entriesOf}
+use Rattle.diagnostics.specs.Diagnostics.{Diagnostics}
+use Rattle.entries.specs.Entries.{emptyEntry, entriesOf}
 use Rattle.diagnostics.specs.Written.{headOctets, listOctets, diagnosticsOctets, GoodEntry, GoodHead, Good}
 use Rattle.put_values.proofs.Put.{list-small}
 use Rattle.put_diagnostics.proofs.Sizes.{head-small, list-size}
 use Rattle.kinds.specs.declared.Kind.the-variants as kind
-use Rattle.elements.specs.declared.Row.{Row}
+use Rattle.envelopes.specs.declared.Row.{Row}
 use Rattle.tables.specs.declared.Message.the-variants as message
 use Rattle.tables.specs.Tables.{tableOf}
 use Rattle.records.specs.declared.MaybeDiagnostics.{MaybeDiagnostics}
 use Rattle.records.specs.declared.MaybeDiagnostics.the-variants as diagnosed
+use Rattle.records.specs.declared.Record.{Record}
 use Rattle.messages.specs.declared.Frame.{Frame}
 use Rattle.said.specs.Value as value
-use Rattle.said.specs.Value.{Given, given, octetsOf, hasOctets}
+use Rattle.said.specs.Value.{Given, given, absent, octetsOf, hasOctets}
 use Rattle.said.specs.Said.{saidBy, entriesSaid, givenMme, givenMce, givenList, givenDiagnostics}
 use Rattle.ties.proofs.ValueAgain.{counted-good, diagnostics-has}
 use Rattle.ties.proofs.Bridge.{said-fill}
-use Rattle.replies.specs.Replies.{unknownPair, listOnly, ofFrame, startResponse, startFailure, stopResponse, hasIdentity, withIdentity, replied, acknowledge, errorIndication, pairNotHeld}
-use Rattle.demands.proofs.Taken.{Takes, taken-none, taken-more, takes-value, takes-absent, Written, written}
+use Rattle.replies.specs.declared.Reply.{Reply}
+use Rattle.replies.specs.declared.Reply.the-variants as reply
+use Rattle.replies.specs.Replies.{unknownPair, listOnly, ofFrame, frameIfListed, bodyOf, hasIdentity, withIdentity, replied}
+use Rattle.demands.proofs.Taken.{Takes, Taken, taken-none, taken-more, takes-value, takes-absent, Written, written}
 
 -- ---- what is in range
 
@@ -167,10 +171,6 @@ entries-said es n = said-fill emptyEntry es (n .few)
 abbrev pub listSaid : List Entry → Given
 listSaid es = givenDiagnostics es (listOnly (length es))
 
--- of the frame as well
-abbrev pub frameSaid : Frame → List Entry → Given
-frameSaid f es = givenDiagnostics es (ofFrame f (length es))
-
 each-keep : {A : Type 0} (P : A → Type 0) (p : A → Bool) (l : List A) → Each P l → Each P (keep p l)
 each-keep P p [] g = tt
 each-keep P p (a ∷ l) g = by (p a) (each-keep P p l (g .1))
@@ -179,58 +179,71 @@ each-keep P p (a ∷ l) g = by (p a) (each-keep P p l (g .1))
     by true h = (g .0, h)
     by false h = h
 
-module _ (es : List Entry) (n : GoodEntries es) where
+-- what an ERROR INDICATION says, with whatever diagnostics suit its row
+error-taken : (es : List Entry) (x : Mme) (y : Mce) (why : Cause) (d : MaybeDiagnostics) → GoodMme x → GoodMce y → GoodCause why
+    → ((r : Row) → kind.Diagnostics ≡ r .kind → r .mandatory ≡ false → Takes r (givenDiagnostics es d) 778)
+    → Taken (tableOf message.ErrorIndication) (givenMme x ∷ givenMce y ∷ given (value.cause why) ∷ givenDiagnostics es d ∷ []) 798
+unfolding tableOf
+error-taken es x y why d g h k t = taken-more (maybe-mme x refl refl g) (taken-more (maybe-mce y refl refl h) (taken-more (takes-cause why refl k) (taken-more (t _ refl refl) taken-none)))
+
+-- to a message with this frame and these items
+module _ (f : Frame) (items : Items) (es : List Entry) (n : GoodEntries es) where
+  abbrev repliedWith : Reply → Record
+  repliedWith r = replied f items (entriesOf es) r
+
   pub start-response-written : (m : MmeId) (c : MceId) → m .0 < 65536 → c .0 < 65536
-      → Written (startResponse m c (entriesOf es)) message.StartResponse (given (value.mme m) ∷ given (value.mce c) ∷ listSaid es ∷ [])
-  unfolding saidBy replied tableOf
+      → Written (repliedWith (reply.StartResponse m c)) message.StartResponse (given (value.mme m) ∷ given (value.mce c) ∷ listSaid es ∷ [])
+  unfolding saidBy replied bodyOf tableOf
   start-response-written m c g h =
-      written (startResponse m c (entriesOf es)) message.StartResponse _ 792 (rw (entries-said es n))
+      written (repliedWith (reply.StartResponse m c)) message.StartResponse _ 792 (rw (entries-said es n))
       (taken-more (takes-mme m refl g) (taken-more (takes-mce c refl h) (taken-more (takes-only es refl refl n) taken-none))) (omega arith)
 
   pub stop-response-written : (m : MmeId) (c : MceId) → m .0 < 65536 → c .0 < 65536
-      → Written (stopResponse m c (entriesOf es)) message.StopResponse (given (value.mme m) ∷ given (value.mce c) ∷ listSaid es ∷ [])
-  unfolding saidBy replied tableOf
+      → Written (repliedWith (reply.StopResponse m c)) message.StopResponse (given (value.mme m) ∷ given (value.mce c) ∷ listSaid es ∷ [])
+  unfolding saidBy replied bodyOf tableOf
   stop-response-written m c g h =
-      written (stopResponse m c (entriesOf es)) message.StopResponse _ 792 (rw (entries-said es n))
+      written (repliedWith (reply.StopResponse m c)) message.StopResponse _ 792 (rw (entries-said es n))
       (taken-more (takes-mme m refl g) (taken-more (takes-mce c refl h) (taken-more (takes-only es refl refl n) taken-none))) (omega arith)
 
   pub start-failure-written : (m : MmeId) (why : Cause) → m .0 < 65536 → GoodCause why
-      → Written (startFailure m why (entriesOf es)) message.StartFailure (given (value.mme m) ∷ given (value.cause why) ∷ listSaid es ∷ [])
-  unfolding saidBy replied tableOf
+      → Written (repliedWith (reply.StartFailure m why)) message.StartFailure (given (value.mme m) ∷ given (value.cause why) ∷ listSaid es ∷ [])
+  unfolding saidBy replied bodyOf tableOf
   start-failure-written m why g h =
-      written (startFailure m why (entriesOf es)) message.StartFailure _ 791 (rw (entries-said es n))
+      written (repliedWith (reply.StartFailure m why)) message.StartFailure _ 791 (rw (entries-said es n))
       (taken-more (takes-mme m refl g) (taken-more (takes-cause why refl h) (taken-more (takes-only es refl refl n) taken-none))) (omega arith)
 
-  -- the acknowledgement lists the items that have an identity, in received order; without one it has no list
-  pub acknowledge-written : (items : Items) → GoodList items
-      → Written (acknowledge items (entriesOf es)) message.ResetAcknowledge
+  -- of a whole reset: whatever items there are, no list
+  pub whole-written : Written (repliedWith reply.Acknowledge) message.ResetAcknowledge (absent ∷ listSaid es ∷ [])
+  unfolding saidBy replied bodyOf tableOf
+  whole-written =
+      written (repliedWith reply.Acknowledge) message.ResetAcknowledge _ 3088 (rw (entries-said es n))
+      (taken-more (takes-absent 2310 refl) (taken-more (takes-only es refl refl n) taken-none)) (omega arith)
+
+  -- of a partial reset: it lists the items that have an identity, in received order; without one it has no list
+  pub part-written : GoodList items
+      → Written (repliedWith reply.AcknowledgeItems) message.ResetAcknowledge
       (givenList (keep hasIdentity (listed items)) (ltb 0 (length (keep hasIdentity (listed items)))) ∷ listSaid es ∷ [])
-  unfolding saidBy replied withIdentity tableOf
-  acknowledge-written items g =
+  unfolding saidBy replied bodyOf withIdentity tableOf
+  part-written g =
       let is : List Item = keep hasIdentity (listed items) in
       let k = length-keep hasIdentity (listed items) in
-      let f = g .few in
-      let b : length (keep hasIdentity (listed items)) ≤ 256 = omega arith in
-      written (acknowledge items (entriesOf es)) message.ResetAcknowledge _ 3088 (rw (entries-said es n, said-fill emptyItem is b))
+      let b : length (keep hasIdentity (listed items)) ≤ 256 = omega (arith, g .few) in
+      written (repliedWith reply.AcknowledgeItems) message.ResetAcknowledge _ 3088 (rw (entries-said es n, said-fill emptyItem is b))
       (taken-more (takes-list is refl refl b (each-keep GoodItem hasIdentity (listed items) (g .each))) (taken-more (takes-only es refl refl n) taken-none)) (omega arith)
 
-  -- of whatever diagnostics suit the row
-  error-written : (x : Mme) (y : Mce) (why : Cause) (d : MaybeDiagnostics) → GoodMme x → GoodMce y → GoodCause why
-      → ((r : Row) → kind.Diagnostics ≡ r .kind → r .mandatory ≡ false → Takes r (givenDiagnostics es d) 778)
-      → Written (errorIndication x y why d (entriesOf es)) message.ErrorIndication (givenMme x ∷ givenMce y ∷ given (value.cause why) ∷ givenDiagnostics es d ∷ [])
-  unfolding saidBy replied tableOf
-  error-written x y why d g h k t =
-      written (errorIndication x y why d (entriesOf es)) message.ErrorIndication _ 798 (rw (entries-said es n))
-      (taken-more (maybe-mme x refl refl g) (taken-more (maybe-mce y refl refl h) (taken-more (takes-cause why refl k) (taken-more (t _ refl refl) taken-none)))) (omega arith)
-
-  pub error-indication-written : (x : Mme) (y : Mce) (why : Cause) (f : Frame) → GoodMme x → GoodMce y → GoodCause why → GoodFrame f
-      → Written (errorIndication x y why (ofFrame f (length es)) (entriesOf es)) message.ErrorIndication (givenMme x ∷ givenMce y ∷ given (value.cause why) ∷ frameSaid f es ∷ [])
-  error-indication-written x y why f g h k u = error-written x y why (ofFrame f (length es)) g h k (λ r e z. takes-frame f es e u n)
+  pub rejection-written : (x : Mme) (y : Mce) (why : Cause) → GoodFrame f → GoodMme x → GoodMce y → GoodCause why
+      → Written (repliedWith (reply.Rejection x y why)) message.ErrorIndication (givenMme x ∷ givenMce y ∷ given (value.cause why) ∷ givenDiagnostics es (ofFrame f (length es)) ∷ [])
+  unfolding saidBy replied bodyOf
+  rejection-written x y why u g h k =
+      written (repliedWith (reply.Rejection x y why)) message.ErrorIndication _ 798 (rw (entries-said es n))
+      (error-taken es x y why (ofFrame f (length es)) g h k (λ r e z. takes-frame f es e u n)) (omega arith)
 
   -- diagnostics only with a list
-  pub pair-not-held-written : (f : Frame) (m : MmeId) (c : MceId) → GoodFrame f → m .0 < 65536 → c .0 < 65536
-      → Written (pairNotHeld f m c (entriesOf es)) message.ErrorIndication
-      (given (value.mme m) ∷ given (value.mce c) ∷ given (value.cause unknownPair) ∷ givenDiagnostics es (pick (ltb 0 (length es)) (ofFrame f (length es)) diagnosed.Absent) ∷ [])
-  pair-not-held-written f m c u g h =
-      error-written (mme.Is m) (mce.Is c) unknownPair (pick (ltb 0 (length es)) (ofFrame f (length es)) diagnosed.Absent) g h (omega arith)
-      (λ r e z. on-pick (λ (d : MaybeDiagnostics). Takes r (givenDiagnostics es d) 778) (ltb 0 (length es)) (takes-frame f es e u n) (takes-absent 778 z))
+  pub pair-not-held-written : (m : MmeId) (c : MceId) → GoodFrame f → m .0 < 65536 → c .0 < 65536
+      → Written (repliedWith (reply.PairNotHeld m c)) message.ErrorIndication
+      (given (value.mme m) ∷ given (value.mce c) ∷ given (value.cause unknownPair) ∷ givenDiagnostics es (frameIfListed f (length es)) ∷ [])
+  unfolding saidBy replied bodyOf frameIfListed
+  pair-not-held-written m c u g h =
+      written (repliedWith (reply.PairNotHeld m c)) message.ErrorIndication _ 798 (rw (entries-said es n))
+      (error-taken es (mme.Is m) (mce.Is c) unknownPair (frameIfListed f (length es)) g h (omega arith)
+      (λ r e z. on-pick (λ (d : MaybeDiagnostics). Takes r (givenDiagnostics es d) 778) (ltb 0 (length es)) (takes-frame f es e u n) (takes-absent 778 z))) (omega arith)

@@ -11,7 +11,8 @@ use Rattle.octets.specs.Field.{valueAt}
 use Rattle.table.specs.Table.{State}
 use Rattle.lent.specs.Lent.{Held, readTable}
 use Rattle.records.specs.declared.Record.{Record}
-use Rattle.records.specs.Records.{noEntries, noRecord}
+use Rattle.records.specs.Records.{noRecord}
+use Rattle.entries.specs.Entries.{noEntries}
 use Rattle.messages.specs.declared.Outcome.the-variants as outcome
 use Rattle.messages.specs.Verdict.{readOf}
 use Rattle.said.specs.Said.{saidBy}

@@ -18,9 +18,10 @@ use Rattle.octets.proofs.Got.{number-got, ends-got}
 use Rattle.octets.proofs.Stood.{stands-none, stands-join}
 use Rattle.octets.proofs.Back.{length-number}
 use Rattle.octets.proofs.Again.{number-again, value-below}
-use Rattle.diagnostics.specs.declared.Entry.{Entry}
+use Rattle.entries.specs.declared.Entry.{Entry}
 use Rattle.diagnostics.specs.declared.Head.{Head}
-use Rattle.diagnostics.specs.Diagnostics.{Diagnostics, listAt, maybeListAt, headAt, diagnosticsAt}
+use Rattle.diagnostics.specs.Diagnostics.{Diagnostics, headAt, diagnosticsAt}
+use Rattle.entries.specs.Entries.{listAt, maybeListAt}
 use Rattle.diagnostics.specs.Written.{headOctets, entriesOctets, listOctets, diagnosticsOctets, GoodEntry, GoodHead, Good}
 use Rattle.diagnostics.proofs.HeadAgain.{head-again}
 use Rattle.diagnostics.proofs.EntriesBack.{entries-length}

@@ -15,8 +15,9 @@ use Rattle.octets.specs.Many.{Each}
 use Rattle.octets.proofs.Chain.{past}
 use Rattle.octets.proofs.Stood.{stands-split}
 use Rattle.octets.proofs.Back.{number-back, ends-back, length-number}
-use Rattle.diagnostics.specs.declared.Entry.{Entry}
-use Rattle.diagnostics.specs.Diagnostics.{Diagnostics, listAt, maybeListAt, diagnosticsAt}
+use Rattle.entries.specs.declared.Entry.{Entry}
+use Rattle.diagnostics.specs.Diagnostics.{Diagnostics, diagnosticsAt}
+use Rattle.entries.specs.Entries.{listAt, maybeListAt}
 use Rattle.diagnostics.specs.Written.{headOctets, entriesOctets, listOctets, diagnosticsOctets, GoodEntry, Good}
 use Rattle.diagnostics.proofs.HeadBack.{head-back}
 use Rattle.diagnostics.proofs.EntriesBack.{entries-length, entries-back}

@@ -10,18 +10,19 @@ use borrow.Author.Tests.{eq-eqb, ne-eqb}
 use lib.Dec.{eqb}
 use lib.ListN.{length, getD}
 use Rattle.octets.specs.Read.{got}
-use Rattle.octets.specs.Field.{bitsOf, padAt, endsAt}
-use Rattle.octets.specs.Write.{Field, _bits_, bit, widths, packed, numberOctets}
+use Rattle.packed.specs.Packed.{bitsOf, Field, _bits_, bit, widths, packed}
+use Rattle.octets.specs.Field.{padAt, endsAt}
+use Rattle.octets.specs.Write.{numberOctets}
 use Rattle.octets.specs.Stands.{Stands, Octets}
 use Rattle.octets.specs.Many.{Part, many, Each}
-use Rattle.octets.proofs.Packed.{fieldsOf}
+use Rattle.packed.proofs.Packed.{fieldsOf}
 use Rattle.octets.proofs.Chain.{then-got, same-got}
 use Rattle.octets.proofs.Got.{plain-got, choice-got, pad-got, number-got, ends-got}
 use Rattle.octets.proofs.Stood.{stands-join}
 use Rattle.octets.proofs.Back.{length-number}
 use Rattle.octets.proofs.Again.{number-again, value-below}
-use Rattle.diagnostics.specs.declared.Entry.{Entry}
-use Rattle.diagnostics.specs.Diagnostics.{begins, critAt, entryAt, entriesAt}
+use Rattle.entries.specs.declared.Entry.{Entry}
+use Rattle.entries.specs.Entries.{begins, critAt, entryAt, entriesAt}
 use Rattle.diagnostics.specs.Written.{critFields, errorFields, entriesOctets, GoodEntry}
 use Rattle.diagnostics.proofs.Fields.{widths-join, fields-behind, pad-low, octet-again}
 

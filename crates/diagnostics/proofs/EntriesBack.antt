@@ -13,14 +13,15 @@ use lib.Dec.{eqb}
 use lib.ListN.{length, length-append}
 use Rattle.octets.specs.Read.{got}
 use Rattle.octets.specs.Field.{padAt}
-use Rattle.octets.specs.Write.{Field, _bits_, bit, widths, packed, Fit, numberOctets}
+use Rattle.packed.specs.Packed.{Field, _bits_, bit, widths, packed, Fit}
+use Rattle.octets.specs.Write.{numberOctets}
 use Rattle.octets.specs.Stands.{Stands}
 use Rattle.octets.specs.Many.{many, Each}
 use Rattle.octets.proofs.Chain.{past}
 use Rattle.octets.proofs.Stood.{stands-split}
 use Rattle.octets.proofs.Back.{number-back, ends-back, length-number}
-use Rattle.diagnostics.specs.declared.Entry.{Entry}
-use Rattle.diagnostics.specs.Diagnostics.{begins, critAt, entryAt, entriesAt}
+use Rattle.entries.specs.declared.Entry.{Entry}
+use Rattle.entries.specs.Entries.{begins, critAt, entryAt, entriesAt}
 use Rattle.diagnostics.specs.Written.{critFields, errorFields, entriesOctets, GoodEntry}
 use Rattle.diagnostics.proofs.Fields.{widths-join, fit-join, plain-in, choice-in, pad-in}
 

@@ -16,10 +16,10 @@ use lib.Dec.{eqb}
 use lib.ListN.{length, getD}
 use lib.Pow.{pow-pos}
 use Rattle.octets.specs.Read.{got}
-use Rattle.octets.specs.Field.{bitsOf, flagAt, plainAt, choiceAt, padAt}
-use Rattle.octets.specs.Write.{Field, _bits_, bit, widths, packed, Fit}
+use Rattle.packed.specs.Packed.{bitsOf, Field, _bits_, bit, widths, packed, Fit}
+use Rattle.octets.specs.Field.{flagAt, plainAt, choiceAt, padAt}
 use Rattle.octets.specs.Stands.{Stands, Octets}
-use Rattle.octets.proofs.Packed.{fieldsOf, bits-low}
+use Rattle.packed.proofs.Packed.{fieldsOf, bits-low}
 use Rattle.octets.proofs.Back.{flag-back, plain-back, choice-back, pad-back}
 use Rattle.octets.proofs.Again.{packed-again}
 

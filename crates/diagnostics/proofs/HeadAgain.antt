@@ -10,11 +10,12 @@ use borrow.Author.Tests.{ltb-true, ltb-false, eqb-true, eqb-false}
 use lib.Dec.{ltb, eqb}
 use lib.ListN.{length, getD, drop-of-length-le}
 use Rattle.octets.specs.Read.{got}
-use Rattle.octets.specs.Field.{bitsOf, choiceAt, padAt, numberAt}
-use Rattle.octets.specs.Write.{Field, _bits_, bit, widths, packed, numberOctets}
+use Rattle.packed.specs.Packed.{bitsOf, Field, _bits_, bit, widths, packed}
+use Rattle.octets.specs.Field.{choiceAt, padAt, numberAt}
+use Rattle.octets.specs.Write.{numberOctets}
 use Rattle.octets.specs.Stands.{Stands, Octets}
 use Rattle.octets.specs.Many.{Part}
-use Rattle.octets.proofs.Packed.{fieldsOf}
+use Rattle.packed.proofs.Packed.{fieldsOf}
 use Rattle.octets.proofs.Chain.{then-got, same-got}
 use Rattle.octets.proofs.Got.{flag-got, plain-got, choice-got, pad-got, number-got}
 use Rattle.octets.proofs.Stood.{stands-none, stands-join}

@@ -12,7 +12,8 @@ use lib.ListN.{length, length-append}
 use Rattle.lists.specs.Lists.{pick}
 use Rattle.octets.specs.Read.{got}
 use Rattle.octets.specs.Field.{padAt}
-use Rattle.octets.specs.Write.{Field, _bits_, bit, widths, packed, Fit, numberOctets}
+use Rattle.packed.specs.Packed.{Field, _bits_, bit, widths, packed, Fit}
+use Rattle.octets.specs.Write.{numberOctets}
 use Rattle.octets.specs.Stands.{Stands}
 use Rattle.octets.proofs.Chain.{past}
 use Rattle.octets.proofs.Stood.{stands-split}

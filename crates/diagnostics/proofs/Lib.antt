@@ -1,5 +1,4 @@
 pub mod Bounds
-pub mod ByGate
 pub mod Determined
 pub mod Fields
 pub mod Pairs

@@ -12,7 +12,7 @@ use borrow.Author.Tests.{ltb-true, ltb-false}
 use lib.Dec.{ltb}
 use lib.ListN.{length}
 use Rattle.lists.specs.Lists.{pick}
-use Rattle.octets.specs.Write.{Field, _bits_, bit, widths, packed, Fit}
+use Rattle.packed.specs.Packed.{Field, _bits_, bit, widths, packed, Fit}
 use Rattle.diagnostics.specs.Diagnostics.{Marks}
 use Rattle.diagnostics.specs.Written.{marks, octetOf, pairs}
 use Rattle.diagnostics.proofs.Fields.{bits-width, bits-fit, widths-join, fit-join}

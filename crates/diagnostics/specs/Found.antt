@@ -1,11 +1,10 @@
 -- The readers' answers, as readings; and those with an array, from the readings.
-use mathlib.Core.List.{List, []}
+use mathlib.Core.List.{[]}
 use Rattle.octets.specs.Read.{Read, got, stop}
 use Rattle.octets.specs.Many.{Part}
-use Rattle.octets.specs.declared.Gate.{Gate}
 use Rattle.octets.specs.declared.Gate.the-variants as gate
-use Rattle.diagnostics.specs.Diagnostics.{Diagnostics, Marks, entriesOf, emptyHead}
-use Rattle.diagnostics.specs.declared.Entry.{Entry}
+use Rattle.diagnostics.specs.Diagnostics.{Diagnostics, Marks, emptyHead}
+use Rattle.entries.specs.Entries.{entriesOf}
 use Rattle.diagnostics.specs.declared.Number.{Number}
 use Rattle.diagnostics.specs.declared.Head.{Head}
 use Rattle.diagnostics.specs.declared.Marks as own
@@ -15,9 +14,6 @@ use Rattle.diagnostics.specs.declared.NumberRead.{NumberRead}
 use Rattle.diagnostics.specs.declared.NumberRead.the-variants as number
 use Rattle.diagnostics.specs.declared.HeadRead.{HeadRead}
 use Rattle.diagnostics.specs.declared.HeadRead.the-variants as head
-use Rattle.diagnostics.specs.declared.EntryRead.{EntryRead}
-use Rattle.diagnostics.specs.declared.EntryRead.the-variants as entry
-use Rattle.diagnostics.specs.declared.ListRead.{ListRead}
 use Rattle.diagnostics.specs.declared.DiagnosticsRead.{DiagnosticsRead}
 
 abbrev pub marksIn : own.Marks → Marks
@@ -34,17 +30,6 @@ foundNumber (number.Stop x) = stop x
 abbrev pub foundHead : HeadRead → Read (Part Head)
 foundHead (head.Is v n) = got (record { value = v; next = n })
 foundHead (head.Stop x) = stop x
-
-abbrev pub foundEntry : EntryRead → Read (Part Entry)
-foundEntry (entry.Is v n) = got (record { value = v; next = n })
-foundEntry (entry.Stop x) = stop x
-
-abbrev pub noList : Gate → ListRead
-noList g = record { gate = g; entries = entriesOf [] }
-
-abbrev pub listRead : Read (List Entry) → ListRead
-listRead (got es) = record { gate = gate.Pass; entries = entriesOf es }
-listRead (stop x) = noList (gate.Stop x)
 
 -- Criticality Diagnostics with their entries in the front of an array, or why there are none
 abbrev pub diagnosticsRead : Read Diagnostics → DiagnosticsRead

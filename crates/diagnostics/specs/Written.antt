@@ -8,8 +8,9 @@ use lib.ListN.{length}
 use lib.Dec.{ltb}
 use Rattle.lists.specs.Lists.{pick}
 use Rattle.octets.specs.Many.{Each}
-use Rattle.octets.specs.Write.{Field, _bits_, bit, widths, packed, numberOctets}
-use Rattle.diagnostics.specs.declared.Entry.{Entry}
+use Rattle.packed.specs.Packed.{Field, _bits_, bit, widths, packed}
+use Rattle.octets.specs.Write.{numberOctets}
+use Rattle.entries.specs.declared.Entry.{Entry}
 use Rattle.diagnostics.specs.declared.Number.{Number}
 use Rattle.diagnostics.specs.declared.Number.the-variants.{Is, Absent}
 use Rattle.diagnostics.specs.declared.Head.{Head}

@@ -1,35 +1,15 @@
 // Criticality Diagnostics: what is listed of elements that were not understood or are missing, and about which message.
 ghost use mathlib.Core.Path.{_≡_};
-ghost use Prim.Native.Nat.{_+_, _<_, _≤_};
+ghost use Prim.Native.Nat.{_+_, _<_};
 ghost use lib.ListN.{length};
 ghost use Rattle.octets.specs.Read.{stop};
-ghost use Rattle.octets.specs.Found.{foundOctet};
-ghost use Rattle.diagnostics.specs.Diagnostics.{after, maybeAt, codeAt, marksAt, headAt, begins, critAt, entryAt, entriesAt, maybeListAt, diagnosticsAt};
-ghost use Rattle.diagnostics.specs.Found.{foundMarks, foundNumber, foundHead, foundEntry, listRead, noList, diagnosticsRead};
+ghost use Rattle.diagnostics.specs.Diagnostics.{after, maybeAt, codeAt, marksAt, headAt, diagnosticsAt};
+ghost use Rattle.diagnostics.specs.Found.{foundMarks, foundNumber, foundHead, diagnosticsRead};
+use entries::Entries;
 use octets::Flag;
 use octets::Gate;
 use octets::Octet;
 use octets::Stop;
-use octets::Two;
-
-// A listed element: its criticality, its id, and the type of error (0 not understood, 1 missing).
-pub struct Entry {
-    pub crit: u8,
-    pub id: u16,
-    pub error: u8,
-}
-
-const NO_ENTRY: Entry = Entry {
-    crit: 0,
-    id: 0,
-    error: 0,
-};
-
-// The first count rows are the entries.
-pub struct Entries {
-    pub rows: [Entry; 256],
-    pub count: usize,
-}
 
 pub enum Number {
     Is(u8),
@@ -73,22 +53,6 @@ enum NumberRead {
 enum HeadRead {
     Is(Head, usize),
     Stop(Stop),
-}
-
-enum EntryRead {
-    Is(Entry, usize),
-    Stop(Stop),
-}
-
-struct ListRead {
-    gate: Gate,
-    entries: Entries,
-}
-
-fn wide(x: u8) -> usize
-    ensures { λ r. ⌜ r ≡ x ⌝ }
-{
-    x as usize
 }
 
 // The first six bits: extension, what is there, extensions present.
@@ -164,7 +128,7 @@ fn maybe_at(there: bool, s: &[u8], at: usize, p: u8) -> NumberRead
     if !there {
         return NumberRead::Is(Number::Absent);
     }
-    match octets::choice_at(3, 2, s, at + wide(p / 8), p) {
+    match octets::choice_at(3, 2, s, at + numbers::wide(p / 8), p) {
         Octet::Is(v) => NumberRead::Is(Number::Is(v)),
         Octet::Stop(x) => NumberRead::Stop(x),
     }
@@ -209,7 +173,7 @@ fn head_at(s: &[u8], at: usize) -> HeadRead
             return HeadRead::Stop(x);
         }
     };
-    match octets::pad_at(s, at + wide(r / 8), r) {
+    match octets::pad_at(s, at + numbers::wide(r / 8), r) {
         Gate::Pass => HeadRead::Is(
             Head {
                 code: code,
@@ -217,143 +181,9 @@ fn head_at(s: &[u8], at: usize) -> HeadRead
                 crit: crit,
                 listed: m.listed,
             },
-            at + wide((r + 7) / 8),
+            at + numbers::wide((r + 7) / 8),
         ),
         Gate::Stop(x) => HeadRead::Stop(x),
-    }
-}
-
-// How many bits of its octet stand before an entry of the list whose entries begin at from.
-fn begin_of(from: usize, at: usize) -> u8
-    ensures { λ r. ⌜ r ≡ begins from at ⌝ }
-{
-    if at == from { 0 } else { 2 }
-}
-
-// An entry's criticality, behind two bits for extensions and before pad.
-fn crit_at(s: &[u8], at: usize, b: u8) -> Octet
-    requires { ⌜ b ≤ 2 ⌝ }
-    ensures { λ r. ⌜ foundOctet r ≡ critAt (now (s .entry)) at b ⌝ }
-{
-    match octets::plain_at(s, at, b) {
-        Gate::Pass => {}
-        Gate::Stop(x) => {
-            return Octet::Stop(x);
-        }
-    }
-    match octets::plain_at(s, at, b + 1) {
-        Gate::Pass => {}
-        Gate::Stop(x) => {
-            return Octet::Stop(x);
-        }
-    }
-    let crit = match octets::choice_at(3, 2, s, at, b + 2) {
-        Octet::Is(v) => v,
-        Octet::Stop(x) => {
-            return Octet::Stop(x);
-        }
-    };
-    match octets::pad_at(s, at, b + 4) {
-        Gate::Pass => Octet::Is(crit),
-        Gate::Stop(x) => Octet::Stop(x),
-    }
-}
-
-// An entry of the list whose entries begin at from.
-fn entry_at(s: &[u8], from: usize, at: usize) -> EntryRead
-    ensures { λ r. ⌜ foundEntry r ≡ entryAt (now (s .entry)) from at ⌝ }
-{
-    let crit = match crit_at(s, at, begin_of(from, at)) {
-        Octet::Is(v) => v,
-        Octet::Stop(x) => {
-            return EntryRead::Stop(x);
-        }
-    };
-    let id = match octets::two_at(s, at + 1) {
-        Two::Is(v) => v,
-        Two::Stop(x) => {
-            return EntryRead::Stop(x);
-        }
-    };
-    match octets::plain_at(s, at + 3, 0) {
-        Gate::Pass => {}
-        Gate::Stop(x) => {
-            return EntryRead::Stop(x);
-        }
-    }
-    match octets::choice_at(2, 1, s, at + 3, 1) {
-        Octet::Is(v) => EntryRead::Is(
-            Entry {
-                crit: crit,
-                id: id,
-                error: v,
-            },
-            at + 3,
-        ),
-        Octet::Stop(x) => EntryRead::Stop(x),
-    }
-}
-
-fn no_list(gate: Gate) -> ListRead
-    ensures { λ r. ⌜ r ≡ noList gate ⌝ }
-{
-    ListRead {
-        gate: gate,
-        entries: Entries {
-            rows: [NO_ENTRY; 256],
-            count: 0,
-        },
-    }
-}
-
-// n entries, which begin at from, and the pad behind the last.
-fn entries_at(n: usize, s: &[u8], from: usize) -> ListRead
-    requires { ⌜ n ≤ 256 ⌝ }
-    ensures { λ r. ⌜ r ≡ listRead (entriesAt n (now (s .entry)) from) ⌝ }
-{
-    let mut rows = [NO_ENTRY; 256];
-    let mut i: usize = 0;
-    let mut at = from;
-    while i < n {
-        match entry_at(s, from, at) {
-            EntryRead::Is(v, next) => {
-                rows[i] = v;
-                at = next;
-            }
-            EntryRead::Stop(x) => {
-                return no_list(Gate::Stop(x));
-            }
-        }
-        i += 1;
-    }
-    match octets::pad_at(s, at, 2) {
-        Gate::Pass => {}
-        Gate::Stop(x) => {
-            return no_list(Gate::Stop(x));
-        }
-    }
-    match octets::ends_at(s, at + 1) {
-        Gate::Pass => ListRead {
-            gate: Gate::Pass,
-            entries: Entries {
-                rows: rows,
-                count: i,
-            },
-        },
-        Gate::Stop(x) => no_list(Gate::Stop(x)),
-    }
-}
-
-// The list, if it is there: the number of entries less 1, and the entries.
-fn maybe_list_at(there: bool, s: &[u8], at: usize) -> ListRead
-    ensures { λ r. ⌜ r ≡ listRead (maybeListAt there (now (s .entry)) at) ⌝ }
-{
-    if !there {
-        return no_list(octets::ends_at(s, at));
-    }
-    match octets::octet_at(s, at) {
-        Octet::Is(n) => entries_at(wide(n) + 1, s, at + 1),
-        Octet::Stop(x) => no_list(Gate::Stop(x)),
     }
 }
 
@@ -368,10 +198,7 @@ fn no_diagnostics(x: Stop) -> DiagnosticsRead
             crit: Number::Absent,
             listed: false,
         },
-        entries: Entries {
-            rows: [NO_ENTRY; 256],
-            count: 0,
-        },
+        entries: entries::no_entries(),
     }
 }
 
@@ -381,7 +208,7 @@ pub fn diagnostics_at(s: &[u8], at: usize) -> DiagnosticsRead
 {
     match head_at(s, at) {
         HeadRead::Is(h, next) => {
-            let list = maybe_list_at(h.listed, s, next);
+            let list = entries::maybe_list_at(h.listed, s, next);
             let gate = list.gate;
             let entries = list.entries;
             match gate {

@@ -1,4 +1,3 @@
-pub mod TableLaws
 pub mod NoteLaws
 pub mod WalkLaws
 pub mod Determined

@@ -12,14 +12,14 @@ use lib.Seq.{take-all, take-length, take-append-le}
 use Rattle.lists.specs.Lists.{some}
 use Rattle.lists.proofs.Some.{some-append}
 use Rattle.lists.proofs.Fill.{fill-more}
-use Rattle.diagnostics.specs.declared.Entry.{Entry}
-use Rattle.diagnostics.specs.Diagnostics.{emptyEntry}
+use Rattle.entries.specs.declared.Entry.{Entry}
+use Rattle.entries.specs.Entries.{emptyEntry}
 use Rattle.elements.specs.declared.Noted.{Noted}
-use Rattle.elements.specs.declared.Row.{Row}
-use Rattle.elements.specs.declared.Rows.{Rows}
-use Rattle.elements.specs.Table.{rowsIn, noRow}
+use Rattle.envelopes.specs.declared.Row.{Row}
+use Rattle.envelopes.specs.declared.Rows.{Rows}
+use Rattle.envelopes.specs.Table.{rowsIn, noRow}
 use Rattle.elements.specs.Judge.{noted, noSpan, missingEntry, missingOf}
-use Rattle.elements.proofs.TableLaws.{row-at}
+use Rattle.envelopes.proofs.TableLaws.{row-at}
 use Rattle.octets.specs.declared.Span.{Span}
 
 -- one more is listed

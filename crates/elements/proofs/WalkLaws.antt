@@ -25,25 +25,16 @@ use Rattle.octets.proofs.Chain.{past, halt, got-stop, then-got, same-got}
 use Rattle.octets.proofs.Got.{open-in}
 use Rattle.kinds.specs.Kinds.{valueAt}
 use Rattle.kinds.proofs.Laws.{carried}
-use Rattle.elements.specs.declared.Row.{Row}
-use Rattle.elements.specs.declared.Head.{Head}
+use Rattle.envelopes.specs.declared.Row.{Row}
+use Rattle.envelopes.specs.declared.Head.{Head}
 use Rattle.elements.specs.declared.Noted.{Noted}
 use Rattle.elements.specs.declared.Walked.{Walked}
-use Rattle.elements.specs.Table.{find, kindOf}
-use Rattle.elements.specs.Envelope.{criticalityAt, envelopeAt, scanAt, headsAt}
+use Rattle.envelopes.specs.Table.{find, kindOf}
+use Rattle.envelopes.specs.Envelope.{criticalityAt, envelopeAt, scanAt, headsAt}
 use Rattle.elements.specs.Judge.{front, readInto, readOf, noSpan, ignored, unknownEntry, unknownOf, missingOf, noted, judgedOf, judgedBy}
 use Rattle.elements.specs.Steps.{Seen, WalkedTo, MissingIn}
-use Rattle.elements.proofs.TableLaws.{unread}
-
--- an element's value stands inside
-pub envelope-in : (s : List ℕ) (at : ℕ) {h : Head} → got h ≡ envelopeAt s at → (at + 3 < h .value .from) × (h .value .from < h .value .to) × (h .value .to ≤ length s)
-unfolding envelopeAt
-envelope-in s at {h} q =
-    let a = then-got (numberAt 2 s at) _ q in
-    let b = then-got (criticalityAt s (at + 2)) _ (a .2) in
-    let d = then-got (openAt s (at + 3)) _ (b .2) in
-    let e : d .0 ≡ h .value = ap (λ (x : Head). x .value) (sym (same-got (d .2))) in
-    rw e at (open-in s (at + 3) (d .1))
+use Rattle.envelopes.proofs.TableLaws.{unread}
+use Rattle.envelopes.proofs.ScanLaws.{scan-none, scan-cut, scan-bad, scan-more, heads-none, heads-one}
 
 -- ---- one element more
 
@@ -64,39 +55,6 @@ unknown-snoc : (t : List Row) (ys : List Head) (h : Head) → unknownOf t (ys ++
 unfolding unknownOf
 unknown-snoc t [] h = append-nil (unknownEntry t h)
 unknown-snoc t (y ∷ ys) h = rw (unknown-snoc t ys h) (sym (append-assoc (unknownEntry t y) (unknownOf t ys) (unknownEntry t h)))
-
-module _ (t : List Row) (s : List ℕ) (m at : ℕ) where
-  pub scan-none : m ≡ 0 → endsAt s at ≡ scanAt t s m at
-  unfolding scanAt
-  scan-none h = rw h
-
-  scan-suc : (n : ℕ) → (envelopeAt s at >>= λ h. valueAt (kindOf t (h .id)) (take (h .value .to) s) (h .value .from) >> scanAt t s n (h .value .to)) ≡ scanAt t s (suc n) at
-  unfolding scanAt
-  scan-suc n = refl
-
-  scan-one : (m ≡ 0 → ⊥) → (envelopeAt s at >>= λ h. valueAt (kindOf t (h .id)) (take (h .value .to) s) (h .value .from) >> scanAt t s (m - 1) (h .value .to)) ≡ scanAt t s m at
-  scan-one h = let k : suc (m - 1) ≡ m = omega arith in scan-suc (m - 1) ∙ ap (λ (n : ℕ). scanAt t s n at) k
-
-  pub scan-cut : (m ≡ 0 → ⊥) → {x : Stop} → stop x ≡ envelopeAt s at → stop x ≡ scanAt t s m at
-  scan-cut e q = halt _ q ∙ scan-one e
-
-  module _ (e : m ≡ 0 → ⊥) (h : Head) (q : got h ≡ envelopeAt s at) where
-    pub scan-bad : {x : Stop} → stop x ≡ valueAt (kindOf t (h .id)) (take (h .value .to) s) (h .value .from) → stop x ≡ scanAt t s m at
-    scan-bad r = past _ h q (halt _ r) ∙ scan-one e
-
-    pub scan-more : got tt ≡ valueAt (kindOf t (h .id)) (take (h .value .to) s) (h .value .from) → scanAt t s (m - 1) (h .value .to) ≡ scanAt t s m at
-    scan-more r = past _ h q (past _ tt r refl) ∙ scan-one e
-
-  heads-suc : (n : ℕ) (h : Head) → got h ≡ envelopeAt s at → headsAt s (suc n) at ≡ h ∷ headsAt s n (h .value .to)
-  unfolding headsAt
-  heads-suc n h q = rw (← q)
-
-  heads-one : (m ≡ 0 → ⊥) → (h : Head) → got h ≡ envelopeAt s at → headsAt s m at ≡ h ∷ headsAt s (m - 1) (h .value .to)
-  heads-one e h q = let k : suc (m - 1) ≡ m = omega arith in ap (λ (n : ℕ). headsAt s n at) (sym k) ∙ heads-suc (m - 1) h q
-
-  heads-none : m ≡ 0 → headsAt s m at ≡ []
-  unfolding headsAt
-  heads-none h = rw h
 
 fill-none : (n : ℕ) → n ≤ 12 → replicate 12 noSpan ≡ fill noSpan 12 (replicate n noSpan)
 fill-none n h =

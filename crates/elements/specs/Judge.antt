@@ -8,14 +8,14 @@ use Rattle.lists.specs.Lists.{pick, some, fill}
 use Rattle.octets.specs.Read.{Read, got, stop, _>>=_, _>>_}
 use Rattle.octets.specs.declared.Gate.the-variants as gate
 use Rattle.octets.specs.declared.Span.{Span}
-use Rattle.diagnostics.specs.declared.Entry.{Entry}
-use Rattle.diagnostics.specs.Diagnostics.{emptyEntry}
-use Rattle.elements.specs.declared.Row.{Row}
-use Rattle.elements.specs.declared.Head.{Head}
+use Rattle.entries.specs.declared.Entry.{Entry}
+use Rattle.entries.specs.Entries.{emptyEntry}
+use Rattle.envelopes.specs.declared.Row.{Row}
+use Rattle.envelopes.specs.declared.Head.{Head}
 use Rattle.elements.specs.declared.Noted.{Noted}
 use Rattle.elements.specs.declared.Judged.{Judged}
-use Rattle.elements.specs.Table.{find, known}
-use Rattle.elements.specs.Envelope.{scanAt, headsAt}
+use Rattle.envelopes.specs.Table.{find, known}
+use Rattle.envelopes.specs.Envelope.{scanAt, headsAt}
 
 -- The elements before the first known one that is out of order or repeated; row is the first row that may still come.
 unfoldable pub front : List Row → ℕ → List Head → List Head

@@ -1,4 +1,2 @@
-pub mod Table
-pub mod Envelope
 pub mod Judge
 pub mod Steps

@@ -6,12 +6,12 @@ use lib.ListN.{length, take}
 use Rattle.lists.specs.Lists.{fill}
 use Rattle.octets.specs.Read.{got}
 use Rattle.octets.specs.declared.Span.{Span}
-use Rattle.diagnostics.specs.declared.Entry.{Entry}
-use Rattle.elements.specs.declared.Row.{Row}
-use Rattle.elements.specs.declared.Head.{Head}
+use Rattle.entries.specs.declared.Entry.{Entry}
+use Rattle.envelopes.specs.declared.Row.{Row}
+use Rattle.envelopes.specs.declared.Head.{Head}
 use Rattle.elements.specs.declared.Noted.{Noted}
 use Rattle.elements.specs.declared.Walked.{Walked}
-use Rattle.elements.specs.Envelope.{scanAt, headsAt}
+use Rattle.envelopes.specs.Envelope.{scanAt, headsAt}
 use Rattle.elements.specs.Judge.{front, readOf, unknownOf, missingOf, noted, noSpan}
 
 -- what was found of the elements f

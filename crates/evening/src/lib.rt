@@ -24,24 +24,12 @@ pub struct Played {
     pub octets: usize,
 }
 
-fn number(high: u8, low: u8) -> u16
-    ensures { λ r. ⌜ r ≡ high * 256 + low ⌝ }
-{
-    (high as u16) * 256 + (low as u16)
-}
-
-fn wide(x: u16) -> usize
-    ensures { λ r. ⌜ r ≡ x ⌝ }
-{
-    x as usize
-}
-
 // A number of two octets, the high one first.
 fn two(s: &[u8], at: usize) -> u16
     requires { ⌜ at + 2 ≤ length (now s) ⌝ }
     ensures { λ r. ⌜ r ≡ valueAt 2 (now (s .entry)) at ⌝ }
 {
-    number(s[at], s[at + 1])
+    numbers::two(s[at], s[at + 1])
 }
 
 fn held(table: &[u8]) -> usize
@@ -50,7 +38,7 @@ fn held(table: &[u8]) -> usize
     if table.len() < 2 {
         return 0;
     }
-    wide(two(table, 0))
+    numbers::wide16(two(table, 0))
 }
 
 // The octets of the entry at the front, and 0 where it is not whole.
@@ -60,7 +48,7 @@ fn size(s: &[u8]) -> usize
     if s.len() < 4 {
         return 0;
     }
-    let n = 4 + wide(two(s, 2));
+    let n = 4 + numbers::wide16(two(s, 2));
     if s.len() < n {
         return 0;
     }

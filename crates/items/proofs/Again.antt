@@ -11,9 +11,10 @@ use lib.ListN.{length, getD, take, length-append}
 use lib.Seq.{length-take-le}
 use Rattle.lists.specs.Lists.{pick}
 use Rattle.octets.specs.Read.{Read, got, stop, noMeaning, _>>=_}
-use Rattle.octets.specs.Field.{bitsOf, bitsAt, flagAt, plainAt, choiceAt, padAt, numberAt, sameAt, openAt, endsAt}
+use Rattle.packed.specs.Packed.{bitsOf, _bits_, bit, packed}
+use Rattle.octets.specs.Field.{bitsAt, flagAt, plainAt, choiceAt, padAt, numberAt, sameAt, openAt, endsAt}
 use Rattle.octets.specs.Many.{Part, many, eachOctets, Each}
-use Rattle.octets.specs.Write.{_bits_, bit, packed, numberOctets, lengthOctets}
+use Rattle.octets.specs.Write.{numberOctets, lengthOctets}
 use Rattle.octets.specs.Stands.{Stands, Fills, Octets}
 use Rattle.octets.specs.declared.Span.{Span}
 use Rattle.octets.proofs.Chain.{past, then-got, same-got}
@@ -23,10 +24,11 @@ use Rattle.octets.proofs.Back.{length-number}
 use Rattle.octets.proofs.Again.{packed-again, pad-zero, number-again, open-again, fills-again}
 use Rattle.octets.proofs.ManyLaws.{many-again}
 use Rattle.identity.specs.declared.Item.{Item}
-use Rattle.items.specs.declared.Marks.{Marks}
-use Rattle.items.specs.declared.Maybe.{Maybe}
-use Rattle.items.specs.declared.Maybe.the-variants as maybe
-use Rattle.items.specs.Items.{maybeAt, mmeOf, mceOf, behind, marksAt, itemAt, itemElementAt, itemsAt, ResetType, part, resetBy, resetAt}
+use Rattle.item.specs.declared.Marks.{Marks}
+use Rattle.item.specs.declared.Maybe.{Maybe}
+use Rattle.item.specs.declared.Maybe.the-variants as maybe
+use Rattle.item.specs.Item.{maybeAt, mmeOf, mceOf, behind, marksAt, itemAt, itemElementAt}
+use Rattle.items.specs.Items.{itemsAt, ResetType, part, resetBy, resetAt}
 use Rattle.items.specs.Written.{mmeIn, mceIn, isThere, maybeOctets, itemOctets, itemElementOctets, itemsOctets, reject, resetOctets, critAt, critsAt, Marked, Rejecting}
 use Rattle.items.proofs.Back.{behind-octets}
 

@@ -7,7 +7,8 @@ use Prim.Native.Nat.{ℕ, _+_, _-_, _<_, _≤_}
 use native.Mathlib.Omega.{arith}
 use lib.ListN.{length, take, length-append}
 use Rattle.octets.specs.Read.{got}
-use Rattle.octets.specs.Write.{_bits_, bit, packed, Fit, numberOctets, lengthOctets}
+use Rattle.packed.specs.Packed.{_bits_, bit, packed, Fit}
+use Rattle.octets.specs.Write.{numberOctets, lengthOctets}
 use Rattle.octets.specs.Stands.{Stands, Fills}
 use Rattle.octets.proofs.Chain.{past}
 use Rattle.octets.proofs.Stood.{stands-split, fills-front}
@@ -19,9 +20,10 @@ use Rattle.identity.specs.declared.Mme.the-variants as mme
 use Rattle.identity.specs.declared.Mce.{Mce}
 use Rattle.identity.specs.declared.Mce.the-variants as mce
 use Rattle.identity.specs.declared.Item.{Item}
-use Rattle.items.specs.declared.Maybe.{Maybe}
-use Rattle.items.specs.declared.Maybe.the-variants as maybe
-use Rattle.items.specs.Items.{maybeAt, mmeOf, mceOf, behind, marksAt, itemAt, itemElementAt, itemsAt, ResetType, whole, part, resetAt}
+use Rattle.item.specs.declared.Maybe.{Maybe}
+use Rattle.item.specs.declared.Maybe.the-variants as maybe
+use Rattle.item.specs.Item.{maybeAt, mmeOf, mceOf, behind, marksAt, itemAt, itemElementAt}
+use Rattle.items.specs.Items.{itemsAt, ResetType, whole, part, resetAt}
 use Rattle.items.specs.Written.{mmeIn, mceIn, isThere, maybeOctets, itemOctets, itemElementOctets, itemsOctets, reject, resetOctets, GoodMaybe, GoodItem, GoodItems, GoodReset}
 
 -- ---- an item

@@ -6,7 +6,8 @@ use Rattle.octets.specs.Read.{got, _>>=_}
 use Rattle.octets.proofs.Chain.{past}
 use Rattle.octets.specs.Stands.{StaysDifferent}
 use Rattle.octets.proofs.Different.{stays-different, ends-different}
-use Rattle.items.specs.Items.{itemAt, itemElementAt, itemsAt, resetAt}
+use Rattle.item.specs.Item.{itemAt, itemElementAt}
+use Rattle.items.specs.Items.{itemsAt, resetAt}
 use Rattle.items.specs.Written.{itemOctets, itemElementOctets, itemsOctets, resetOctets, GoodItem, GoodItems, GoodReset}
 use Rattle.items.proofs.Back.{item-back, item-element-back, items-back, reset-back}
 

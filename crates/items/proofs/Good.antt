@@ -17,8 +17,9 @@ use Rattle.octets.proofs.Stood.{octets-front}
 use Rattle.octets.proofs.Again.{value-below}
 use Rattle.octets.proofs.ManyLaws.{many-each}
 use Rattle.identity.specs.declared.Item.{Item}
-use Rattle.items.specs.declared.Maybe.{Maybe}
-use Rattle.items.specs.Items.{maybeAt, mmeOf, mceOf, behind, marksAt, itemAt, itemElementAt, itemsAt, ResetType, resetBy, resetAt}
+use Rattle.item.specs.declared.Maybe.{Maybe}
+use Rattle.item.specs.Item.{maybeAt, mmeOf, mceOf, behind, marksAt, itemAt, itemElementAt}
+use Rattle.items.specs.Items.{itemsAt, ResetType, resetBy, resetAt}
 use Rattle.items.specs.Written.{GoodMaybe, GoodItem, GoodItems, GoodReset}
 use Rattle.items.proofs.Again.{mme-of-in, mce-of-in}
 

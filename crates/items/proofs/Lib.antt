@@ -1,4 +1,3 @@
-pub mod Inside
 pub mod Answers
 pub mod Determined
 pub mod Back

@@ -7,14 +7,15 @@ use lib.ListN.{length}
 use Rattle.octets.specs.Read.{Read, got, _>>=_}
 use Rattle.octets.specs.Field.{choiceAt, numberAt, openAt}
 use Rattle.octets.specs.Many.{Part, many, eachOctets, Each}
-use Rattle.octets.specs.Write.{_bits_, bit, packed, numberOctets, lengthOctets}
+use Rattle.packed.specs.Packed.{_bits_, bit, packed}
+use Rattle.octets.specs.Write.{numberOctets, lengthOctets}
 use Rattle.identity.specs.declared.Mme.{Mme}
 use Rattle.identity.specs.declared.Mme.the-variants as mme
 use Rattle.identity.specs.declared.Mce.{Mce}
 use Rattle.identity.specs.declared.Mce.the-variants as mce
 use Rattle.identity.specs.declared.Item.{Item}
-use Rattle.items.specs.declared.Maybe.{Maybe}
-use Rattle.items.specs.declared.Maybe.the-variants as maybe
+use Rattle.item.specs.declared.Maybe.{Maybe}
+use Rattle.item.specs.declared.Maybe.the-variants as maybe
 use Rattle.items.specs.Items.{ResetType, whole, part}
 
 -- an identity of one series or the other, as a number that is there or not

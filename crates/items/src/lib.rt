@@ -1,56 +1,19 @@
 // Reset items, each in its envelope, their lists, and the Reset Type, read from the begin of their octets to the end of what encloses them.
 ghost use mathlib.Core.Path.{_≡_};
-ghost use Prim.Native.Nat.{_+_, _^_, _<_};
+ghost use Prim.Native.Nat.{_+_, _<_};
 ghost use Rattle.octets.specs.Read.{stop};
 ghost use mathlib.Core.Bool.{true, false};
-ghost use Rattle.items.specs.Items.{maybeAt, mmeOf, mceOf, behind, marksAt, itemAt, itemElementAt, itemsAt, resetBy, resetAt};
-ghost use Rattle.items.specs.Found.{foundMarks, foundMaybe, foundItem, foundElement, itemsRead, wholeRead, resetRead};
+ghost use Rattle.items.specs.Items.{itemsAt, resetBy, resetAt};
+ghost use Rattle.items.specs.Found.{itemsRead, wholeRead, resetRead};
 use identity::Item;
 use identity::Items;
 use identity::Mce;
-use identity::MceId;
 use identity::Mme;
-use identity::MmeId;
+use item::ElementRead;
 use octets::Flag;
 use octets::Gate;
 use octets::Octet;
-use octets::Open;
 use octets::Stop;
-use octets::Two;
-
-// Which identities an item says that it has.
-struct Marks {
-    mme: bool,
-    mce: bool,
-}
-
-// A number that is there or not: the one or the other identity of an item, as its octets say it.
-pub enum Maybe {
-    Is(u16),
-    Absent,
-}
-
-// What the readers answer.
-enum MarksRead {
-    Is(Marks),
-    Stop(Stop),
-}
-
-enum MaybeRead {
-    Is(Maybe),
-    Stop(Stop),
-}
-
-enum ItemRead {
-    Is(Item),
-    Stop(Stop),
-}
-
-// An item, and the place behind its envelope.
-enum ElementRead {
-    Is(Item, usize),
-    Stop(Stop),
-}
 
 // A list of items, or why it was not read; then there are no items.
 pub struct ItemsRead {
@@ -68,148 +31,6 @@ pub struct ResetRead {
     pub gate: Gate,
     pub reset: Reset,
     pub items: Items,
-}
-
-// The first octet of an item.
-fn marks_at(s: &[u8], at: usize) -> MarksRead
-    ensures { λ r. ⌜ foundMarks r ≡ marksAt (now (s .entry)) at ⌝ }
-{
-    match octets::plain_at(s, at, 0) {
-        Gate::Pass => {}
-        Gate::Stop(x) => {
-            return MarksRead::Stop(x);
-        }
-    }
-    let mme = match octets::flag_at(s, at, 1) {
-        Flag::Is(v) => v,
-        Flag::Stop(x) => {
-            return MarksRead::Stop(x);
-        }
-    };
-    let mce = match octets::flag_at(s, at, 2) {
-        Flag::Is(v) => v,
-        Flag::Stop(x) => {
-            return MarksRead::Stop(x);
-        }
-    };
-    match octets::plain_at(s, at, 3) {
-        Gate::Pass => {}
-        Gate::Stop(x) => {
-            return MarksRead::Stop(x);
-        }
-    }
-    match octets::pad_at(s, at, 4) {
-        Gate::Pass => MarksRead::Is(Marks { mme: mme, mce: mce }),
-        Gate::Stop(x) => MarksRead::Stop(x),
-    }
-}
-
-// A number of two octets, where a mark said that it is there.
-fn maybe_at(there: bool, s: &[u8], at: usize) -> MaybeRead
-    ensures { λ r. ⌜ foundMaybe r ≡ maybeAt there (now (s .entry)) at ⌝ }
-{
-    if there {
-        match octets::two_at(s, at) {
-            Two::Is(v) => MaybeRead::Is(Maybe::Is(v)),
-            Two::Stop(x) => MaybeRead::Stop(x),
-        }
-    } else {
-        MaybeRead::Is(Maybe::Absent)
-    }
-}
-
-fn mme_of(x: Maybe) -> Mme
-    ensures { λ r. ⌜ r ≡ mmeOf x ⌝ }
-{
-    match x {
-        Maybe::Is(v) => Mme::Is(MmeId(v)),
-        Maybe::Absent => Mme::Absent,
-    }
-}
-
-fn mce_of(x: Maybe) -> Mce
-    ensures { λ r. ⌜ r ≡ mceOf x ⌝ }
-{
-    match x {
-        Maybe::Is(v) => Mce::Is(MceId(v)),
-        Maybe::Absent => Mce::Absent,
-    }
-}
-
-// The place behind such a number.
-fn place_behind(there: bool, at: usize) -> usize
-    requires { ⌜ at + 2 < 2 ^ 64 ⌝ }
-    ensures { λ r. ⌜ r ≡ behind there at ⌝ }
-{
-    if there { at + 2 } else { at }
-}
-
-fn item_at(s: &[u8], at: usize) -> ItemRead
-    ensures { λ r. ⌜ foundItem r ≡ itemAt (now (s .entry)) at ⌝ }
-{
-    let h = match marks_at(s, at) {
-        MarksRead::Is(v) => v,
-        MarksRead::Stop(x) => {
-            return ItemRead::Stop(x);
-        }
-    };
-    let first = at + 1;
-    let second = place_behind(h.mme, first);
-    let end = place_behind(h.mce, second);
-    let mme = match maybe_at(h.mme, s, first) {
-        MaybeRead::Is(v) => v,
-        MaybeRead::Stop(x) => {
-            return ItemRead::Stop(x);
-        }
-    };
-    let mce = match maybe_at(h.mce, s, second) {
-        MaybeRead::Is(v) => v,
-        MaybeRead::Stop(x) => {
-            return ItemRead::Stop(x);
-        }
-    };
-    match octets::ends_at(s, end) {
-        Gate::Pass => ItemRead::Is(Item {
-            mme: mme_of(mme),
-            mce: mce_of(mce),
-        }),
-        Gate::Stop(x) => ItemRead::Stop(x),
-    }
-}
-
-// An item in its envelope, whose criticality is not looked at further.
-fn item_element_at(s: &[u8], at: usize) -> ElementRead
-    ensures { λ r. ⌜ foundElement r ≡ itemElementAt (now (s .entry)) at ⌝ }
-{
-    match octets::same_at(14, s, at) {
-        Gate::Pass => {}
-        Gate::Stop(x) => {
-            return ElementRead::Stop(x);
-        }
-    }
-    match octets::choice_at(3, 2, s, at + 2, 0) {
-        Octet::Is(_) => {}
-        Octet::Stop(x) => {
-            return ElementRead::Stop(x);
-        }
-    }
-    match octets::pad_at(s, at + 2, 2) {
-        Gate::Pass => {}
-        Gate::Stop(x) => {
-            return ElementRead::Stop(x);
-        }
-    }
-    let v = match octets::open_at(s, at + 3) {
-        Open::Is(v) => v,
-        Open::Stop(x) => {
-            return ElementRead::Stop(x);
-        }
-    };
-    let to = v.to;
-    match item_at(&s[..to], v.from) {
-        ItemRead::Is(i) => ElementRead::Is(i, to),
-        ItemRead::Stop(x) => ElementRead::Stop(x),
-    }
 }
 
 fn no_items(x: Stop) -> ItemsRead
@@ -247,7 +68,7 @@ pub fn items_at(s: &[u8], at: usize) -> ItemsRead
     let mut i: usize = 0;
     let mut next = at + 1;
     while i < count {
-        match item_element_at(s, next) {
+        match item::item_element_at(s, next) {
             ElementRead::Is(v, to) => {
                 rows[i] = v;
                 next = to;

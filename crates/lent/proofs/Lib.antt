@@ -1,7 +1,6 @@
 pub mod Zeros
 pub mod Rows
 pub mod Reading
-pub mod Writing
 pub mod OneForm
 pub mod Examples
 pub mod Determined

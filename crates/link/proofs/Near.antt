@@ -17,23 +17,26 @@ use Rattle.octets.proofs.Chain.{then-got, same-got}
 use Rattle.octets.proofs.Got.{plain-got, choice-got, pad-got, number-got, string-got, wanted-got, open-in}
 use Rattle.values.specs.Values.{wholeAt, mmeAt, mceAt, sessionAt, tmgiAt, rootOf, bitsOfRoot, causeAt}
 use Rattle.identity.specs.declared.Item.{Item}
-use Rattle.items.specs.declared.Maybe.{Maybe}
+use Rattle.item.specs.declared.Maybe.{Maybe}
+use Rattle.item.specs.Item as item
 use Rattle.items.specs.Items as items
-use Rattle.items.proofs.Inside as within
+use Rattle.item.proofs.Inside as within
+use Rattle.entries.specs.Entries as entries
 use Rattle.diagnostics.specs.Diagnostics as diagnostics
 use Rattle.diagnostics.specs.Diagnostics.{Marks}
-use Rattle.diagnostics.specs.declared.Entry.{Entry}
+use Rattle.entries.specs.declared.Entry.{Entry}
 use Rattle.diagnostics.specs.declared.Head.{Head}
 use Rattle.diagnostics.specs.declared.Number.{Number}
+use Rattle.entries.proofs.Bounds as entry-bounds
 use Rattle.diagnostics.proofs.Bounds as bounds
 use Rattle.kinds.specs.declared.Kind.{Kind}
 use Rattle.kinds.specs.declared.Kind.the-variants as kind
 use Rattle.kinds.specs.Kinds.{valueAt}
-use Rattle.elements.specs.declared.Row.{Row}
-use Rattle.elements.specs.Table.{kindOf}
-use Rattle.elements.specs.Envelope.{criticalityAt, envelopeAt, scanAt}
+use Rattle.envelopes.specs.declared.Row.{Row}
+use Rattle.envelopes.specs.Table.{kindOf}
+use Rattle.envelopes.specs.Envelope.{criticalityAt, envelopeAt, scanAt}
 use Rattle.elements.specs.Judge.{elementsAt}
-use Rattle.elements.proofs.WalkLaws.{envelope-in}
+use Rattle.envelopes.proofs.ScanLaws.{envelope-in}
 use Rattle.tables.specs.declared.Message.{Message}
 use Rattle.tables.specs.Tables.{tableOf}
 use Rattle.messages.specs.declared.Frame.{Frame}
@@ -164,16 +167,16 @@ module _ (n : ℕ) (s : List ℕ) (l : length s ≤ n) (at : ℕ) (i : at ≤ n)
 -- ---- items
 
 module _ (n : ℕ) (s : List ℕ) (l : length s ≤ n) where
-  maybe-near : (b : Bool) (at : ℕ) → at ≤ n → Near n (items.maybeAt b s at)
+  maybe-near : (b : Bool) (at : ℕ) → at ≤ n → Near n (item.maybeAt b s at)
   maybe-near false at i = tt
   maybe-near true at i = near-then n (numberAt 2 s at) _ (number-near n s at i 2) (λ v q. tt)
 
-  maybe-ends : (b : Bool) (at : ℕ) {x : Maybe} → at ≤ n → got x ≡ items.maybeAt b s at → items.behind b at ≤ n
+  maybe-ends : (b : Bool) (at : ℕ) {x : Maybe} → at ≤ n → got x ≡ item.maybeAt b s at → item.behind b at ≤ n
   maybe-ends false at i q = i
   maybe-ends true at i q = let a = then-got (numberAt 2 s at) _ q in let h = number-got s at 2 (a .1) .0 in omega arith
 
-  marks-near : (at : ℕ) → at ≤ n → Near n (items.marksAt s at)
-  unfolding items.marksAt
+  marks-near : (at : ℕ) → at ≤ n → Near n (item.marksAt s at)
+  unfolding item.marksAt
   marks-near at i =
       near-then n (plainAt s at 0) _ (plain-near n s at i 0) (λ a q.
       near-then n (flagAt s at 1) _ (flag-near n s at i 1) (λ b r.
@@ -181,36 +184,36 @@ module _ (n : ℕ) (s : List ℕ) (l : length s ≤ n) where
       near-then n (plainAt s at 3) _ (plain-near n s at i 3) (λ d v.
       near-then n (padAt s at 4) _ (pad-near n s at i 4) (λ e w. tt)))))
 
-  item-near : (at : ℕ) → at ≤ n → Near n (items.itemAt s at)
-  unfolding items.itemAt
+  item-near : (at : ℕ) → at ≤ n → Near n (item.itemAt s at)
+  unfolding item.itemAt
   item-near at i =
-      near-then n (items.marksAt s at) _ (marks-near at i) (λ h q. let k = within.marks-in s at q in let j : at + 1 ≤ n = omega arith in
-      near-then n (items.maybeAt (h .mme) s (at + 1)) _ (maybe-near (h .mme) (at + 1) j) (λ x r. let u = maybe-ends (h .mme) (at + 1) j r in
-      near-then n (items.maybeAt (h .mce) s (items.behind (h .mme) (at + 1))) _ (maybe-near (h .mce) (items.behind (h .mme) (at + 1)) u) (λ y v.
-      near-then n (endsAt s (items.behind (h .mce) (items.behind (h .mme) (at + 1)))) _
-      (ends-near n s (items.behind (h .mce) (items.behind (h .mme) (at + 1))) (maybe-ends (h .mce) (items.behind (h .mme) (at + 1)) u v)) (λ e w. tt))))
+      near-then n (item.marksAt s at) _ (marks-near at i) (λ h q. let k = within.marks-in s at q in let j : at + 1 ≤ n = omega arith in
+      near-then n (item.maybeAt (h .mme) s (at + 1)) _ (maybe-near (h .mme) (at + 1) j) (λ x r. let u = maybe-ends (h .mme) (at + 1) j r in
+      near-then n (item.maybeAt (h .mce) s (item.behind (h .mme) (at + 1))) _ (maybe-near (h .mce) (item.behind (h .mme) (at + 1)) u) (λ y v.
+      near-then n (endsAt s (item.behind (h .mce) (item.behind (h .mme) (at + 1)))) _
+      (ends-near n s (item.behind (h .mce) (item.behind (h .mme) (at + 1))) (maybe-ends (h .mce) (item.behind (h .mme) (at + 1)) u v)) (λ e w. tt))))
 
 cut-short : (n : ℕ) (s : List ℕ) (k : ℕ) → length s ≤ n → length (take k s) ≤ n
 cut-short n s k l = let e = length-take k s in omega arith
 
 module _ (n : ℕ) (s : List ℕ) (l : length s ≤ n) where
-  element-near : (at : ℕ) → at ≤ n → Near n (items.itemElementAt s at)
-  unfolding items.itemElementAt
+  element-near : (at : ℕ) → at ≤ n → Near n (item.itemElementAt s at)
+  unfolding item.itemElementAt
   element-near at i =
       near-then n (sameAt 14 s at) _ (same-near n s at i 14) (λ a q. let h = wanted-got s at 14 q .0 in
       near-then n (choiceAt 3 2 s (at + 2) 0) _ (choice-near n s (at + 2) (omega arith) 3 2 0) (λ b r. let k = choice-got s (at + 2) 3 2 0 r .0 in
       near-then n (padAt s (at + 2) 2) _ (pad-near n s (at + 2) (omega arith) 2) (λ c u.
       near-then n (openAt s (at + 3)) _ (open-near n s (at + 3) (omega arith)) (λ v w. let o = open-in s (at + 3) w in let f = o .1 in let t = o .2 in
-      near-then n (items.itemAt (take (v .to) s) (v .from)) _ (item-near n (take (v .to) s) (cut-short n s (v .to) l) (v .from) (omega arith)) (λ x y. tt)))))
+      near-then n (item.itemAt (take (v .to) s) (v .from)) _ (item-near n (take (v .to) s) (cut-short n s (v .to) l) (v .from) (omega arith)) (λ x y. tt)))))
 
-  element-ends : (at : ℕ) (p : Part Item) → got p ≡ items.itemElementAt s at → p .next ≤ n
-  unfolding items.itemElementAt
+  element-ends : (at : ℕ) (p : Part Item) → got p ≡ item.itemElementAt s at → p .next ≤ n
+  unfolding item.itemElementAt
   element-ends at p q =
       let a = then-got (sameAt 14 s at) _ q in
       let b = then-got (choiceAt 3 2 s (at + 2) 0) _ (a .2) in
       let c = then-got (padAt s (at + 2) 2) _ (b .2) in
       let d = then-got (openAt s (at + 3)) _ (c .2) in
-      let e = then-got (items.itemAt (take (d .0 .to) s) (d .0 .from)) _ (d .2) in
+      let e = then-got (item.itemAt (take (d .0 .to) s) (d .0 .from)) _ (d .2) in
       let t = open-in s (at + 3) (d .1) .2 in
       let z : p .next ≡ d .0 .to = ap (λ (x : Part Item). x .next) (same-got {b = record { value = e .0; next = d .0 .to }} (e .2)) in
       omega arith
@@ -219,8 +222,8 @@ module _ (n : ℕ) (s : List ℕ) (l : length s ≤ n) where
   unfolding items.itemsAt
   items-near at i =
       near-then n (numberAt 1 s at) _ (number-near n s at i 1) (λ k q. let h = number-got s at 1 q .0 in let j : at + 1 ≤ n = omega arith in
-      near-then n (many (items.itemElementAt s) (k + 1) (at + 1)) _ (many-near n (items.itemElementAt s) element-near element-ends (k + 1) (at + 1) j) (λ is r.
-      near-then n (endsAt s (is .next)) _ (ends-near n s (is .next) (many-ends n (items.itemElementAt s) element-ends (k + 1) (at + 1) is j r)) (λ x u. tt)))
+      near-then n (many (item.itemElementAt s) (k + 1) (at + 1)) _ (many-near n (item.itemElementAt s) element-near element-ends (k + 1) (at + 1) j) (λ is r.
+      near-then n (endsAt s (is .next)) _ (ends-near n s (is .next) (many-ends n (item.itemElementAt s) element-ends (k + 1) (at + 1) is j r)) (λ x u. tt)))
 
   reset-by-near : (b : Bool) (at : ℕ) → at + 1 ≤ n → Near n (items.resetBy b s at)
   reset-by-near false at i =
@@ -313,27 +316,27 @@ module _ (n : ℕ) (s : List ℕ) (l : length s ≤ n) where
       let z : p .next ≡ at + (diagnostics.behindCrit m + 7) / 8 = ap (λ (x : Part Head). x .next) (same-got (e .2)) in
       subst (λ (x : ℕ). x ≤ n) (sym z) (pad-ends at (diagnostics.behindCrit m) h (e .1))
 
-  crit-near : (at b : ℕ) → at ≤ n → Near n (diagnostics.critAt s at b)
-  unfolding diagnostics.critAt
+  crit-near : (at b : ℕ) → at ≤ n → Near n (entries.critAt s at b)
+  unfolding entries.critAt
   crit-near at b i =
       near-then n (plainAt s at b) _ (plain-near n s at i b) (λ a q.
       near-then n (plainAt s at (b + 1)) _ (plain-near n s at i (b + 1)) (λ c r.
       near-then n (choiceAt 3 2 s at (b + 2)) _ (choice-near n s at i 3 2 (b + 2)) (λ d u.
       near-then n (padAt s at (b + 4)) _ (pad-near n s at i (b + 4)) (λ e v. tt))))
 
-  entry-near : (from at : ℕ) → at ≤ n → Near n (diagnostics.entryAt s from at)
-  unfolding diagnostics.entryAt
+  entry-near : (from at : ℕ) → at ≤ n → Near n (entries.entryAt s from at)
+  unfolding entries.entryAt
   entry-near from at i =
-      near-then n (diagnostics.critAt s at (diagnostics.begins from at)) _ (crit-near at (diagnostics.begins from at) i) (λ a q.
-      let h = bounds.crit-in s at (diagnostics.begins from at) q in
+      near-then n (entries.critAt s at (entries.begins from at)) _ (crit-near at (entries.begins from at) i) (λ a q.
+      let h = entry-bounds.crit-in s at (entries.begins from at) q in
       near-then n (numberAt 2 s (at + 1)) _ (number-near n s (at + 1) (omega arith) 2) (λ b r. let k = number-got s (at + 1) 2 r .0 in
       near-then n (plainAt s (at + 3) 0) _ (plain-near n s (at + 3) (omega arith) 0) (λ c u.
       near-then n (choiceAt 2 1 s (at + 3) 1) _ (choice-near n s (at + 3) (omega arith) 2 1 1) (λ d v. tt))))
 
-  entry-ends : (from at : ℕ) (p : Part Entry) → got p ≡ diagnostics.entryAt s from at → p .next ≤ n
-  unfolding diagnostics.entryAt
+  entry-ends : (from at : ℕ) (p : Part Entry) → got p ≡ entries.entryAt s from at → p .next ≤ n
+  unfolding entries.entryAt
   entry-ends from at p q =
-      let a = then-got (diagnostics.critAt s at (diagnostics.begins from at)) _ q in
+      let a = then-got (entries.critAt s at (entries.begins from at)) _ q in
       let b = then-got (numberAt 2 s (at + 1)) _ (a .2) in
       let c = then-got (plainAt s (at + 3) 0) _ (b .2) in
       let d = then-got (choiceAt 2 1 s (at + 3) 1) _ (c .2) in
@@ -341,20 +344,20 @@ module _ (n : ℕ) (s : List ℕ) (l : length s ≤ n) where
       let z : p .next ≡ at + 3 = ap (λ (x : Part Entry). x .next) (same-got (d .2)) in
       omega arith
 
-  entries-near : (k at : ℕ) → at ≤ n → Near n (diagnostics.entriesAt k s at)
-  unfolding diagnostics.entriesAt
+  entries-near : (k at : ℕ) → at ≤ n → Near n (entries.entriesAt k s at)
+  unfolding entries.entriesAt
   entries-near k at i =
-      near-then n (many (diagnostics.entryAt s at) k at) _ (many-near n (diagnostics.entryAt s at) (entry-near at) (entry-ends at) k at i) (λ es q.
-      let j = many-ends n (diagnostics.entryAt s at) (entry-ends at) k at es i q in
+      near-then n (many (entries.entryAt s at) k at) _ (many-near n (entries.entryAt s at) (entry-near at) (entry-ends at) k at i) (λ es q.
+      let j = many-ends n (entries.entryAt s at) (entry-ends at) k at es i q in
       near-then n (padAt s (es .next) 2) _ (pad-near n s (es .next) j 2) (λ a r. let h = pad-got s (es .next) 2 (λ e. omega arith) r .0 in
       near-then n (endsAt s (es .next + 1)) _ (ends-near n s (es .next + 1) (omega arith)) (λ b u. tt)))
 
-  list-near : (at : ℕ) → at ≤ n → Near n (diagnostics.listAt s at)
-  unfolding diagnostics.listAt
+  list-near : (at : ℕ) → at ≤ n → Near n (entries.listAt s at)
+  unfolding entries.listAt
   list-near at i =
       near-then n (numberAt 1 s at) _ (number-near n s at i 1) (λ k q. let h = number-got s at 1 q .0 in entries-near (k + 1) (at + 1) (omega arith))
 
-  maybe-list-near : (b : Bool) (at : ℕ) → at ≤ n → Near n (diagnostics.maybeListAt b s at)
+  maybe-list-near : (b : Bool) (at : ℕ) → at ≤ n → Near n (entries.maybeListAt b s at)
   maybe-list-near false at i = near-then n (endsAt s at) _ (ends-near n s at i) (λ a q. tt)
   maybe-list-near true at i = list-near at i
 
@@ -362,7 +365,7 @@ module _ (n : ℕ) (s : List ℕ) (l : length s ≤ n) where
   unfolding diagnostics.diagnosticsAt
   diagnostics-near at i =
       near-then n (diagnostics.headAt s at) _ (head-near at i) (λ h q. let j = head-ends at h i q in
-      near-then n (diagnostics.maybeListAt (h .value .listed) s (h .next)) _ (maybe-list-near (h .value .listed) (h .next) j) (λ es r. tt))
+      near-then n (entries.maybeListAt (h .value .listed) s (h .next)) _ (maybe-list-near (h .value .listed) (h .next) j) (λ es r. tt))
 
 -- ---- elements
 

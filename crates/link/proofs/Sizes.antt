@@ -14,27 +14,21 @@ use Rattle.octets.specs.Read.{Read, got, stop}
 use Rattle.octets.specs.declared.Stop.the-variants.{Fault, Extension}
 use Rattle.identity.specs.declared.MmeId.{MmeId}
 use Rattle.identity.specs.declared.MceId.{MceId}
-use Rattle.identity.specs.declared.Mme.{Mme}
 use Rattle.identity.specs.declared.Mme.the-variants as mme
-use Rattle.identity.specs.declared.Mce.{Mce}
 use Rattle.identity.specs.declared.Mce.the-variants as mce
 use Rattle.identity.specs.declared.Session.{Session}
 use Rattle.identity.specs.declared.Tmgi.{Tmgi}
 use Rattle.identity.specs.declared.Items.{Items}
-use Rattle.diagnostics.specs.declared.Entry.{Entry}
-use Rattle.diagnostics.specs.declared.Entries.{Entries}
-use Rattle.elements.specs.Envelope.{headsAt}
+use Rattle.entries.specs.declared.Entry.{Entry}
+use Rattle.entries.specs.declared.Entries.{Entries}
+use Rattle.envelopes.specs.Envelope.{headsAt}
 use Rattle.elements.specs.Judge as elements
 use Rattle.tables.specs.declared.Message.{Message}
 use Rattle.tables.specs.declared.Named.{Named}
 use Rattle.tables.specs.declared.Named.the-variants as named
 use Rattle.tables.specs.Tables.{tableOf, namedBy}
-use Rattle.records.specs.declared.MaybeTmgi.{MaybeTmgi}
 use Rattle.records.specs.declared.MaybeTmgi.the-variants as tmgi
-use Rattle.records.specs.declared.MaybeReset.{MaybeReset}
 use Rattle.records.specs.declared.MaybeReset.the-variants as reset
-use Rattle.records.specs.declared.Body.{Body}
-use Rattle.records.specs.declared.Body.the-variants as body
 use Rattle.records.specs.declared.Record.{Record}
 use Rattle.messages.specs.declared.Frame.{Frame}
 use Rattle.messages.specs.declared.Outcome.{Outcome}
@@ -51,8 +45,10 @@ use Rattle.table.specs.Table.{State, standing}
 use Rattle.lent.specs.Lent.{Lent, Held, NoTable, readTable}
 use Rattle.judge.specs.declared.Judged.{Judged}
 use Rattle.judge.specs.Judge.{asks, noFrame, judgedBy, verdictBy, judgedIn, judgedOf}
+use Rattle.carry.specs.declared.Request.{Request}
+use Rattle.carry.specs.declared.Request.the-variants as request
 use Rattle.carry.specs.declared.Decision.{Decision}
-use Rattle.carry.specs.Carry.{Decided, keeps, changes, started, startedBy, stopped, stoppedBy, resetBy, carriedOut, decision, asked, acknowledged, applied, decided}
+use Rattle.carry.specs.Carry.{Decided, keeps, changes, started, stopped, carriedOut, decision, requestOf, asked, applied, decided}
 use Rattle.unit.specs.Answers.{numbered}
 use Rattle.unit.specs.Unit.{Call, octetsIn, replyOctets, answerOf, settledIf, fits, settled, onTable, call, Called}
 use Rattle.unit.specs.declared.Back as unit
@@ -115,60 +111,47 @@ module _ (n : ℕ) where
   nowhere : 0 ≤ n
   nowhere = omega arith
 
-  module _ (l : State) (items kept : Items) (noted : Entries) where
+  module _ (l : State) (f : Frame) (items : Items) (noted : Entries) where
     abbrev PlacedFor : Decision → Type 0
-    PlacedFor d = Placed (applied l items kept noted d)
+    PlacedFor d = Placed (applied l f items noted d)
 
-    module _ (k : Standing) (c : MceId) (f : Frame) (i m : ℕ) where
-      started-placed : (x : MmeId) (t : Tmgi) (s : Session) → PlacedFor (started k c m x t s)
+    module _ (k : Standing) (c : MceId) where
+      started-placed : (x : MmeId) (t : Tmgi) (s : Session) → PlacedFor (started k c x t s)
       unfolding started
       started-placed x t s = on-pick PlacedFor (k .mme) nowhere (on-pick PlacedFor (k .mce) nowhere (on-pick PlacedFor (k .full) nowhere nowhere))
 
-      stopped-placed : (x : MmeId) (y : MceId) → PlacedFor (stopped k f m x y)
+      stopped-placed : (x : MmeId) (y : MceId) → PlacedFor (stopped k x y)
       unfolding stopped
       stopped-placed x y = on-pick PlacedFor (k .pair) nowhere nowhere
 
-      start-placed : (b : Body) (x : Mme) (t : MaybeTmgi) (s : Session) → PlacedFor (startedBy k c f b m x t s)
-      start-placed b (mme.Is x) (tmgi.Is t) s = started-placed x t s
-      start-placed b (mme.Is x) tmgi.Absent s = nowhere
-      start-placed b mme.Absent t s = nowhere
+      carried-placed : (q : Request) → PlacedFor (carriedOut k c q)
+      carried-placed (request.Start (mme.Is x) (tmgi.Is t) s) = started-placed x t s
+      carried-placed (request.Start (mme.Is x) tmgi.Absent s) = nowhere
+      carried-placed (request.Start mme.Absent t s) = nowhere
+      carried-placed (request.Stop (mme.Is x) (mce.Is y)) = stopped-placed x y
+      carried-placed (request.Stop (mme.Is x) mce.Absent) = nowhere
+      carried-placed (request.Stop mme.Absent y) = nowhere
+      carried-placed (request.Reset reset.Whole) = nowhere
+      carried-placed (request.Reset reset.Part) = nowhere
+      carried-placed (request.Reset reset.Absent) = nowhere
+      carried-placed request.Indication = nowhere
+      carried-placed request.None = nowhere
 
-      stop-placed : (b : Body) (x : Mme) (y : Mce) → PlacedFor (stoppedBy k f b m x y)
-      stop-placed b (mme.Is x) (mce.Is y) = stopped-placed x y
-      stop-placed b (mme.Is x) mce.Absent = nowhere
-      stop-placed b mme.Absent y = nowhere
-
-      reset-placed : (b : Body) (x : MaybeReset) → PlacedFor (resetBy f b i m x)
-      reset-placed b reset.Whole = nowhere
-      reset-placed b reset.Part = nowhere
-      reset-placed b reset.Absent = nowhere
-
-      asked-placed : (b : Body) → PlacedFor (carriedOut k c f i m b)
-      asked-placed (body.StartRequest b) = start-placed (body.StartRequest b) (b .mme) (b .tmgi) (b .session)
-      asked-placed (body.StopRequest b) = stop-placed (body.StopRequest b) (b .mme) (b .mce)
-      asked-placed (body.Reset b) = reset-placed (body.Reset b) (b .reset)
-      asked-placed (body.ErrorIndication b) = nowhere
-      asked-placed (body.StartResponse b) = nowhere
-      asked-placed (body.StartFailure b) = nowhere
-      asked-placed (body.StopResponse b) = nowhere
-      asked-placed (body.ResetAcknowledge b) = nowhere
-      asked-placed body.None = nowhere
-
-      ruled-placed : (b : Body) (o : Outcome) → PlacedBy n o → PlacedFor (decision k c f i m b o)
-      ruled-placed b outcome.Accepted h = asked-placed b
-      ruled-placed b outcome.TooLong h = nowhere
-      ruled-placed b (outcome.Stopped (Fault p)) h = h
-      ruled-placed b (outcome.Stopped (Extension p)) h = h
-      ruled-placed b outcome.NotAmong h = nowhere
-      ruled-placed b (outcome.Misplaced p) h = nowhere
-      ruled-placed b outcome.Rejected h = nowhere
+      ruled-placed : (q : Request) (o : Outcome) → PlacedBy n o → PlacedFor (decision k c q o)
+      ruled-placed q outcome.Accepted h = carried-placed q
+      ruled-placed q outcome.TooLong h = nowhere
+      ruled-placed q (outcome.Stopped (Fault p)) h = h
+      ruled-placed q (outcome.Stopped (Extension p)) h = h
+      ruled-placed q outcome.NotAmong h = nowhere
+      ruled-placed q (outcome.Misplaced p) h = nowhere
+      ruled-placed q outcome.Rejected h = nowhere
 
   decided-placed : (l : State) (c : MceId) (j : Judged) → PlacedBy n (j .verdict .outcome) → Placed (decided l c j)
   unfolding decided
   decided-placed l c j h =
       let v = j .verdict in
-      let kept = acknowledged (v .message .body) (v .outcome) (v .message .items) in
-      ruled-placed l (v .message .items) kept (v .noted) (standing (asked c (v .message .body)) l) c (j .frame) (kept .count) (v .noted .count) (v .message .body) (v .outcome) h
+      let q : Request = requestOf (v .message .body) in
+      ruled-placed l (j .frame) (v .message .items) (v .noted) (standing (asked c q) l) c q (v .outcome) h
 
 -- ---- replies
 

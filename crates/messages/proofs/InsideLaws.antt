@@ -14,7 +14,7 @@ use Rattle.octets.specs.declared.Gate.the-variants as gate
 use Rattle.octets.proofs.Chain.{then-got}
 use Rattle.octets.proofs.Got.{number-got}
 use Rattle.elements.specs.declared.Judged.{Judged}
-use Rattle.elements.specs.Table.{rowsIn, noRow}
+use Rattle.envelopes.specs.Table.{rowsIn, noRow}
 use Rattle.elements.specs.Judge.{Found, noSpan, noted, judgedBy}
 use Rattle.tables.specs.declared.Message.{Message}
 use Rattle.tables.specs.Tables.{tableOf, rowsOf}

@@ -3,7 +3,7 @@ use Prim.Native.Nat.{ℕ, _+_}
 use mathlib.Core.List.{List}
 use Rattle.octets.specs.Read.{Read, got, stop, _>>=_, _>>_}
 use Rattle.octets.specs.Field.{plainAt, choiceAt, padAt, numberAt, openAt, endsAt}
-use Rattle.elements.specs.Envelope.{criticalityAt}
+use Rattle.envelopes.specs.Envelope.{criticalityAt}
 use Rattle.messages.specs.declared.Frame.{Frame}
 use Rattle.messages.specs.declared.FrameRead.{FrameRead}
 use Rattle.messages.specs.declared.FrameRead.the-variants as frame

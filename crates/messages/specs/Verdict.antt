@@ -6,14 +6,14 @@ use lib.Dec.{ltb, eqb}
 use lib.ListN.{length, take}
 use Rattle.lists.specs.Lists.{pick, some}
 use Rattle.octets.specs.Read.{Read, got, stop, _>>=_}
-use Rattle.diagnostics.specs.declared.Entry.{Entry}
-use Rattle.diagnostics.specs.Diagnostics.{entriesOf}
+use Rattle.entries.specs.declared.Entry.{Entry}
+use Rattle.entries.specs.Entries.{entriesOf, noEntries}
 use Rattle.elements.specs.Judge.{Found, elementsAt}
 use Rattle.tables.specs.declared.Message.{Message}
 use Rattle.tables.specs.declared.Named.{Named}
 use Rattle.tables.specs.declared.Named.the-variants as named
 use Rattle.tables.specs.Tables.{tableOf, namedBy}
-use Rattle.records.specs.Records.{rowIn, noEntries, noRecord, recordOf}
+use Rattle.records.specs.Records.{rowIn, noRecord, recordOf}
 use Rattle.messages.specs.declared.Frame.{Frame}
 use Rattle.messages.specs.declared.Outcome.{Outcome}
 use Rattle.messages.specs.declared.Outcome.the-variants.{Accepted, TooLong, Stopped, NotAmong, Misplaced, Rejected}

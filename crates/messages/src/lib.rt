@@ -3,7 +3,7 @@ ghost use mathlib.Core.Path.{_≡_};
 ghost use Rattle.octets.specs.Found.{foundOctet, foundTwo};
 ghost use Rattle.messages.specs.Frame.{foundFrame, kindAt, frameAt, countAt};
 ghost use Rattle.messages.specs.Verdict.{without, outcomeBy, insideOf, readOf};
-use diagnostics::Entries;
+use entries::Entries;
 use octets::Gate;
 use octets::Octet;
 use octets::Open;
@@ -86,7 +86,7 @@ pub fn frame_at(s: &[u8]) -> FrameRead
             return FrameRead::Stop(x);
         }
     };
-    let crit = match elements::criticality_at(s, 2) {
+    let crit = match envelopes::criticality_at(s, 2) {
         Octet::Is(v) => v,
         Octet::Stop(x) => {
             return FrameRead::Stop(x);
@@ -128,12 +128,6 @@ fn count_at(s: &[u8], from: usize) -> Two
     octets::two_at(s, from + 1)
 }
 
-fn wide(x: u16) -> usize
-    ensures { λ r. ⌜ r ≡ x ⌝ }
-{
-    x as usize
-}
-
 // Answers 1 to 4 carry no record.
 pub fn bare(outcome: Outcome) -> Verdict
     ensures { λ r. ⌜ r ≡ without outcome ⌝ }
@@ -141,7 +135,7 @@ pub fn bare(outcome: Outcome) -> Verdict
     Verdict {
         outcome: outcome,
         message: records::no_record(),
-        noted: records::no_entries(),
+        noted: entries::no_entries(),
     }
 }
 
@@ -163,7 +157,7 @@ pub fn inside(m: Message, s: &[u8], from: usize, crit: u8) -> Verdict
     ensures { λ r. ⌜ r ≡ insideOf m (now (s .entry)) from crit ⌝ }
 {
     let n = match count_at(s, from) {
-        Two::Is(v) => wide(v),
+        Two::Is(v) => numbers::wide16(v),
         Two::Stop(x) => {
             return bare(Outcome::Stopped(x));
         }

@@ -13,12 +13,13 @@ use lib.Seq.{slice, length-slice}
 use lib.Pow.{high}
 use Rattle.lists.proofs.Parts.{take-drop}
 use Rattle.octets.specs.Read.{got}
-use Rattle.octets.specs.Field.{bitsOf, bitsAt, padAt, valueAt, numberAt, stringAt, longAt, lengthAt, openAt, endsAt}
-use Rattle.octets.specs.Write.{_bits_, widths, packed, packedIn, numberOctets, lengthOctets}
+use Rattle.packed.specs.Packed.{bitsOf, _bits_, widths, packed, packedIn}
+use Rattle.octets.specs.Field.{bitsAt, padAt, valueAt, numberAt, stringAt, longAt, lengthAt, openAt, endsAt}
+use Rattle.octets.specs.Write.{numberOctets, lengthOctets}
 use Rattle.octets.specs.Stands.{Stands, Fills, Octets}
 use Rattle.octets.specs.declared.Counted.{Counted}
 use Rattle.octets.specs.declared.Span.{Span}
-use Rattle.octets.proofs.Packed.{bits-low, fieldsOf, repacked}
+use Rattle.packed.proofs.Packed.{bits-low, fieldsOf, repacked}
 use Rattle.octets.proofs.Got.{pad-got, ends-got, number-got, string-got, length-got, Sized, short, long, open-got}
 use Rattle.octets.proofs.Stood.{stands-one, stands-more, stands-none, stands-join}
 use Rattle.octets.proofs.Back.{octets-pow}

@@ -12,10 +12,11 @@ use lib.ListN.{length, getD}
 use lib.Pow.{mod-pow-add, pow-add, pow-pos}
 use Rattle.lists.proofs.Parts.{take-drop}
 use Rattle.octets.specs.Read.{got}
-use Rattle.octets.specs.Field.{bitsOf, flagAt, plainAt, choiceAt, padAt, valueAt, numberAt, stringAt, sameAt, longAt, longLengthAt, lengthAt, openAt, endsAt}
-use Rattle.octets.specs.Write.{Field, _bits_, bit, widths, packed, Fit, numberOctets, lengthOctets}
+use Rattle.packed.specs.Packed.{bitsOf, Field, _bits_, bit, widths, packed, Fit}
+use Rattle.octets.specs.Field.{flagAt, plainAt, choiceAt, padAt, valueAt, numberAt, stringAt, sameAt, longAt, longLengthAt, lengthAt, openAt, endsAt}
+use Rattle.octets.specs.Write.{numberOctets, lengthOctets}
 use Rattle.octets.specs.Stands.{Stands}
-use Rattle.octets.proofs.Packed.{apart, pad-apart}
+use Rattle.packed.proofs.Packed.{apart, pad-apart}
 use Rattle.octets.proofs.Chain.{past}
 use Rattle.octets.proofs.Stood.{stands-head, stands-split}
 use Rattle.octets.proofs.Writing.{length-short, length-long}

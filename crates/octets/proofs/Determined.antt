@@ -3,10 +3,6 @@
 use mathlib.Core.Path.{refl}
 use Rattle.lists.proofs.Unique.{Determined, _same_, _&_}
 use Rattle.octets.proofs.OneFound.{one-gate, one-flag, one-octet, one-two, one-three, one-length, one-open}
-use Rattle.octets.proofs.bits.Kinds as bits'
-use Rattle.octets.proofs.bits.Reads as bits
-use Rattle.octets.proofs.with_bits.Kinds as with-bits'
-use Rattle.octets.proofs.with_bits.Reads as with-bits
 use Rattle.octets.proofs.flag_at.Kinds as flag-at'
 use Rattle.octets.proofs.flag_at.Reads as flag-at
 use Rattle.octets.proofs.plain_at.Kinds as plain-at'
@@ -37,12 +33,6 @@ use Rattle.octets.proofs.put_length.Kinds as put-length'
 use Rattle.octets.proofs.put_length.Reads as put-length
 use Rattle.octets.proofs.put_part.Kinds as put-part'
 use Rattle.octets.proofs.put_part.Reads as put-part
-
-pub bits-is : Determined bits'.ps bits'.r bits.Asked bits.Learnt
-bits-is κs a p x y e f = (e same f) & refl
-
-pub with-bits-is : Determined with-bits'.ps with-bits'.r with-bits.Asked with-bits.Learnt
-with-bits-is κs a p x y e f = (e same f) & refl
 
 pub flag-at-is : Determined flag-at'.ps flag-at'.r flag-at.Asked flag-at.Learnt
 flag-at-is κs a p x y e f = one-flag (e same f) & refl

@@ -11,10 +11,11 @@ use lib.Seq.{drop-append-seam}
 use lib.Pow.{high, low}
 use Rattle.octets.specs.Read.{Read, got, _>>=_}
 use Rattle.octets.specs.Field.{numberAt, lengthAt}
-use Rattle.octets.specs.Write.{Field, packedIn, Fit, numberOctets, lengthOctets}
+use Rattle.packed.specs.Packed.{Field, packedIn, Fit}
+use Rattle.octets.specs.Write.{numberOctets, lengthOctets}
 use Rattle.octets.specs.Stands.{Stands, Fills, StaysDifferent}
 use Rattle.octets.specs.declared.Counted.{Counted}
-use Rattle.octets.proofs.Packed.{packed-below}
+use Rattle.packed.proofs.Packed.{packed-below}
 use Rattle.octets.proofs.Chain.{past, same-got}
 use Rattle.octets.proofs.Stood.{stands-alone, stands-around, fills-alone}
 use Rattle.octets.proofs.Back.{number-back, length-back}

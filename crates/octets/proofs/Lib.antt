@@ -1,8 +1,8 @@
-pub mod Packed
 pub mod Chain
 pub mod Got
 pub mod Stood
 pub mod Writing
+pub mod EachWritten
 pub mod OneFound
 pub mod Determined
 pub mod Back

@@ -13,7 +13,8 @@ use borrow.Author.Tests.{ltb-true, ltb-false, lt-ltb, le-ltb}
 use lib.Dec.{ltb}
 use lib.ListN.{length, set, drop, length-append}
 use lib.Seq.{sets, sets-eq, set-out, length-sets}
-use Rattle.octets.specs.Write.{Wrote, numberOctets, lengthOctets, packed, _bits_}
+use Rattle.octets.specs.Write.{Wrote, numberOctets, lengthOctets}
+use Rattle.packed.specs.Packed.{packed, _bits_}
 
 module _ {A : Type 0} where
   pub sets-append : (l : List A) (i : ℕ) (vs ws : List A) → sets l i (vs ++ ws) ≡ sets (sets l i vs) (i + length vs) ws
@@ -58,6 +59,10 @@ pub wrote-past : (l : List ℕ) (at v : ℕ) → length l ≤ at → Wrote l at 
 wrote-past l at v h = record { octets = sym (set-out l at v h); next = omega arith }
 
 -- ---- numbers and lengths
+
+pub number-one : (v : ℕ) → v < 256 → numberOctets 1 v ≡ v ∷ []
+unfolding numberOctets
+number-one v h = let a : v / 1 % 256 ≡ v = omega arith in rw a
 
 pub number-two : (v : ℕ) → v < 65536 → numberOctets 2 v ≡ (v / 256) ∷ (v % 256) ∷ []
 unfolding numberOctets

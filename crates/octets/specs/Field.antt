@@ -1,18 +1,15 @@
 -- What stands in the octets s at octet at, and of a packed field b bits behind that octet's first. Each field says where its own fault lies.
-use Prim.Native.Nat.{ℕ, zero, suc, _+_, _*_, _-_, _/_, _%_, _^_}
+use Prim.Native.Nat.{ℕ, zero, suc, _+_, _*_, _-_, _%_, _^_}
 use mathlib.Core.Bool.{Bool}
 use mathlib.Core.List.{List}
 use lib.ListN.{length, getD}
 use lib.Seq.{slice}
 use lib.Dec.{ltb, eqb}
 use Rattle.lists.specs.Lists.{pick}
+use Rattle.packed.specs.Packed.{bitsOf}
 use Rattle.octets.specs.Read.{Read, got, stop, cutShort, noMeaning, leftOver, extended, _>>=_}
 use Rattle.octets.specs.declared.Counted.{Counted}
 use Rattle.octets.specs.declared.Span.{Span}
-
--- w bits of an octet, behind its first b
-unfoldable pub bitsOf : ℕ → ℕ → ℕ → ℕ
-bitsOf x b w = x / 2 ^ (8 - (b % 8 + w)) % 2 ^ w
 
 abbrev pub bitsAt : List ℕ → ℕ → ℕ → ℕ → ℕ
 bitsAt s at b w = bitsOf (getD s at 0) b w

@@ -3,14 +3,13 @@
 // A packed field begins b bits behind the first bit of the octet at a place; b counts within that octet, so 8 is 0 again.
 ghost use mathlib.Core.Path.{_≡_};
 ghost use mathlib.Core.List.{_∷_, []};
-ghost use Prim.Native.Nat.{min, _<_, _%_, _^_};
+ghost use Prim.Native.Nat.{min, _<_, _%_};
 ghost use lib.ListN.{length};
-ghost use lib.Bits.{bitOr};
 ghost use lib.Seq.{slice};
 ghost use Rattle.octets.specs.Read.{cutShort, noMeaning, leftOver, extended};
 ghost use Rattle.octets.specs.Found.{foundGate, foundFlag, foundOctet, foundTwo, foundThree, foundLength, foundOpen};
-ghost use Rattle.octets.specs.Field.{bitsOf, flagAt, plainAt, choiceAt, padAt, numberAt, stringAt, sameAt, lengthAt, longLengthAt, openAt, endsAt};
-ghost use Rattle.octets.specs.Write.{placed, numberOctets, lengthOctets, Wrote};
+ghost use Rattle.octets.specs.Field.{flagAt, plainAt, choiceAt, padAt, numberAt, stringAt, sameAt, lengthAt, longLengthAt, openAt, endsAt};
+ghost use Rattle.octets.specs.Write.{numberOctets, lengthOctets, Wrote};
 
 // Where a field at fault begins, counted from the first octet handed in.
 pub struct Place {
@@ -103,62 +102,10 @@ fn extended_here(at: usize) -> Stop
     Stop::Extension(Place { octet: at })
 }
 
-fn wide(x: u8) -> usize
-    ensures { λ r. ⌜ r ≡ x ⌝ }
-{
-    x as usize
-}
-
 fn wide16(x: u8) -> u16
     ensures { λ r. ⌜ r ≡ x ⌝ }
 {
     x as u16
-}
-
-// The w bits of an octet behind its first b, for any b and w.
-pub fn bits(x: u8, b: u8, w: u8) -> u8
-    ensures { λ r. ⌜ r ≡ bitsOf x b w ⌝ }
-{
-    let k = b % 8;
-    if w == 0 {
-        return 0;
-    }
-    if 8 - k <= w {
-        return low(x, w);
-    }
-    (x >> (8 - (k + w))) & (255 >> (8 - w))
-}
-
-// The lowest w bits.
-fn low(x: u8, w: u8) -> u8
-    requires { ⌜ 0 < w ⌝ }
-    ensures { λ r. ⌜ r ≡ x % 2 ^ w ⌝ }
-{
-    if 8 <= w {
-        return x;
-    }
-    x & (255 >> (8 - w))
-}
-
-// v in the w bits of an octet behind its first b.
-fn place_bits(b: u8, w: u8, v: u8) -> u8
-    ensures { λ r. ⌜ r ≡ placed b w v ⌝ }
-{
-    let k = b % 8;
-    if w == 0 {
-        return 0;
-    }
-    if 8 - k <= w {
-        return low(v, w);
-    }
-    low(v, w) << (8 - (k + w))
-}
-
-// An octet with v put in behind its first b bits, where it has none set.
-pub fn with_bits(x: u8, b: u8, w: u8, v: u8) -> u8
-    ensures { λ r. ⌜ r ≡ bitOr x (placed b w v) ⌝ }
-{
-    x | place_bits(b, w, v)
 }
 
 // A bit that says yes or no.
@@ -168,7 +115,7 @@ pub fn flag_at(s: &[u8], at: usize, b: u8) -> Flag
     if s.len() <= at {
         return Flag::Stop(cut_short(at));
     }
-    Flag::Is(bits(s[at], b, 1) == 1)
+    Flag::Is(packed::bits(s[at], b, 1) == 1)
 }
 
 // An extension bit, or one that says that extensions are present.
@@ -178,7 +125,7 @@ pub fn plain_at(s: &[u8], at: usize, b: u8) -> Gate
     if s.len() <= at {
         return Gate::Stop(cut_short(at));
     }
-    if bits(s[at], b, 1) == 0 {
+    if packed::bits(s[at], b, 1) == 0 {
         return Gate::Pass;
     }
     Gate::Stop(extended_here(at))
@@ -191,7 +138,7 @@ pub fn choice_at(n: u8, w: u8, s: &[u8], at: usize, b: u8) -> Octet
     if s.len() <= at {
         return Octet::Stop(cut_short(at));
     }
-    let v = bits(s[at], b, w);
+    let v = packed::bits(s[at], b, w);
     if v < n {
         return Octet::Is(v);
     }
@@ -208,7 +155,7 @@ pub fn pad_at(s: &[u8], at: usize, b: u8) -> Gate
     if s.len() <= at {
         return Gate::Stop(cut_short(at));
     }
-    if bits(s[at], b, 8 - b % 8) == 0 {
+    if packed::bits(s[at], b, 8 - b % 8) == 0 {
         return Gate::Pass;
     }
     Gate::Stop(no_meaning(at))
@@ -273,7 +220,7 @@ fn long_at(s: &[u8], at: usize) -> Length
     if s.len() - at < 2 {
         return Length::Stop(cut_short(at));
     }
-    let count = (wide(bits(s[at], 2, 6)) << 8) | wide(s[at + 1]);
+    let count = (numbers::wide(packed::bits(s[at], 2, 6)) << 8) | numbers::wide(s[at + 1]);
     if count < 128 {
         return Length::Stop(no_meaning(at));
     }
@@ -291,13 +238,13 @@ pub fn length_at(s: &[u8], at: usize) -> Length
         return Length::Stop(cut_short(at));
     }
     let x = s[at];
-    if bits(x, 0, 1) == 0 {
+    if packed::bits(x, 0, 1) == 0 {
         return Length::Is(Counted {
-            count: wide(x),
+            count: numbers::wide(x),
             next: at + 1,
         });
     }
-    if bits(x, 0, 2) == 3 {
+    if packed::bits(x, 0, 2) == 3 {
         return Length::Stop(no_meaning(at));
     }
     long_at(s, at)
@@ -348,16 +295,6 @@ pub fn put_octet(room: &mut [u8], at: usize, v: u8) -> usize
     room.len()
 }
 
-// A place, or the room's end where that comes before it.
-fn place_in(at: usize, room: usize) -> usize
-    ensures { λ r. ⌜ r ≡ min at room ⌝ }
-{
-    if at < room {
-        return at;
-    }
-    room
-}
-
 // A number in two octets, the high one first.
 pub fn put_two(room: &mut [u8], at: usize, v: u16) -> usize
     ensures { λ r. ⌜ Wrote (now (room .entry)) at (numberOctets 2 v) (now (room .exit)) r ⌝ }
@@ -374,9 +311,9 @@ pub fn put_length(room: &mut [u8], at: usize, n: usize) -> usize
         return put_octet(room, at, n as u8);
     }
     if 16384 <= n {
-        return place_in(at, room.len());
+        return numbers::lesser(at, room.len());
     }
-    let top = with_bits(with_bits(0, 0, 2, 2), 2, 6, (n / 256) as u8);
+    let top = packed::with_bits(packed::with_bits(0, 0, 2, 2), 2, 6, (n / 256) as u8);
     let next = put_octet(room, at, top);
     put_octet(room, next, (n % 256) as u8)
 }
@@ -385,7 +322,7 @@ pub fn put_length(room: &mut [u8], at: usize, n: usize) -> usize
 pub fn put_part(room: &mut [u8], at: usize, s: &[u8], from: usize, to: usize) -> usize
     ensures { λ r. ⌜ Wrote (now (room .entry)) at (slice from to (now (s .entry))) (now (room .exit)) r ⌝ }
 {
-    let mut next = place_in(at, room.len());
+    let mut next = numbers::lesser(at, room.len());
     let mut i = from;
     while i < to {
         if s.len() <= i {

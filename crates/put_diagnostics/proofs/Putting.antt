@@ -19,10 +19,11 @@ use lib.ListN.{length, getD, drop, drop-of-length-le}
 use lib.Seq.{drop-cons}
 use lib.Pow.{pow-pos}
 use Rattle.lists.specs.Lists.{pick}
-use Rattle.octets.specs.Write.{Field, _bits_, bit, widths, packed, packedIn, placed, numberOctets, Wrote}
-use Rattle.octets.proofs.Packed.{together}
-use Rattle.octets.proofs.Writing.{wrote-none, wrote-then}
-use Rattle.diagnostics.specs.declared.Entry.{Entry}
+use Rattle.packed.specs.Packed.{Field, _bits_, bit, widths, packed, packedIn, placed}
+use Rattle.octets.specs.Write.{Wrote}
+use Rattle.packed.proofs.Packed.{together}
+use Rattle.octets.proofs.Writing.{number-one, wrote-none, wrote-then}
+use Rattle.entries.specs.declared.Entry.{Entry}
 use Rattle.diagnostics.specs.Diagnostics.{Diagnostics, Marks}
 use Rattle.diagnostics.specs.declared.Number.the-variants.{Is, Absent}
 use Rattle.diagnostics.specs.Written.{marks, octetOf, pairs, withCode, headOctets, critFields, errorFields, entriesOctets, listOctets, diagnosticsOctets}
@@ -111,10 +112,6 @@ marks-put m =
     let b = with-bit (map bit c) _ 2 (m .trigger) a (bits-width c) (omega arith) in
     let d = with-bit (map bit t) _ 3 (m .crit) b (bits-width t) (omega arith) in
     with-bit (map bit k) _ 4 (m .listed) d (bits-width k) (omega arith) ∙ with-none (map bit all) (omega arith)
-
-pub number-one : (v : ℕ) → v < 256 → numberOctets 1 v ≡ v ∷ []
-unfolding numberOctets
-number-one v h = ap (λ (n : ℕ). n ∷ []) (omega arith)
 
 module _ (m : Marks) (x : ℕ) (vs : List ℕ) (e : x ≡ packed (map bit (marks m))) where
   pub with-code : (v : ℕ) → v < 256 → x ∷ v ∷ pairsFrom 0 0 vs ≡ withCode (Is v) (map bit (marks m)) vs

@@ -9,12 +9,13 @@ use native.Mathlib.Nat.{add-zero}
 use lib.ListN.{length, length-append, length-take}
 use Rattle.octets.specs.Write.{numberOctets}
 use Rattle.octets.proofs.Back.{length-number}
-use Rattle.diagnostics.specs.declared.Entry.{Entry}
-use Rattle.diagnostics.specs.declared.Entries.{Entries}
+use Rattle.entries.specs.declared.Entry.{Entry}
+use Rattle.entries.specs.declared.Entries.{Entries}
 use Rattle.diagnostics.specs.declared.Head.{Head}
 use Rattle.diagnostics.specs.declared.Number.{Number}
 use Rattle.diagnostics.specs.declared.Number.the-variants.{Is, Absent}
-use Rattle.diagnostics.specs.Diagnostics.{after, entriesIn}
+use Rattle.diagnostics.specs.Diagnostics.{after}
+use Rattle.entries.specs.Entries.{entriesIn}
 use Rattle.diagnostics.specs.Written.{isThere, headOctets, entriesOctets, listOctets}
 use Rattle.diagnostics.proofs.HeadBack.{head-length}
 use Rattle.diagnostics.proofs.EntriesBack.{entries-length}

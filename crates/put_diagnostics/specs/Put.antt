@@ -4,7 +4,8 @@ use mathlib.Core.List.{List, [], _∷_}
 use lib.Dec.{ltb, eqb}
 use lib.Bits.{bitOr}
 use Rattle.lists.specs.Lists.{pick}
-use Rattle.octets.specs.Write.{placed, numberOctets}
+use Rattle.packed.specs.Packed.{placed}
+use Rattle.octets.specs.Write.{numberOctets}
 use Rattle.diagnostics.specs.declared.Number.{Number}
 use Rattle.diagnostics.specs.declared.Number.the-variants.{Is, Absent}
 

@@ -4,19 +4,15 @@ ghost use mathlib.Core.Bool.{true};
 ghost use mathlib.Core.List.{[], _++_, map};
 ghost use Prim.Native.Nat.{min, _-_, _≤_};
 ghost use lib.ListN.{length};
-ghost use Rattle.octets.specs.Write.{bit, packed, Wrote};
-ghost use Rattle.diagnostics.specs.Diagnostics.{entriesIn, diagnosticsOf};
+ghost use Rattle.packed.specs.Packed.{bit, packed};
+ghost use Rattle.octets.specs.Write.{Wrote};
+ghost use Rattle.entries.specs.Entries.{entriesIn};
+ghost use Rattle.diagnostics.specs.Diagnostics.{diagnosticsOf};
 ghost use Rattle.diagnostics.specs.Written.{isThere, marksOf, marks, numbers, headOctets, listOctets, diagnosticsOctets};
 ghost use Rattle.put_diagnostics.specs.Put.{pairsFrom, entryOctets, bitsFor};
-use diagnostics::Entries;
 use diagnostics::Head;
 use diagnostics::Number;
-
-fn lesser(a: usize, b: usize) -> usize
-    ensures { λ r. ⌜ r ≡ min a b ⌝ }
-{
-    if a < b { a } else { b }
-}
+use entries::Entries;
 
 fn one(v: bool) -> u8
     ensures { λ r. ⌜ r ≡ bit v .value ⌝ }
@@ -40,10 +36,10 @@ fn marks_octet(head: Head) -> u8
     let code = head.code;
     let trigger = head.trigger;
     let crit = head.crit;
-    let x = octets::with_bits(0, 1, 1, one(there(code)));
-    let y = octets::with_bits(x, 2, 1, one(there(trigger)));
-    let z = octets::with_bits(y, 3, 1, one(there(crit)));
-    octets::with_bits(z, 4, 1, one(head.listed))
+    let x = packed::with_bits(0, 1, 1, one(there(code)));
+    let y = packed::with_bits(x, 2, 1, one(there(trigger)));
+    let z = packed::with_bits(y, 3, 1, one(there(crit)));
+    packed::with_bits(z, 4, 1, one(head.listed))
 }
 
 // An octet of which b bits are used, if any are.
@@ -51,7 +47,7 @@ fn put_begun(room: &mut [u8], at: usize, x: u8, b: u8) -> usize
     ensures { λ r. ⌜ Wrote (now (room .entry)) at (pairsFrom x b []) (now (room .exit)) r ⌝ }
 {
     if b == 0 {
-        return lesser(at, room.len());
+        return numbers::lesser(at, room.len());
     }
     octets::put_octet(room, at, x)
 }
@@ -61,7 +57,7 @@ fn put_last(room: &mut [u8], at: usize, x: u8, b: u8, n: Number) -> usize
     ensures { λ r. ⌜ Wrote (now (room .entry)) at (pairsFrom x b (numbers n)) (now (room .exit)) r ⌝ }
 {
     match n {
-        Number::Is(v) => octets::put_octet(room, at, octets::with_bits(x, b, 2, v)),
+        Number::Is(v) => octets::put_octet(room, at, packed::with_bits(x, b, 2, v)),
         Number::Absent => put_begun(room, at, x, b),
     }
 }
@@ -72,7 +68,7 @@ fn put_numbers(room: &mut [u8], at: usize, x: u8, b: u8, n: Number, m: Number) -
 {
     match n {
         Number::Is(v) => {
-            let y = octets::with_bits(x, b, 2, v);
+            let y = packed::with_bits(x, b, 2, v);
             if b < 6 {
                 return put_last(room, at, y, b + 2, m);
             }
@@ -101,20 +97,12 @@ fn put_head(room: &mut [u8], at: usize, head: Head) -> usize
     }
 }
 
-// One less, and 0 for 0.
-fn less_one(n: usize) -> u8
-    requires { ⌜ n ≤ 256 ⌝ }
-    ensures { λ r. ⌜ r ≡ n - 1 ⌝ }
-{
-    if n == 0 { 0 } else { (n - 1) as u8 }
-}
-
 // An entry, behind the first b bits of an octet, up to its id.
 fn put_entry(room: &mut [u8], at: usize, x: u8, b: u8, crit: u8, id: u16) -> usize
     requires { ⌜ b ≤ 2 ⌝ }
     ensures { λ r. ⌜ Wrote (now (room .entry)) at (entryOctets x b crit id) (now (room .exit)) r ⌝ }
 {
-    let next = octets::put_octet(room, at, octets::with_bits(x, b + 2, 2, crit));
+    let next = octets::put_octet(room, at, packed::with_bits(x, b + 2, 2, crit));
     octets::put_two(room, next, id)
 }
 
@@ -122,15 +110,15 @@ fn put_entry(room: &mut [u8], at: usize, x: u8, b: u8, crit: u8, id: u16) -> usi
 fn put_list(room: &mut [u8], at: usize, entries: Entries) -> usize
     ensures { λ r. ⌜ Wrote (now (room .entry)) at (listOctets true (entriesIn entries)) (now (room .exit)) r ⌝ }
 {
-    let n = lesser(entries.count, 256);
-    let mut next = octets::put_octet(room, at, less_one(n));
+    let n = numbers::lesser(entries.count, 256);
+    let mut next = octets::put_octet(room, at, numbers::less_one(n));
     let mut x: u8 = 0;
     let mut b: u8 = 0;
     let mut i: usize = 0;
     while i < n {
         let e = entries.rows[i];
         next = put_entry(room, next, x, b, e.crit, e.id);
-        x = octets::with_bits(0, 1, 1, e.error);
+        x = packed::with_bits(0, 1, 1, e.error);
         b = 2;
         i += 1;
     }
@@ -173,7 +161,7 @@ pub fn diagnostics_size(head: Head, entries: Entries) -> usize
 {
     let size = head_size(head);
     if head.listed {
-        return size + 2 + 3 * lesser(entries.count, 256);
+        return size + 2 + 3 * numbers::lesser(entries.count, 256);
     }
     size
 }

@@ -13,7 +13,8 @@ use lib.Seq.{slice, length-slice}
 use Rattle.lists.specs.Lists.{pick, some}
 use Rattle.lists.proofs.Tests.{and-left, and-right}
 use Rattle.octets.specs.declared.Span.{Span}
-use Rattle.octets.specs.Write.{_bits_, packed, packedIn, placed, lengthOctets}
+use Rattle.packed.specs.Packed.{_bits_, packed, packedIn, placed}
+use Rattle.octets.specs.Write.{lengthOctets}
 use Rattle.octets.proofs.Back.{length-number}
 use Rattle.octets.proofs.Writing.{length-short, length-long, length-over}
 use Rattle.identity.specs.declared.MmeId.{MmeId}
@@ -26,10 +27,11 @@ use Rattle.values.specs.Values.{rootOf}
 use Rattle.values.specs.Written.{tmgiOctets, causeOctets}
 use Rattle.items.specs.Items.{whole, part}
 use Rattle.items.specs.Written.{ignore, itemsOctets, resetOctets}
-use Rattle.diagnostics.specs.declared.Entry.{Entry}
-use Rattle.diagnostics.specs.declared.Entries.{Entries}
+use Rattle.entries.specs.declared.Entry.{Entry}
+use Rattle.entries.specs.declared.Entries.{Entries}
 use Rattle.diagnostics.specs.declared.Head.{Head}
-use Rattle.diagnostics.specs.Diagnostics.{emptyEntry, entriesIn, diagnosticsOf}
+use Rattle.entries.specs.Entries.{emptyEntry, entriesIn}
+use Rattle.diagnostics.specs.Diagnostics.{diagnosticsOf}
 use Rattle.diagnostics.specs.Written.{headOctets, listOctets, diagnosticsOctets}
 use Rattle.put_diagnostics.proofs.Putting.{with-more}
 use Rattle.said.specs.Value.{Value, carried, mme, mce, tmgi, session, cause, reset, octetsOf, hasOctets, counted, under3, entryGood, entriesGood}

@@ -3,10 +3,11 @@ use Prim.Native.Nat.{ℕ, _%_}
 use mathlib.Core.List.{List, [], _∷_, _++_}
 use lib.ListN.{length}
 use Rattle.lists.specs.Lists.{pick}
-use Rattle.octets.specs.Write.{_bits_, packed, numberOctets, lengthOctets}
+use Rattle.packed.specs.Packed.{_bits_, packed}
+use Rattle.octets.specs.Write.{numberOctets, lengthOctets}
 use Rattle.identity.specs.declared.Items.{Items}
 use Rattle.items.specs.Items.{part}
-use Rattle.diagnostics.specs.declared.Entries.{Entries}
+use Rattle.entries.specs.declared.Entries.{Entries}
 use Rattle.diagnostics.specs.declared.Head.{Head}
 use Rattle.said.specs.Value.{Value, reset, list, diagnostics, octetsOf, hasOctets}
 use Rattle.said.specs.Said.{itemsSaid, entriesSaid}

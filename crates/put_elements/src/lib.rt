@@ -9,10 +9,10 @@ ghost use Rattle.said.specs.Value.{octetsOf, counted, under3, entryGood, entrie
 ghost use Rattle.said.specs.Said.{entriesSaid, octetsIn};
 ghost use Rattle.slots.specs.Slots.{plainIn};
 ghost use Rattle.put_elements.specs.Sizes.{sizeOf, listOf, partOf, diagnosticsWith, headOctets};
-use diagnostics::Entries;
-use diagnostics::Entry;
 use diagnostics::Head;
 use diagnostics::Number;
+use entries::Entries;
+use entries::Entry;
 use identity::Items;
 use items::Reset;
 use octets::Span;
@@ -190,6 +190,6 @@ pub fn put_head(room: &mut [u8], at: usize, id: u16, crit: u8, size: usize) -> u
     ensures { λ r. ⌜ Wrote (now (room .entry)) at (headOctets id crit size) (now (room .exit)) r ⌝ }
 {
     let second = octets::put_two(room, at, id);
-    let third = octets::put_octet(room, second, octets::with_bits(0, 0, 2, crit));
+    let third = octets::put_octet(room, second, packed::with_bits(0, 0, 2, crit));
     octets::put_length(room, third, size)
 }

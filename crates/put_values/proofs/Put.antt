@@ -1,18 +1,20 @@
--- Octets put together, and lists of items that are written one after another.
+-- Octets put together, and the sizes of lists of items.
 -- Assumes nothing.
 use mathlib.Core.Path.{_≡_, _∙_, refl, sym, ap}
 use mathlib.Core.Bool.{Bool, true, false}
-use mathlib.Core.List.{List, [], _∷_, _++_, append-assoc, append-nil}
-use Prim.Native.Nat.{ℕ, min, _+_, _*_, _-_, _/_, _%_, _^_, _<_, _≤_}
+use mathlib.Core.List.{List, [], _∷_, _++_}
+use Prim.Native.Nat.{ℕ, min, _+_, _*_, _-_, _^_, _<_, _≤_}
 use native.Mathlib.Omega.{arith}
 use lib.Bits.{bitOr}
 use lib.ListN.{length, take, getD, length-take, length-append}
 use lib.Seq.{length-take-le}
-use Rattle.lists.proofs.Slices.{take-next, take-within}
-use Rattle.octets.specs.Write.{_bits_, bit, packed, packedIn, placed, numberOctets, lengthOctets, Wrote}
-use Rattle.octets.proofs.Packed.{together}
+use Rattle.lists.proofs.Slices.{take-within}
+use Rattle.packed.specs.Packed.{_bits_, bit, packed, packedIn, placed}
+use Rattle.octets.specs.Write.{numberOctets, lengthOctets}
+use Rattle.packed.proofs.Packed.{together}
 use Rattle.octets.proofs.Back.{length-number}
-use Rattle.octets.proofs.Writing.{wrote-then, length-short}
+use Rattle.octets.proofs.Writing.{length-short}
+use Rattle.octets.proofs.EachWritten.{each-take}
 use Rattle.octets.specs.Many.{eachOctets}
 use Rattle.identity.specs.declared.Item.{Item}
 use Rattle.items.specs.Written.{itemOctets, itemElementOctets, itemsOctets}
@@ -20,10 +22,6 @@ use Rattle.items.proofs.Back.{item-size}
 use Rattle.put_values.specs.declared.Criticality.{Criticality}
 use Rattle.put_values.specs.declared.Criticality.the-variants as criticality
 use Rattle.put_values.specs.Put.{critOf}
-
-pub number-one : (v : ℕ) → v < 256 → numberOctets 1 v ≡ v ∷ []
-unfolding numberOctets
-number-one v h = let a : v / 1 % 256 ≡ v = omega arith in rw a
 
 pub marks-together : (m c : Bool) → bitOr (bitOr (bitOr 0 (placed 1 1 (bit m .value))) (placed 2 1 (bit c .value))) (placed 3 1 0) ≡ packed (bit false ∷ bit m ∷ bit c ∷ bit false ∷ [])
 unfolding placed packedIn
@@ -50,18 +48,6 @@ unfolding placed packedIn
 part-together = refl
 
 -- ---- lists
-
-each-more : {A : Type 0} (octets : A → List ℕ) (vs : List A) (v : A) → eachOctets octets (vs ++ v ∷ []) ≡ eachOctets octets vs ++ octets v
-each-more octets [] v = append-nil (octets v)
-each-more octets (w ∷ vs) v = ap (octets w ++_) (each-more octets vs v) ∙ sym (append-assoc (octets w) (eachOctets octets vs) (octets v))
-
-each-take : {A : Type 0} (octets : A → List ℕ) (l : List A) (i : ℕ) (d : A) → i < length l → eachOctets octets (take (i + 1) l) ≡ eachOctets octets (take i l) ++ octets (getD l i d)
-each-take octets l i d h = rw (take-next l i d h) (each-more octets (take i l) (getD l i d))
-
--- one element more is written
-pub wrote-more : {A : Type 0} (octets : A → List ℕ) (l : List A) (i : ℕ) (d : A) {s m k : List ℕ} {at r q : ℕ} → i < length l
-    → Wrote s at (eachOctets octets (take i l)) m r → Wrote m r (octets (getD l i d)) k q → Wrote s at (eachOctets octets (take (i + 1) l)) k q
-wrote-more octets l i d h a b = rw (each-take octets l i d h) (wrote-then a b)
 
 -- an envelope has four octets around its item
 pub element-size : (crit : ℕ) (i : Item) → length (itemElementOctets crit i) ≡ 4 + length (itemOctets i)

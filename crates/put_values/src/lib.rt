@@ -4,7 +4,8 @@ ghost use mathlib.Core.Bool.{false};
 ghost use mathlib.Core.List.{_∷_, []};
 ghost use Prim.Native.Nat.{ℕ, min, _-_, _<_, _≤_};
 ghost use lib.ListN.{length};
-ghost use Rattle.octets.specs.Write.{bit, packed, Wrote};
+ghost use Rattle.packed.specs.Packed.{bit, packed};
+ghost use Rattle.octets.specs.Write.{Wrote};
 ghost use Rattle.identity.specs.Items.{listed};
 ghost use Rattle.values.specs.Values.{rootOf};
 ghost use Rattle.values.specs.Written.{mmeOctets, mceOctets, sessionOctets, tmgiOctets, causeOctet, causeOctets};
@@ -17,7 +18,7 @@ use identity::MceId;
 use identity::Mme;
 use identity::MmeId;
 use identity::Tmgi;
-use items::Maybe;
+use item::Maybe;
 use items::Reset;
 use values::Cause;
 
@@ -68,9 +69,9 @@ fn cause_octet(c: Cause) -> u8
     requires { ⌜ c .value < rootOf (c .group) ⌝ }
     ensures { λ r. ⌜ r ≡ causeOctet c ⌝ }
 {
-    let group = octets::with_bits(0, 1, 3, c.group);
-    let plain = octets::with_bits(group, 4, 1, 0);
-    octets::with_bits(plain, 5, values::width_of(c.group), c.value)
+    let group = packed::with_bits(0, 1, 3, c.group);
+    let plain = packed::with_bits(group, 4, 1, 0);
+    packed::with_bits(plain, 5, values::width_of(c.group), c.value)
 }
 
 // A cause; nothing for one outside the root.
@@ -118,9 +119,9 @@ fn mark(x: Maybe) -> u8
 fn marks_octet(x: Maybe, y: Maybe) -> u8
     ensures { λ r. ⌜ r ≡ packed (bit false ∷ bit (isThere x) ∷ bit (isThere y) ∷ bit false ∷ []) ⌝ }
 {
-    let mme = octets::with_bits(0, 1, 1, mark(x));
-    let mce = octets::with_bits(mme, 2, 1, mark(y));
-    octets::with_bits(mce, 3, 1, 0)
+    let mme = packed::with_bits(0, 1, 1, mark(x));
+    let mce = packed::with_bits(mme, 2, 1, mark(y));
+    packed::with_bits(mce, 3, 1, 0)
 }
 
 fn put_maybe(room: &mut [u8], at: usize, x: Maybe) -> usize
@@ -176,30 +177,9 @@ fn put_item_element(room: &mut [u8], at: usize, crit: Criticality, i: Item) -> u
     ensures { λ r. ⌜ Wrote (now (room .entry)) at (itemElementOctets (critOf crit) i) (now (room .exit)) r ⌝ }
 {
     let second = octets::put_two(room, at, 14);
-    let third = octets::put_octet(room, second, octets::with_bits(0, 0, 2, crit_bits(crit)));
+    let third = octets::put_octet(room, second, packed::with_bits(0, 0, 2, crit_bits(crit)));
     let value = octets::put_length(room, third, item_size(i));
     put_item(room, value, i)
-}
-
-// How many rows are items.
-fn held(count: usize) -> usize
-    ensures { λ r. ⌜ r ≡ min count 256 ⌝ }
-{
-    if count < 256 {
-        return count;
-    }
-    256
-}
-
-// The number of items less 1.
-fn less_one(n: usize) -> u8
-    requires { ⌜ n ≤ 256 ⌝ }
-    ensures { λ r. ⌜ r ≡ n - 1 ⌝ }
-{
-    if n == 0 {
-        return 0;
-    }
-    (n - 1) as u8
 }
 
 // A list of items.
@@ -207,8 +187,8 @@ pub fn put_items(room: &mut [u8], at: usize, crit: Criticality, items: Items) ->
     ensures { λ r. ⌜ Wrote (now (room .entry)) at (itemsOctets (critOf crit) (listed items)) (now (room .exit)) r ⌝ }
 {
     let rows = items.rows;
-    let n = held(items.count);
-    let mut next = octets::put_octet(room, at, less_one(n));
+    let n = numbers::lesser(items.count, 256);
+    let mut next = octets::put_octet(room, at, numbers::less_one(n));
     let mut i: usize = 0;
     while i < n {
         let row = rows[i];
@@ -223,7 +203,7 @@ pub fn items_size(items: Items) -> usize
     ensures { λ r. ⌜ ((crit : ℕ) → r ≡ length (itemsOctets crit (listed items))) ⌝ }
 {
     let rows = items.rows;
-    let n = held(items.count);
+    let n = numbers::lesser(items.count, 256);
     let mut size: usize = 1;
     let mut i: usize = 0;
     while i < n {
@@ -241,7 +221,7 @@ pub fn put_reset(room: &mut [u8], at: usize, reset: Reset, items: Items) -> usiz
     match reset {
         Reset::Whole => octets::put_octet(room, at, 0),
         Reset::Part => {
-            let list = octets::put_octet(room, at, octets::with_bits(0, 1, 1, 1));
+            let list = octets::put_octet(room, at, packed::with_bits(0, 1, 1, 1));
             put_items(room, list, Criticality::Reject, items)
         }
     }

@@ -20,7 +20,7 @@ use Rattle.identity.specs.declared.Item.{Item}
 use Rattle.items.specs.Written.{mmeIn, mceIn, GoodMaybe, GoodItem}
 use Rattle.diagnostics.specs.declared.Number.{Number}
 use Rattle.diagnostics.specs.declared.Number.the-variants as number
-use Rattle.diagnostics.specs.declared.Entry.{Entry}
+use Rattle.entries.specs.declared.Entry.{Entry}
 use Rattle.diagnostics.specs.declared.Head.{Head}
 use Rattle.records.specs.declared.MaybeTmgi.{MaybeTmgi}
 use Rattle.records.specs.declared.MaybeTmgi.the-variants as tmgi
@@ -36,9 +36,12 @@ use Rattle.slots.specs.declared.Slot.{Slot}
 use Rattle.slots.specs.declared.Value.the-variants as value
 use Rattle.slots.specs.Slots.{slot, mmeValue, mceValue, tmgiValue, sessionValue, causeValue, carriedValue, resetValue, listValue, diagnosticsValue}
 use Rattle.lent.proofs.Rows.{value-back}
-use Rattle.record_out.specs.Layout.{yes, maybeOctets, headOctets, slotOctets, mmeOctets, mceOctets, itemOctets, entryOctets}
+use Rattle.record_out.specs.Layout.{yes, maybeOctets, headOctets, slotOctets}
+use Rattle.record_rows.specs.Rows.{mmeOctets, mceOctets, itemOctets, entryOctets}
 use Rattle.record_out.proofs.Sizes.{slot-size}
-use Rattle.record_in.specs.RecordIn.{mmeOf, mceOf, tmgiOf, sessionOf, causeOf, carriedOf, resetOf, listOf, numberOf, headOf, diagnosticsOf, rowsOf, itemOf, entryOf, ValueHeld}
+use Rattle.said_rows.specs.SaidRows.{mmeOf, mceOf, rowsOf, itemOf, entryOf}
+use Rattle.record_said.specs.Said.{tmgiOf, sessionOf, causeOf, carriedOf, resetOf, listOf, numberOf, headOf, diagnosticsOf}
+use Rattle.record_in.specs.RecordIn.{ValueHeld}
 
 -- two octets say a number that they can hold
 two-back : (v : ℕ) (t : List ℕ) → v < 65536 → valueAt 2 (numberOctets 2 v ++ t) 0 ≡ v

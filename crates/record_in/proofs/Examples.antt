@@ -14,11 +14,15 @@ use Rattle.records.specs.declared.MaybeReset.the-variants as reset
 use Rattle.records.specs.declared.Carried.the-variants as carried
 use Rattle.records.specs.declared.Body.the-variants as body
 use Rattle.records.specs.declared.Record.{Record}
-use Rattle.records.specs.Records.{noItems, noEntries, noRecord}
+use Rattle.records.specs.Records.{noItems, noRecord}
+use Rattle.entries.specs.Entries.{noEntries}
 use Rattle.slots.specs.Slots.{slotsOf}
-use Rattle.record_out.specs.Layout.{slotsOctets, itemsOctets, entriesOctets, recordOctets}
+use Rattle.record_out.specs.Layout.{slotsOctets, recordOctets}
+use Rattle.record_rows.specs.Rows.{itemsOctets, entriesOctets}
 use Rattle.lent.specs.Lent.{same}
-use Rattle.record_in.specs.RecordIn.{stoppingOf, resettingOf, bodyBy, rowsOf, itemsOf, entriesOf, saidRecord, Lent, Is, NoRecord, readRecord}
+use Rattle.record_said.specs.Said.{stoppingOf, resettingOf, bodyBy, saidRecord}
+use Rattle.said_rows.specs.SaidRows.{rowsOf, itemsOf, entriesOf}
+use Rattle.record_in.specs.RecordIn.{Lent, Is, NoRecord, readRecord}
 
 -- the first octets, and zeros behind them
 abbrev octets : ℕ → List ℕ → List ℕ

@@ -10,14 +10,16 @@ use Rattle.lists.specs.Lists.{pick}
 use Rattle.lists.proofs.Fill.{length-fill}
 use Rattle.octets.specs.Field.{valueAt}
 use Rattle.identity.specs.Items.{emptyItem}
-use Rattle.diagnostics.specs.Diagnostics.{emptyEntry}
+use Rattle.entries.specs.Entries.{emptyEntry}
 use Rattle.records.specs.declared.Record.{Record}
 use Rattle.lent.specs.Lent.{same}
 use Rattle.lent.proofs.Reading.{same-self, same-is}
 use Rattle.record_out.specs.Layout.{recordOctets, recordOut}
 use Rattle.record_out.proofs.Sizes.{Arrays, record-size}
-use Rattle.record_in.specs.RecordIn.{rowsOf, itemOf, entryOf, itemsOf, entriesOf, saidRecord, Is, NoRecord, readRecord}
-use Rattle.record_in.proofs.Rows.{length-rows}
+use Rattle.said_rows.specs.SaidRows.{rowsOf, itemOf, entryOf, itemsOf, entriesOf}
+use Rattle.record_said.specs.Said.{saidRecord}
+use Rattle.record_in.specs.RecordIn.{Is, NoRecord, readRecord}
+use Rattle.said_rows.proofs.Rows.{length-rows}
 
 -- a room of one's own, with a record written into it
 pub own-octets : (r : Record) (d : List ℕ) → length d ≡ 2662 → recordOut r d ≡ recordOctets r

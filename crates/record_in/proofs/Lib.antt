@@ -1,5 +1,3 @@
-pub mod Reading
-pub mod Rows
 pub mod Same
 pub mod Back
 pub mod Parts

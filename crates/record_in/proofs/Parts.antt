@@ -13,19 +13,23 @@ use Rattle.octets.specs.Write.{numberOctets}
 use Rattle.identity.specs.declared.Items.{Items}
 use Rattle.identity.specs.Items.{emptyItem, listed}
 use Rattle.items.specs.Written.{GoodItem}
-use Rattle.diagnostics.specs.declared.Entry.{Entry}
-use Rattle.diagnostics.specs.declared.Entries.{Entries}
-use Rattle.diagnostics.specs.Diagnostics.{emptyEntry, entriesIn}
+use Rattle.entries.specs.declared.Entry.{Entry}
+use Rattle.entries.specs.declared.Entries.{Entries}
+use Rattle.entries.specs.Entries.{emptyEntry, entriesIn}
 use Rattle.records.specs.declared.Body.{Body}
 use Rattle.records.specs.declared.Body.the-variants as body
 use Rattle.records.specs.declared.Record.{Record}
 use Rattle.said.specs.Said.{messageOf}
 use Rattle.slots.specs.Slots.{valuesIn, slotsOf}
 use Rattle.lent.proofs.Rows.{value-back}
-use Rattle.record_out.specs.Layout.{messageNumber, slotOctets, slotsOctets, itemOctets, itemsOctets, entryOctets, entriesOctets, recordOctets}
-use Rattle.record_out.proofs.Sizes.{twelve-slots, slots-size, item-size, items-size, entry-size}
-use Rattle.record_in.specs.RecordIn.{slotAt, startOf, responseOf, failureOf, stoppingOf, resettingOf, acknowledgedOf, indicationOf, bodyBy, rowsOf, itemOf, entryOf, itemsOf, entriesOf, saidRecord, ValueHeld, ItemsHeld, EntriesHeld, Good}
-use Rattle.record_in.proofs.Reading.{value-drop}
+use Rattle.record_out.specs.Layout.{messageNumber, slotOctets, slotsOctets, recordOctets}
+use Rattle.record_rows.specs.Rows.{itemOctets, itemsOctets, entryOctets, entriesOctets}
+use Rattle.record_rows.proofs.Listed.{item-size, items-size, entry-size}
+use Rattle.record_out.proofs.Sizes.{twelve-slots, slots-size}
+use Rattle.record_said.specs.Said.{slotAt, startOf, responseOf, failureOf, stoppingOf, resettingOf, acknowledgedOf, indicationOf, bodyBy, saidRecord}
+use Rattle.said_rows.specs.SaidRows.{rowsOf, itemOf, entryOf, itemsOf, entriesOf}
+use Rattle.record_in.specs.RecordIn.{ValueHeld, ItemsHeld, EntriesHeld, Good}
+use Rattle.said_rows.proofs.Reading.{value-drop}
 use Rattle.record_in.proofs.Back.{item-back, entry-back, rows-back, Begins, none, slot-begins, mme-slot, mce-slot, tmgi-slot, session-slot, cause-slot, carried-slot, reset-slot, list-slot, diagnostics-slot}
 
 -- ---- a count, rows in a room of z octets, and what stands behind them

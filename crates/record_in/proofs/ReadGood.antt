@@ -27,15 +27,16 @@ use Rattle.values.proofs.Good.{mme-good, mce-good}
 use Rattle.items.specs.Items.{ResetType, whole, part, itemsAt, resetAt}
 use Rattle.items.specs.Written.{GoodItem, GoodReset}
 use Rattle.items.proofs.Good.{items-good, reset-good}
-use Rattle.diagnostics.specs.declared.Entry.{Entry}
-use Rattle.diagnostics.specs.Diagnostics as diagnostics
-use Rattle.diagnostics.specs.Diagnostics.{emptyEntry, diagnosticsAt}
+use Rattle.entries.specs.declared.Entry.{Entry}
+use Rattle.entries.specs.Entries as entries
+use Rattle.entries.specs.Entries.{emptyEntry}
+use Rattle.diagnostics.specs.Diagnostics.{diagnosticsAt}
 use Rattle.diagnostics.specs.Written.{GoodEntry}
 use Rattle.diagnostics.proofs.Again.{diagnostics-again}
-use Rattle.elements.specs.declared.Row.{Row}
-use Rattle.elements.specs.declared.Head.{Head}
-use Rattle.elements.specs.Table.{find, known}
-use Rattle.elements.specs.Envelope.{criticalityAt, envelopeAt, scanAt, onHead, headsAt}
+use Rattle.envelopes.specs.declared.Row.{Row}
+use Rattle.envelopes.specs.declared.Head.{Head}
+use Rattle.envelopes.specs.Table.{find, known}
+use Rattle.envelopes.specs.Envelope.{criticalityAt, envelopeAt, scanAt, onHead, headsAt}
 use Rattle.elements.specs.Judge.{front, noSpan, readInto, readOf, present, Found, judgedOf, elementsAt}
 use Rattle.tables.specs.declared.Message.{Message}
 use Rattle.tables.specs.declared.Message.the-variants as message
@@ -138,12 +139,12 @@ ids : (es : List Entry) → Each GoodEntry es → Each (λ (e : Entry). e .id < 
 ids [] g = tt
 ids (e ∷ es) g = (g .0 .id, ids es (g .1))
 
-entries-held : (es : List Entry) → length es ≤ 256 → Each GoodEntry es → EntriesHeld (diagnostics.entriesOf es)
+entries-held : (es : List Entry) → length es ≤ 256 → Each GoodEntry es → EntriesHeld (entries.entriesOf es)
 entries-held es b g =
     let e = take-fill emptyEntry 256 es in
     record { count = omega arith; size = length-fill emptyEntry 256 es b; empty = rw e; each = rw e (ids es g) }
 
-no-entries : EntriesHeld (diagnostics.entriesOf [])
+no-entries : EntriesHeld (entries.entriesOf [])
 no-entries = entries-held [] (omega arith) tt
 
 -- ---- values of the record

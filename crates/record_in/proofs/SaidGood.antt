@@ -18,14 +18,16 @@ use Rattle.identity.specs.declared.Mme.{Mme}
 use Rattle.identity.specs.declared.Mce.{Mce}
 use Rattle.identity.specs.Items.{emptyItem}
 use Rattle.items.specs.Written.{mmeIn, mceIn, GoodMaybe, GoodItem}
-use Rattle.diagnostics.specs.declared.Entry.{Entry}
-use Rattle.diagnostics.specs.Diagnostics.{emptyEntry}
+use Rattle.entries.specs.declared.Entry.{Entry}
+use Rattle.entries.specs.Entries.{emptyEntry}
 use Rattle.records.specs.declared.Carried.{Carried}
 use Rattle.records.specs.declared.Body.{Body}
 use Rattle.records.specs.declared.Body.the-variants as body
 use Rattle.slots.specs.Slots.{mmeValue, mceValue, carriedValue, diagnosticsValue, valuesIn}
-use Rattle.record_in.specs.RecordIn.{slotAt, mmeOf, mceOf, tmgiOf, sessionOf, causeOf, carriedOf, resetOf, listOf, diagnosticsOf, startOf, responseOf, failureOf, stoppingOf, resettingOf, acknowledgedOf, indicationOf, bodyBy, rowsOf, itemOf, entryOf, itemsOf, entriesOf, saidRecord, ValueHeld, ItemsHeld, EntriesHeld, Good}
-use Rattle.record_in.proofs.Rows.{length-rows}
+use Rattle.record_said.specs.Said.{slotAt, tmgiOf, sessionOf, causeOf, carriedOf, resetOf, listOf, diagnosticsOf, startOf, responseOf, failureOf, stoppingOf, resettingOf, acknowledgedOf, indicationOf, bodyBy, saidRecord}
+use Rattle.said_rows.specs.SaidRows.{mmeOf, mceOf, rowsOf, itemOf, entryOf, itemsOf, entriesOf}
+use Rattle.record_in.specs.RecordIn.{ValueHeld, ItemsHeld, EntriesHeld, Good}
+use Rattle.said_rows.proofs.Rows.{length-rows}
 use Rattle.record_in.proofs.Held.{tmgi-held, session-held, cause-held, reset-held, list-held, diagnostics-held}
 
 octets-drop : (n : ℕ) (s : List ℕ) → Octets s → Octets (drop n s)

@@ -10,8 +10,8 @@ use Rattle.identity.specs.declared.Mce.the-variants as mce
 use Rattle.identity.specs.declared.Item.{Item}
 use Rattle.identity.specs.Items.{itemsOf}
 use Rattle.diagnostics.specs.declared.Number.the-variants as number
-use Rattle.diagnostics.specs.declared.Entry.{Entry}
-use Rattle.diagnostics.specs.Diagnostics.{entriesOf}
+use Rattle.entries.specs.declared.Entry.{Entry}
+use Rattle.entries.specs.Entries.{entriesOf}
 use Rattle.records.specs.declared.MaybeCause.the-variants as cause
 use Rattle.records.specs.declared.MaybeReset.the-variants as reset
 use Rattle.records.specs.declared.MaybeDiagnostics.the-variants as diagnosed
@@ -20,7 +20,8 @@ use Rattle.records.specs.declared.Body.{Body}
 use Rattle.records.specs.declared.Body.the-variants as body
 use Rattle.records.specs.declared.Record.{Record}
 use Rattle.slots.specs.Slots.{slotsOf}
-use Rattle.record_out.specs.Layout.{slotsOctets, itemsOctets, entriesOctets, recordOctets}
+use Rattle.record_rows.specs.Rows.{itemsOctets, entriesOctets}
+use Rattle.record_out.specs.Layout.{slotsOctets, recordOctets}
 
 abbrev record-of : ℕ → Body → List Item → List Entry → Record
 record-of crit b is es = record { body = b; crit = crit; items = itemsOf is; entries = entriesOf es }

@@ -1,4 +1,4 @@
-pub mod Writing
+pub mod Over
 pub mod Sizes
 pub mod Examples
 pub mod Determined

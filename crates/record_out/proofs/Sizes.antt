@@ -3,28 +3,19 @@ use mathlib.Core.Path.{_≡_, refl, ap, _∙_}
 use mathlib.Core.Bool.{Bool, true, false}
 use mathlib.Core.List.{List, _++_}
 use Prim.Native.Nat.{ℕ, _+_, _*_, _≤_}
-use native.Mathlib.Nat.{mul-le-mul-left}
 use native.Mathlib.Omega.{arith}
 use borrow.Author.Tests.{leb-true}
 use lib.Dec.{leb}
-use lib.ListN.{length, take, drop, length-append, length-drop, length-take}
+use lib.ListN.{length, take, drop, length-append, length-drop}
 use lib.Seq.{take-all}
-use Rattle.lists.specs.Lists.{pick, fill}
+use Rattle.lists.specs.Lists.{pick}
 use Rattle.lists.proofs.Fill.{length-fill}
 use Rattle.octets.specs.Many.{eachOctets}
 use Rattle.octets.specs.Write.{numberOctets, Wrote}
-use Rattle.octets.proofs.Back.{length-number}
 use Rattle.octets.proofs.Writing.{sets-front}
-use Rattle.identity.specs.declared.Mme.{Mme}
-use Rattle.identity.specs.declared.Mme.the-variants as mme
-use Rattle.identity.specs.declared.Mce.{Mce}
-use Rattle.identity.specs.declared.Mce.the-variants as mce
-use Rattle.identity.specs.declared.Item.{Item}
-use Rattle.identity.specs.declared.Items.{Items}
+use Rattle.octets.proofs.EachWritten.{each-size}
 use Rattle.diagnostics.specs.declared.Number.{Number}
 use Rattle.diagnostics.specs.declared.Number.the-variants as number
-use Rattle.diagnostics.specs.declared.Entry.{Entry}
-use Rattle.diagnostics.specs.declared.Entries.{Entries}
 use Rattle.diagnostics.specs.declared.Head.{Head}
 use Rattle.records.specs.declared.Body.{Body}
 use Rattle.records.specs.declared.Body.the-variants as body
@@ -36,8 +27,8 @@ use Rattle.slots.specs.declared.Value.the-variants as value
 use Rattle.slots.specs.declared.Slot.{Slot}
 use Rattle.slots.specs.declared.Slots.{Slots}
 use Rattle.slots.specs.Slots.{slotsOf}
-use Rattle.record_out.specs.Layout.{plainOctets, maybeOctets, headOctets, valueOctets, slotOctets, mmeOctets, mceOctets, itemOctets, itemsOctets, entryOctets, entriesOctets, slotsOctets, recordOctets, recordOut}
-use Rattle.record_out.proofs.Writing.{each-size}
+use Rattle.record_rows.proofs.Listed.{items-size, entries-size}
+use Rattle.record_out.specs.Layout.{plainOctets, maybeOctets, headOctets, valueOctets, slotOctets, slotsOctets, recordOctets, recordOut}
 
 -- the arrays have as many rows as their types say
 pub record Arrays (r : Record) : Type 0 where
@@ -103,41 +94,6 @@ unfolding slotsOctets
 slots-wrote b i {x} e h w =
     let l : length (x .rows) ≡ 12 = ap (λ (y : Slots). length (y .rows)) e ∙ twelve-slots b in
     rw (← e, ← take-all i (x .rows) (omega arith)) w
-
--- ---- items of 6, entries of 4
-
-mme-size : (x : Mme) → length (mmeOctets x) ≡ 3
-unfolding numberOctets
-mme-size (mme.Is v) = refl
-mme-size mme.Absent = refl
-
-mce-size : (x : Mce) → length (mceOctets x) ≡ 3
-unfolding numberOctets
-mce-size (mce.Is v) = refl
-mce-size mce.Absent = refl
-
-pub item-size : (x : Item) → length (itemOctets x) ≡ 6
-item-size x = rw (length-append, mme-size (x .mme), mce-size (x .mce))
-
-pub entry-size : (e : Entry) → length (entryOctets e) ≡ 4
-unfolding numberOctets
-entry-size e = refl
-
--- a count, and elements of k octets in the room of 256
-list-size : {A : Type 0} (octets : A → List ℕ) (k : ℕ) → ((a : A) → length (octets a) ≡ k) → (rows : List A) (count : ℕ) → length rows ≡ 256
-    → length (numberOctets 2 count ++ fill 0 (k * 256) (eachOctets octets (take count rows))) ≡ 2 + k * 256
-list-size octets k size rows count l =
-    let b : length (take count rows) ≤ 256 = omega (arith, length-take count rows) in
-    let s : length (eachOctets octets (take count rows)) ≤ k * 256 = rw (each-size octets k size (take count rows)) (mul-le-mul-left k b) in
-    rw (length-append, length-number 2 count, length-fill 0 (k * 256) (eachOctets octets (take count rows)) s)
-
-pub items-size : (a : Items) → length (a .rows) ≡ 256 → length (itemsOctets a) ≡ 1538
-unfolding itemsOctets
-items-size a l = list-size itemOctets 6 item-size (a .rows) (a .count) l
-
-pub entries-size : (a : Entries) → length (a .rows) ≡ 256 → length (entriesOctets a) ≡ 1026
-unfolding entriesOctets
-entries-size a l = list-size entryOctets 4 entry-size (a .rows) (a .count) l
 
 -- ---- the record
 

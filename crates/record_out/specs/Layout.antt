@@ -1,4 +1,4 @@
--- A record as 2,662 octets that the link process lends: which message, the frame's criticality, twelve slots of 8, items, entries.
+-- A record as 2,662 octets that the link process lends: which message, the frame's criticality, twelve slots of 8, items, entries (record_rows).
 use Prim.Native.Nat.{ℕ, _-_}
 use mathlib.Core.Bool.{Bool, true, false}
 use mathlib.Core.List.{List, [], _∷_, _++_}
@@ -7,19 +7,9 @@ use lib.ListN.{length, drop}
 use Rattle.lists.specs.Lists.{pick, fill}
 use Rattle.octets.specs.Write.{numberOctets}
 use Rattle.octets.specs.Many.{eachOctets}
-use Rattle.identity.specs.declared.Mme.{Mme}
-use Rattle.identity.specs.declared.Mme.the-variants as mme
-use Rattle.identity.specs.declared.Mce.{Mce}
-use Rattle.identity.specs.declared.Mce.the-variants as mce
-use Rattle.identity.specs.declared.Item.{Item}
-use Rattle.identity.specs.declared.Items.{Items}
-use Rattle.identity.specs.Items.{listed}
 use Rattle.diagnostics.specs.declared.Number.{Number}
 use Rattle.diagnostics.specs.declared.Number.the-variants as number
-use Rattle.diagnostics.specs.declared.Entry.{Entry}
-use Rattle.diagnostics.specs.declared.Entries.{Entries}
 use Rattle.diagnostics.specs.declared.Head.{Head}
-use Rattle.diagnostics.specs.Diagnostics.{entriesIn}
 use Rattle.tables.specs.declared.Message.the-variants as message
 use Rattle.tables.specs.declared.Named.{Named}
 use Rattle.tables.specs.declared.Named.the-variants as named
@@ -31,6 +21,7 @@ use Rattle.slots.specs.declared.Value.{Value}
 use Rattle.slots.specs.declared.Value.the-variants as value
 use Rattle.slots.specs.declared.Slot.{Slot}
 use Rattle.slots.specs.Slots.{slotsOf}
+use Rattle.record_rows.specs.Rows.{itemsOctets, entriesOctets}
 
 -- 0 for no message
 abbrev pub messageNumber : Named → ℕ
@@ -78,30 +69,6 @@ valueOctets (value.Diagnostics h) = 1 ∷ headOctets h
 
 abbrev pub slotOctets : Slot → List ℕ
 slotOctets x = fill 0 8 (valueOctets (x .value))
-
--- ---- items of 6 octets and entries of 4, as many as the number before them says; behind them zeros
-
--- 1 and the identity, or zeros
-abbrev pub mmeOctets : Mme → List ℕ
-mmeOctets (mme.Is v) = 1 ∷ numberOctets 2 (v .0)
-mmeOctets mme.Absent = 0 ∷ 0 ∷ 0 ∷ []
-
-abbrev pub mceOctets : Mce → List ℕ
-mceOctets (mce.Is v) = 1 ∷ numberOctets 2 (v .0)
-mceOctets mce.Absent = 0 ∷ 0 ∷ 0 ∷ []
-
-abbrev pub itemOctets : Item → List ℕ
-itemOctets i = mmeOctets (i .mme) ++ mceOctets (i .mce)
-
-unfoldable pub itemsOctets : Items → List ℕ
-itemsOctets a = numberOctets 2 (a .count) ++ fill 0 1536 (eachOctets itemOctets (listed a))
-
--- criticality, id, type of error
-abbrev pub entryOctets : Entry → List ℕ
-entryOctets e = e .crit ∷ (numberOctets 2 (e .id) ++ (e .error ∷ []))
-
-unfoldable pub entriesOctets : Entries → List ℕ
-entriesOctets a = numberOctets 2 (a .count) ++ fill 0 1024 (eachOctets entryOctets (entriesIn a))
 
 unfoldable pub slotsOctets : List Slot → List ℕ
 slotsOctets l = eachOctets slotOctets l

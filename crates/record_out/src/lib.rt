@@ -2,22 +2,16 @@
 // A writer puts octets into lent room from a place on, and hands back the place behind them.
 ghost use mathlib.Core.Path.{_≡_};
 ghost use mathlib.Core.List.{_∷_, []};
-ghost use Prim.Native.Nat.{min, _+_, _-_, _≤_};
+ghost use Prim.Native.Nat.{_-_, _≤_};
 ghost use lib.Dec.{leb};
-ghost use lib.ListN.{length, replicate};
-ghost use Rattle.octets.specs.Write.{numberOctets, Wrote};
+ghost use lib.ListN.{length};
+ghost use Rattle.octets.specs.Write.{Wrote};
 ghost use Rattle.tables.specs.declared.Named.the-variants as named;
 ghost use Rattle.slots.specs.declared.Plain.the-variants as plain;
 ghost use Rattle.slots.specs.Slots.{slotsOf};
-ghost use Rattle.record_out.specs.Layout.{messageNumber, yes, plainOctets, maybeOctets, headOctets, valueOctets, slotOctets, mmeOctets, mceOctets, itemOctets, itemsOctets, entryOctets, entriesOctets, slotsOctets, recordOctets, recordOut};
-use diagnostics::Entries;
-use diagnostics::Entry;
+ghost use Rattle.record_out.specs.Layout.{messageNumber, yes, plainOctets, maybeOctets, headOctets, valueOctets, slotOctets, slotsOctets, recordOctets, recordOut};
 use diagnostics::Head;
 use diagnostics::Number;
-use identity::Item;
-use identity::Items;
-use identity::Mce;
-use identity::Mme;
 use identity::Tmgi;
 use octets::Span;
 use records::Body;
@@ -59,13 +53,6 @@ fn flag(b: bool) -> u8
     if b { 1 } else { 0 }
 }
 
-// The low 16 bits of a number, in two octets.
-fn put_number(room: &mut [u8], at: usize, n: usize) -> usize
-    ensures { λ r. ⌜ Wrote (now (room .entry)) at (numberOctets 2 n) (now (room .exit)) r ⌝ }
-{
-    octets::put_two(room, at, (n % 65536) as u16)
-}
-
 fn put_pair(room: &mut [u8], at: usize, a: u8, b: u8) -> usize
     ensures { λ r. ⌜ Wrote (now (room .entry)) at (a ∷ b ∷ []) (now (room .exit)) r ⌝ }
 {
@@ -78,18 +65,6 @@ fn put_three(room: &mut [u8], at: usize, a: u8, b: u8, c: u8) -> usize
 {
     let next = put_pair(room, at, a, b);
     octets::put_octet(room, next, c)
-}
-
-// Zeros from a place up to another. A plain loop, so that the compiler takes many octets at a time.
-fn clear(room: &mut [u8], at: usize, to: usize)
-    requires { ⌜ (at ≤ to) × (to ≤ length (now room)) ⌝ }
-    ensures { λ _. ⌜ Wrote (now (room .entry)) at (replicate (to - at) 0) (now (room .exit)) to ⌝ }
-{
-    let mut i = at;
-    while i < to {
-        room[i] = 0;
-        i += 1;
-    }
 }
 
 fn put_tmgi(room: &mut [u8], at: usize, t: Tmgi) -> usize
@@ -114,8 +89,8 @@ fn between(from: usize, to: usize) -> usize
 fn put_carried(room: &mut [u8], at: usize, v: Span) -> usize
     ensures { λ r. ⌜ Wrote (now (room .entry)) at (plainOctets (plain.Carried v)) (now (room .exit)) r ⌝ }
 {
-    let next = put_number(room, at, v.from);
-    put_number(room, next, between(v.from, v.to))
+    let next = record_rows::put_number(room, at, v.from);
+    record_rows::put_number(room, next, between(v.from, v.to))
 }
 
 fn put_plain(room: &mut [u8], at: usize, p: Plain) -> usize
@@ -173,20 +148,19 @@ fn put_value(room: &mut [u8], at: usize, v: Value) -> usize
     }
 }
 
-// A slot: its value, and zeros up to 8 octets.
+// A slot: 8 zeros, and its value over them.
 fn put_slot(room: &mut [u8], at: usize, x: Slot) -> usize
-    requires { ⌜ at + 8 ≤ length (now room) ⌝ }
+    requires { ⌜ at ≤ length (now room) ⌝ }
     ensures { λ r. ⌜ Wrote (now (room .entry)) at (slotOctets x) (now (room .exit)) r ⌝ }
 {
     let v = x.value;
-    let next = put_value(room, at, v);
-    let end = at + 8;
-    clear(room, next, end);
+    let end = record_rows::put_zeros(room, at, 8);
+    put_value(room, at, v);
     end
 }
 
 fn put_slots(room: &mut [u8], at: usize, body: Body) -> usize
-    requires { ⌜ at + 96 ≤ length (now room) ⌝ }
+    requires { ⌜ at ≤ length (now room) ⌝ }
     ensures { λ r. ⌜ Wrote (now (room .entry)) at (slotsOctets (slotsOf body .rows)) (now (room .exit)) r ⌝ }
 {
     let all = slots::slots_of(body);
@@ -200,95 +174,7 @@ fn put_slots(room: &mut [u8], at: usize, body: Body) -> usize
     next
 }
 
-fn put_mme(room: &mut [u8], at: usize, x: Mme) -> usize
-    ensures { λ r. ⌜ Wrote (now (room .entry)) at (mmeOctets x) (now (room .exit)) r ⌝ }
-{
-    match x {
-        Mme::Is(v) => {
-            let next = octets::put_octet(room, at, 1);
-            octets::put_two(room, next, v.0)
-        }
-        Mme::Absent => put_three(room, at, 0, 0, 0),
-    }
-}
-
-fn put_mce(room: &mut [u8], at: usize, x: Mce) -> usize
-    ensures { λ r. ⌜ Wrote (now (room .entry)) at (mceOctets x) (now (room .exit)) r ⌝ }
-{
-    match x {
-        Mce::Is(v) => {
-            let next = octets::put_octet(room, at, 1);
-            octets::put_two(room, next, v.0)
-        }
-        Mce::Absent => put_three(room, at, 0, 0, 0),
-    }
-}
-
-fn put_item(room: &mut [u8], at: usize, x: Item) -> usize
-    ensures { λ r. ⌜ Wrote (now (room .entry)) at (itemOctets x) (now (room .exit)) r ⌝ }
-{
-    let m = x.mme;
-    let c = x.mce;
-    let mce = put_mme(room, at, m);
-    put_mce(room, mce, c)
-}
-
-fn put_entry(room: &mut [u8], at: usize, e: Entry) -> usize
-    ensures { λ r. ⌜ Wrote (now (room .entry)) at (entryOctets e) (now (room .exit)) r ⌝ }
-{
-    let id = octets::put_octet(room, at, e.crit);
-    let error = octets::put_two(room, id, e.id);
-    octets::put_octet(room, error, e.error)
-}
-
-// How many rows are there of those that are counted.
-fn held(count: usize) -> usize
-    ensures { λ r. ⌜ r ≡ min count 256 ⌝ }
-{
-    if count < 256 {
-        return count;
-    }
-    256
-}
-
-// The count, the items, and zeros in the place of those that are missing.
-fn put_items(room: &mut [u8], at: usize, items: Items) -> usize
-    requires { ⌜ at + 1538 ≤ length (now room) ⌝ }
-    ensures { λ r. ⌜ Wrote (now (room .entry)) at (itemsOctets items) (now (room .exit)) r ⌝ }
-{
-    let n = held(items.count);
-    let mut next = put_number(room, at, items.count);
-    let mut i: usize = 0;
-    while i < n {
-        let x = items.rows[i];
-        next = put_item(room, next, x);
-        i += 1;
-    }
-    let behind = at + 1538;
-    clear(room, next, behind);
-    behind
-}
-
-// The count, the entries, and zeros in the place of those that are missing.
-fn put_entries(room: &mut [u8], at: usize, entries: Entries) -> usize
-    requires { ⌜ at + 1026 ≤ length (now room) ⌝ }
-    ensures { λ r. ⌜ Wrote (now (room .entry)) at (entriesOctets entries) (now (room .exit)) r ⌝ }
-{
-    let n = held(entries.count);
-    let mut next = put_number(room, at, entries.count);
-    let mut i: usize = 0;
-    while i < n {
-        let x = entries.rows[i];
-        next = put_entry(room, next, x);
-        i += 1;
-    }
-    let end = at + 1026;
-    clear(room, next, end);
-    end
-}
-
 fn put_record(room: &mut [u8], what: Record) -> usize
-    requires { ⌜ 2662 ≤ length (now room) ⌝ }
     ensures { λ r. ⌜ Wrote (now (room .entry)) 0 (recordOctets what) (now (room .exit)) r ⌝ }
 {
     let body = what.body;
@@ -297,8 +183,8 @@ fn put_record(room: &mut [u8], what: Record) -> usize
     let message = message_number(slots::message_in(body));
     let rows = put_pair(room, 0, message, what.crit);
     let list = put_slots(room, rows, body);
-    let more = put_items(room, list, items);
-    put_entries(room, more, entries)
+    let more = record_rows::put_items(room, list, items);
+    record_rows::put_entries(room, more, entries)
 }
 
 // The record's octets into the front of what is lent, if that is long enough; it says whether it is.

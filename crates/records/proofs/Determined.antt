@@ -8,8 +8,6 @@ use Rattle.records.proofs.record_of.Kinds as record-of'
 use Rattle.records.proofs.record_of.Reads as record-of
 use Rattle.records.proofs.no_items.Kinds as no-items'
 use Rattle.records.proofs.no_items.Reads as no-items
-use Rattle.records.proofs.no_entries.Kinds as no-entries'
-use Rattle.records.proofs.no_entries.Reads as no-entries
 
 pub no-record-is : Determined no-record'.ps no-record'.r no-record.Asked no-record.Learnt
 no-record-is κs a p x y e f = (e same f) & refl
@@ -19,6 +17,3 @@ record-of-is κs a p x y e f = (e same f) & refl
 
 pub no-items-is : Determined no-items'.ps no-items'.r no-items.Asked no-items.Learnt
 no-items-is κs a p x y e f = (e same f) & refl
-
-pub no-entries-is : Determined no-entries'.ps no-entries'.r no-entries.Asked no-entries.Learnt
-no-entries-is κs a p x y e f = (e same f) & refl

@@ -5,8 +5,7 @@ use lib.ListN.{getD}
 use Rattle.octets.specs.declared.Span.{Span}
 use Rattle.identity.specs.declared.Items.{Items}
 use Rattle.identity.specs.Items.{itemsOf}
-use Rattle.diagnostics.specs.declared.Entries.{Entries}
-use Rattle.diagnostics.specs.Diagnostics.{entriesOf}
+use Rattle.entries.specs.Entries.{noEntries}
 use Rattle.elements.specs.Judge.{noSpan}
 use Rattle.tables.specs.declared.Message.{Message}
 use Rattle.tables.specs.declared.Message.the-variants as message
@@ -17,9 +16,6 @@ use Rattle.records.specs.Values.{mmeIn, mceIn, tmgiIn, sessionIn, causeI
 
 abbrev pub noItems : Items
 noItems = itemsOf []
-
-abbrev pub noEntries : Entries
-noEntries = entriesOf []
 
 -- no message
 abbrev pub noRecord : Record

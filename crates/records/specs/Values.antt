@@ -16,7 +16,8 @@ use Rattle.identity.specs.declared.Session.the-variants as session
 use Rattle.identity.specs.Items.{itemsOf}
 use Rattle.values.specs.Values.{mmeAt, mceAt, tmgiAt, sessionAt, causeAt}
 use Rattle.items.specs.Items.{ResetType, whole, part, itemsAt, resetAt}
-use Rattle.diagnostics.specs.Diagnostics.{Diagnostics, entriesOf, diagnosticsAt}
+use Rattle.diagnostics.specs.Diagnostics.{Diagnostics, diagnosticsAt}
+use Rattle.entries.specs.Entries.{entriesOf}
 use Rattle.elements.specs.Judge.{present}
 use Rattle.records.specs.declared.MaybeTmgi.{MaybeTmgi}
 use Rattle.records.specs.declared.MaybeTmgi.the-variants as tmgi

@@ -3,10 +3,11 @@
 ghost use mathlib.Core.Path.{_≡_};
 ghost use Prim.Native.Nat.{min};
 ghost use Rattle.records.specs.Values.{mmeIn, mceIn, tmgiIn, sessionIn, causeIn, carriedIn, diagnosticsIn, resetIn, listIn};
-ghost use Rattle.records.specs.Records.{noItems, noEntries, noRecord, rowIn, startCarried, recordOf};
-use diagnostics::Entries;
-use diagnostics::Entry;
+ghost use Rattle.records.specs.Records.{noItems, noRecord, rowIn, startCarried, recordOf};
+ghost use Rattle.entries.specs.Entries.{noEntries};
 use diagnostics::Head;
+use entries::Entries;
+use entries::Entry;
 use identity::Item;
 use identity::Items;
 use identity::Mce;
@@ -147,20 +148,10 @@ pub struct Listed {
     pub items: Items,
 }
 
-// A place, or the end of n octets where that comes before it.
-fn end_in(n: usize, to: usize) -> usize
-    ensures { λ r. ⌜ r ≡ min to n ⌝ }
-{
-    if to < n {
-        return to;
-    }
-    n
-}
-
 fn mme_in(s: &[u8], v: Span) -> Mme
     ensures { λ r. ⌜ r ≡ mmeIn (now (s .entry)) v ⌝ }
 {
-    let to = end_in(s.len(), v.to);
+    let to = numbers::lesser(v.to, s.len());
     match values::mme_at(&s[..to], v.from) {
         MmeRead::Is(m) => Mme::Is(m),
         MmeRead::Stop(_) => Mme::Absent,
@@ -170,7 +161,7 @@ fn mme_in(s: &[u8], v: Span) -> Mme
 fn mce_in(s: &[u8], v: Span) -> Mce
     ensures { λ r. ⌜ r ≡ mceIn (now (s .entry)) v ⌝ }
 {
-    let to = end_in(s.len(), v.to);
+    let to = numbers::lesser(v.to, s.len());
     match values::mce_at(&s[..to], v.from) {
         MceRead::Is(m) => Mce::Is(m),
         MceRead::Stop(_) => Mce::Absent,
@@ -180,7 +171,7 @@ fn mce_in(s: &[u8], v: Span) -> Mce
 fn tmgi_in(s: &[u8], v: Span) -> MaybeTmgi
     ensures { λ r. ⌜ r ≡ tmgiIn (now (s .entry)) v ⌝ }
 {
-    let to = end_in(s.len(), v.to);
+    let to = numbers::lesser(v.to, s.len());
     match values::tmgi_at(&s[..to], v.from) {
         TmgiRead::Is(m) => MaybeTmgi::Is(m),
         TmgiRead::Stop(_) => MaybeTmgi::Absent,
@@ -190,7 +181,7 @@ fn tmgi_in(s: &[u8], v: Span) -> MaybeTmgi
 fn session_in(s: &[u8], v: Span) -> Session
     ensures { λ r. ⌜ r ≡ sessionIn (now (s .entry)) v ⌝ }
 {
-    let to = end_in(s.len(), v.to);
+    let to = numbers::lesser(v.to, s.len());
     match values::session_at(&s[..to], v.from) {
         SessionRead::Is(m) => Session::Is(m),
         SessionRead::Stop(_) => Session::Absent,
@@ -200,7 +191,7 @@ fn session_in(s: &[u8], v: Span) -> Session
 fn cause_in(s: &[u8], v: Span) -> MaybeCause
     ensures { λ r. ⌜ r ≡ causeIn (now (s .entry)) v ⌝ }
 {
-    let to = end_in(s.len(), v.to);
+    let to = numbers::lesser(v.to, s.len());
     match values::cause_at(&s[..to], v.from) {
         CauseRead::Is(m) => MaybeCause::Is(m),
         CauseRead::Stop(_) => MaybeCause::Absent,
@@ -219,7 +210,7 @@ fn carried_in(v: Span) -> Carried
 fn diagnostics_in(s: &[u8], v: Span) -> Diagnosed
     ensures { λ r. ⌜ r ≡ diagnosticsIn (now (s .entry)) v ⌝ }
 {
-    let to = end_in(s.len(), v.to);
+    let to = numbers::lesser(v.to, s.len());
     let d = diagnostics::diagnostics_at(&s[..to], v.from);
     let gate = d.gate;
     let head = d.head;
@@ -239,7 +230,7 @@ fn diagnostics_in(s: &[u8], v: Span) -> Diagnosed
 fn reset_in(s: &[u8], v: Span) -> ResetBy
     ensures { λ r. ⌜ r ≡ resetIn (now (s .entry)) v ⌝ }
 {
-    let to = end_in(s.len(), v.to);
+    let to = numbers::lesser(v.to, s.len());
     let d = items::reset_at(&s[..to], v.from);
     let gate = d.gate;
     let reset = d.reset;
@@ -265,7 +256,7 @@ fn reset_in(s: &[u8], v: Span) -> ResetBy
 fn list_in(s: &[u8], v: Span) -> Listed
     ensures { λ r. ⌜ r ≡ listIn (now (s .entry)) v ⌝ }
 {
-    let to = end_in(s.len(), v.to);
+    let to = numbers::lesser(v.to, s.len());
     let d = items::items_at(&s[..to], v.from);
     let gate = d.gate;
     let items = d.items;
@@ -294,20 +285,6 @@ pub fn no_items() -> Items
     }
 }
 
-pub fn no_entries() -> Entries
-    ensures { λ r. ⌜ r ≡ noEntries ⌝ }
-{
-    let none = Entry {
-        crit: 0,
-        id: 0,
-        error: 0,
-    };
-    Entries {
-        rows: [none; 256],
-        count: 0,
-    }
-}
-
 // The record of no message.
 pub fn no_record() -> Record
     ensures { λ r. ⌜ r ≡ noRecord ⌝ }
@@ -316,7 +293,7 @@ pub fn no_record() -> Record
         body: Body::None,
         crit: 0,
         items: no_items(),
-        entries: no_entries(),
+        entries: entries::no_entries(),
     }
 }
 
@@ -348,7 +325,7 @@ fn start_request(s: &[u8], rows: [Span; 12], crit: u8) -> Record
         }),
         crit: crit,
         items: no_items(),
-        entries: no_entries(),
+        entries: entries::no_entries(),
     }
 }
 
@@ -399,7 +376,7 @@ fn stop_request(s: &[u8], rows: [Span; 12], crit: u8) -> Record
         }),
         crit: crit,
         items: no_items(),
-        entries: no_entries(),
+        entries: entries::no_entries(),
     }
 }
 
@@ -434,7 +411,7 @@ fn reset(s: &[u8], rows: [Span; 12], crit: u8) -> Record
         }),
         crit: crit,
         items: items,
-        entries: no_entries(),
+        entries: entries::no_entries(),
     }
 }
 

@@ -1,9 +1,7 @@
--- The replies: their bodies, and the records that the writer writes. noted is the list of diagnostics of the message that is answered.
+-- The replies: their bodies, and the records that the writer writes. items and noted are those of the message that is answered.
 use Prim.Native.Nat.{ℕ}
 use mathlib.Core.Bool.{Bool, true, false}
-use mathlib.Core.List.{List}
 use lib.Dec.{ltb}
-use lib.ListN.{length}
 use Rattle.lists.specs.Lists.{pick, keep}
 use Rattle.identity.specs.declared.MmeId.{MmeId}
 use Rattle.identity.specs.declared.MceId.{MceId}
@@ -16,19 +14,25 @@ use Rattle.identity.specs.declared.Items.{Items}
 use Rattle.identity.specs.Items.{listed, itemsOf}
 use Rattle.values.specs.declared.Cause.{Cause}
 use Rattle.diagnostics.specs.declared.Number.the-variants as number
-use Rattle.diagnostics.specs.declared.Entries.{Entries}
+use Rattle.entries.specs.declared.Entries.{Entries}
 use Rattle.records.specs.declared.MaybeCause.the-variants as cause
 use Rattle.records.specs.declared.MaybeDiagnostics.{MaybeDiagnostics}
 use Rattle.records.specs.declared.MaybeDiagnostics.the-variants as diagnosed
+use Rattle.records.specs.declared.Response.{Response}
+use Rattle.records.specs.declared.Failure.{Failure}
+use Rattle.records.specs.declared.Acknowledged.{Acknowledged}
+use Rattle.records.specs.declared.Indication.{Indication}
 use Rattle.records.specs.declared.Body.{Body}
 use Rattle.records.specs.declared.Body.the-variants as body
 use Rattle.records.specs.declared.Record.{Record}
-use Rattle.records.specs.Records.{noItems, noRecord}
+use Rattle.records.specs.Records.{noRecord}
 use Rattle.tables.specs.declared.Named.{Named}
 use Rattle.tables.specs.declared.Named.the-variants as named
 use Rattle.tables.specs.Tables.{codeOf}
 use Rattle.said.specs.Said.{messageOf}
 use Rattle.messages.specs.declared.Frame.{Frame}
+use Rattle.replies.specs.declared.Reply.{Reply}
+use Rattle.replies.specs.declared.Reply.the-variants as reply
 
 -- ---- causes, by group and number of 9.3.5
 
@@ -68,43 +72,35 @@ listOnly n = pick (ltb 0 n) (diagnosed.Is (record { code = number.Absent; trigge
 unfoldable pub ofFrame : Frame → ℕ → MaybeDiagnostics
 ofFrame f n = diagnosed.Is (record { code = number.Is (f .code); trigger = number.Is (f .kind); crit = number.Is (f .crit); listed = ltb 0 n })
 
--- ---- the bodies of the replies, by how many entries are listed; none where there is no reply
+-- the same, only with a list
+unfoldable pub frameIfListed : Frame → ℕ → MaybeDiagnostics
+frameIfListed f n = pick (ltb 0 n) (ofFrame f n) diagnosed.Absent
 
-abbrev pub startResponseBody : MmeId → MceId → ℕ → Body
-startResponseBody m c n = body.StartResponse (record { mme = mme.Is m; mce = mce.Is c; diagnostics = listOnly n })
+-- ---- the bodies of the replies
 
-abbrev pub startFailureBody : MmeId → Cause → ℕ → Body
-startFailureBody m why n = body.StartFailure (record { mme = mme.Is m; cause = cause.Is why; diagnostics = listOnly n })
+abbrev pub response : MmeId → MceId → ℕ → Response
+response m c n = record { mme = mme.Is m; mce = mce.Is c; diagnostics = listOnly n }
 
-abbrev pub stopResponseBody : MmeId → MceId → ℕ → Body
-stopResponseBody m c n = body.StopResponse (record { mme = mme.Is m; mce = mce.Is c; diagnostics = listOnly n })
+abbrev pub failure : MmeId → Cause → ℕ → Failure
+failure m why n = record { mme = mme.Is m; cause = cause.Is why; diagnostics = listOnly n }
 
--- of so many items; if there is none the list is left out
-abbrev pub acknowledgeBody : ℕ → ℕ → Body
-acknowledgeBody items n = body.ResetAcknowledge (record { listed = ltb 0 items; diagnostics = listOnly n })
+abbrev pub acknowledgement : Bool → ℕ → Acknowledged
+acknowledgement t n = record { listed = t; diagnostics = listOnly n }
 
-abbrev pub errorIndicationBody : Mme → Mce → Cause → MaybeDiagnostics → Body
-errorIndicationBody x y why d = body.ErrorIndication (record { mme = x; mce = y; cause = cause.Is why; diagnostics = d })
+abbrev pub indication : Mme → Mce → Cause → MaybeDiagnostics → Indication
+indication x y why d = record { mme = x; mce = y; cause = cause.Is why; diagnostics = d }
 
--- answer 5: START FAILURE if a start's MME identity was read; none for an ERROR INDICATION; else ERROR INDICATION, with the identities read for a stop
-abbrev failedBody : Frame → Mme → Cause → ℕ → Body
-failedBody f (mme.Is m) why n = startFailureBody m why n
-failedBody f mme.Absent why n = errorIndicationBody mme.Absent mce.Absent why (ofFrame f n)
-
-unfoldable pub rejectionBody : Frame → Body → Cause → ℕ → Body
-rejectionBody f (body.StartRequest b) why n = failedBody f (b .mme) why n
-rejectionBody f (body.StopRequest b) why n = errorIndicationBody (b .mme) (b .mce) why (ofFrame f n)
-rejectionBody f (body.Reset b) why n = errorIndicationBody mme.Absent mce.Absent why (ofFrame f n)
-rejectionBody f (body.ErrorIndication b) why n = body.None
-rejectionBody f (body.StartResponse b) why n = body.None
-rejectionBody f (body.StartFailure b) why n = body.None
-rejectionBody f (body.StopResponse b) why n = body.None
-rejectionBody f (body.ResetAcknowledge b) why n = body.None
-rejectionBody f body.None why n = body.None
-
--- answer 8: both identities; diagnostics only with a list
-abbrev pub pairNotHeldBody : Frame → MmeId → MceId → ℕ → Body
-pairNotHeldBody f m c n = errorIndicationBody (mme.Is m) (mce.Is c) unknownPair (pick (ltb 0 n) (ofFrame f n) diagnosed.Absent)
+-- f is the frame of the message that is answered, kept how many of its items have an identity, n how many diagnostics are listed.
+-- An acknowledgement of no item has no list; answer 8 has diagnostics only with a list
+unfoldable pub bodyOf : Frame → ℕ → ℕ → Reply → Body
+bodyOf f kept n reply.None = body.None
+bodyOf f kept n (reply.StartResponse m c) = body.StartResponse (response m c n)
+bodyOf f kept n (reply.StartFailure m why) = body.StartFailure (failure m why n)
+bodyOf f kept n (reply.StopResponse m c) = body.StopResponse (response m c n)
+bodyOf f kept n reply.Acknowledge = body.ResetAcknowledge (acknowledgement false n)
+bodyOf f kept n reply.AcknowledgeItems = body.ResetAcknowledge (acknowledgement (ltb 0 kept) n)
+bodyOf f kept n (reply.Rejection x y why) = body.ErrorIndication (indication x y why (ofFrame f n))
+bodyOf f kept n (reply.PairNotHeld m c) = body.ErrorIndication (indication (mme.Is m) (mce.Is c) unknownPair (frameIfListed f n))
 
 -- ---- the items that an acknowledgement lists
 
@@ -120,32 +116,14 @@ hasIdentity i = carries (i .mme) (i .mce)
 unfoldable pub withIdentity : Items → Items
 withIdentity items = itemsOf (keep hasIdentity (listed items))
 
--- ---- the replies as records: a body with the items and the entries that it lists
+-- ---- a reply as a record: its body, the items that have an identity, and the list of diagnostics
 
 abbrev repliedAs : Items → Entries → Body → Named → Record
-repliedAs items noted b (named.Is m) = record { body = b; crit = codeOf m .crit; items = items; entries = noted }
-repliedAs items noted b named.Other = noRecord
+repliedAs kept noted b (named.Is m) = record { body = b; crit = codeOf m .crit; items = kept; entries = noted }
+repliedAs kept noted b named.Other = noRecord
 
-unfoldable pub replied : Items → Entries → Body → Record
-replied items noted b = repliedAs items noted b (messageOf b)
-
-abbrev pub startResponse : MmeId → MceId → Entries → Record
-startResponse m c noted = replied noItems noted (startResponseBody m c (noted .count))
-
-abbrev pub startFailure : MmeId → Cause → Entries → Record
-startFailure m why noted = replied noItems noted (startFailureBody m why (noted .count))
-
-abbrev pub stopResponse : MmeId → MceId → Entries → Record
-stopResponse m c noted = replied noItems noted (stopResponseBody m c (noted .count))
-
-abbrev pub acknowledge : Items → Entries → Record
-acknowledge items noted = replied (withIdentity items) noted (acknowledgeBody (withIdentity items .count) (noted .count))
-
-abbrev pub errorIndication : Mme → Mce → Cause → MaybeDiagnostics → Entries → Record
-errorIndication x y why d noted = replied noItems noted (errorIndicationBody x y why d)
-
-abbrev pub rejection : Frame → Body → Cause → Entries → Record
-rejection f b why noted = replied noItems noted (rejectionBody f b why (noted .count))
-
-abbrev pub pairNotHeld : Frame → MmeId → MceId → Entries → Record
-pairNotHeld f m c noted = replied noItems noted (pairNotHeldBody f m c (noted .count))
+unfoldable pub replied : Frame → Items → Entries → Reply → Record
+replied f items noted r =
+    let kept = withIdentity items in
+    let b = bodyOf f (kept .count) (noted .count) r in
+    repliedAs kept noted b (messageOf b)

@@ -1,7 +1,6 @@
 // The replies. noted is how many diagnostics the message that is answered has.
 ghost use mathlib.Core.Path.{_≡_};
-ghost use Prim.Native.Nat.{min};
-ghost use Rattle.replies.specs.Replies.{hasIdentity, withIdentity, listOnly, ofFrame, startResponseBody, startFailureBody, stopResponseBody, acknowledgeBody, errorIndicationBody, rejectionBody, pairNotHeldBody};
+ghost use Rattle.replies.specs.Replies.{hasIdentity, withIdentity, listOnly, ofFrame, frameIfListed, response, failure, acknowledgement, indication, bodyOf};
 use diagnostics::Head;
 use diagnostics::Number;
 use identity::Item;
@@ -19,6 +18,22 @@ use records::MaybeCause;
 use records::MaybeDiagnostics;
 use records::Response;
 use values::Cause;
+
+// A reply, by what it says of its own.
+pub enum Reply {
+    None,
+    StartResponse(MmeId, MceId),
+    StartFailure(MmeId, Cause),
+    StopResponse(MmeId, MceId),
+    // without a list
+    Acknowledge,
+    // of the items that have an identity
+    AcknowledgeItems,
+    // answer 5's ERROR INDICATION, with the identities that were read
+    Rejection(Mme, Mce, Cause),
+    // answer 8's
+    PairNotHeld(MmeId, MceId),
+}
 
 // Unknown or inconsistent pair of MBMS M3AP IDs.
 const UNKNOWN_PAIR: Cause = Cause { group: 0, value: 2 };
@@ -50,34 +65,77 @@ fn of_frame(f: Frame, noted: usize) -> MaybeDiagnostics
     })
 }
 
-pub fn start_response(m: MmeId, c: MceId, noted: usize) -> Body
-    ensures { λ r. ⌜ r ≡ startResponseBody m c noted ⌝ }
+// The same, only with a list.
+fn frame_if_listed(f: Frame, noted: usize) -> MaybeDiagnostics
+    ensures { λ r. ⌜ r ≡ frameIfListed f noted ⌝ }
 {
-    Body::StartResponse(Response {
+    if noted == 0 {
+        return MaybeDiagnostics::Absent;
+    }
+    of_frame(f, noted)
+}
+
+fn response(m: MmeId, c: MceId, noted: usize) -> Response
+    ensures { λ r. ⌜ r ≡ response m c noted ⌝ }
+{
+    Response {
         mme: Mme::Is(m),
         mce: Mce::Is(c),
         diagnostics: list_only(noted),
-    })
+    }
 }
 
-pub fn start_failure(m: MmeId, cause: Cause, noted: usize) -> Body
-    ensures { λ r. ⌜ r ≡ startFailureBody m cause noted ⌝ }
+fn failure(m: MmeId, cause: Cause, noted: usize) -> Failure
+    ensures { λ r. ⌜ r ≡ failure m cause noted ⌝ }
 {
-    Body::StartFailure(Failure {
+    Failure {
         mme: Mme::Is(m),
         cause: MaybeCause::Is(cause),
         diagnostics: list_only(noted),
-    })
+    }
 }
 
-pub fn stop_response(m: MmeId, c: MceId, noted: usize) -> Body
-    ensures { λ r. ⌜ r ≡ stopResponseBody m c noted ⌝ }
+fn acknowledgement(listed: bool, noted: usize) -> Acknowledged
+    ensures { λ r. ⌜ r ≡ acknowledgement listed noted ⌝ }
 {
-    Body::StopResponse(Response {
-        mme: Mme::Is(m),
-        mce: Mce::Is(c),
+    Acknowledged {
+        listed: listed,
         diagnostics: list_only(noted),
-    })
+    }
+}
+
+fn indication(x: Mme, y: Mce, cause: Cause, d: MaybeDiagnostics) -> Indication
+    ensures { λ r. ⌜ r ≡ indication x y cause d ⌝ }
+{
+    Indication {
+        mme: x,
+        mce: y,
+        cause: MaybeCause::Is(cause),
+        diagnostics: d,
+    }
+}
+
+// The body of a reply. f is the frame of the message that is answered, kept how many of its items have an identity.
+pub fn body_of(f: Frame, kept: usize, noted: usize, r: Reply) -> Body
+    ensures { λ b. ⌜ b ≡ bodyOf f kept noted r ⌝ }
+{
+    match r {
+        Reply::None => Body::None,
+        Reply::StartResponse(m, c) => Body::StartResponse(response(m, c, noted)),
+        Reply::StartFailure(m, why) => Body::StartFailure(failure(m, why, noted)),
+        Reply::StopResponse(m, c) => Body::StopResponse(response(m, c, noted)),
+        Reply::Acknowledge => Body::ResetAcknowledge(acknowledgement(false, noted)),
+        Reply::AcknowledgeItems => Body::ResetAcknowledge(acknowledgement(0 < kept, noted)),
+        Reply::Rejection(x, y, why) => {
+            Body::ErrorIndication(indication(x, y, why, of_frame(f, noted)))
+        }
+        Reply::PairNotHeld(m, c) => Body::ErrorIndication(indication(
+            Mme::Is(m),
+            Mce::Is(c),
+            UNKNOWN_PAIR,
+            frame_if_listed(f, noted),
+        )),
+    }
 }
 
 fn has_identity(i: Item) -> bool
@@ -94,17 +152,11 @@ fn has_identity(i: Item) -> bool
     }
 }
 
-fn within(count: usize) -> usize
-    ensures { λ r. ⌜ r ≡ min count 256 ⌝ }
-{
-    if count < 256 { count } else { 256 }
-}
-
 // The items that have an identity, in order.
 pub fn with_identity(items: Items) -> Items
     ensures { λ r. ⌜ r ≡ withIdentity items ⌝ }
 {
-    let n = within(items.count);
+    let n = numbers::lesser(items.count, 256);
     let mut out = records::no_items();
     let mut k = 0;
     let mut i = 0;
@@ -118,68 +170,4 @@ pub fn with_identity(items: Items) -> Items
     }
     out.count = k;
     out
-}
-
-// An acknowledgement of so many items; no list if there is none.
-pub fn acknowledge(kept: usize, noted: usize) -> Body
-    ensures { λ r. ⌜ r ≡ acknowledgeBody kept noted ⌝ }
-{
-    Body::ResetAcknowledge(Acknowledged {
-        listed: 0 < kept,
-        diagnostics: list_only(noted),
-    })
-}
-
-fn error_indication(x: Mme, y: Mce, cause: Cause, d: MaybeDiagnostics) -> Body
-    ensures { λ r. ⌜ r ≡ errorIndicationBody x y cause d ⌝ }
-{
-    Body::ErrorIndication(Indication {
-        mme: x,
-        mce: y,
-        cause: MaybeCause::Is(cause),
-        diagnostics: d,
-    })
-}
-
-// Answer 5: elements of a message rejected.
-pub fn rejection(f: Frame, body: Body, cause: Cause, noted: usize) -> Body
-    ensures { λ r. ⌜ r ≡ rejectionBody f body cause noted ⌝ }
-{
-    let d = of_frame(f, noted);
-    match body {
-        Body::StartRequest(b) => {
-            let mme = b.mme;
-            match mme {
-                Mme::Is(m) => start_failure(m, cause, noted),
-                Mme::Absent => error_indication(Mme::Absent, Mce::Absent, cause, d),
-            }
-        }
-        Body::StopRequest(b) => {
-            let x = b.mme;
-            let y = b.mce;
-            error_indication(x, y, cause, d)
-        }
-        Body::Reset(_) => error_indication(Mme::Absent, Mce::Absent, cause, d),
-        Body::ErrorIndication(_) => Body::None,
-        Body::StartResponse(_) => Body::None,
-        Body::StartFailure(_) => Body::None,
-        Body::StopResponse(_) => Body::None,
-        Body::ResetAcknowledge(_) => Body::None,
-        Body::None => Body::None,
-    }
-}
-
-// Answer 8: a pair that is not held.
-pub fn pair_not_held(f: Frame, m: MmeId, c: MceId, noted: usize) -> Body
-    ensures { λ r. ⌜ r ≡ pairNotHeldBody f m c noted ⌝ }
-{
-    if noted == 0 {
-        return error_indication(
-            Mme::Is(m),
-            Mce::Is(c),
-            UNKNOWN_PAIR,
-            MaybeDiagnostics::Absent,
-        );
-    }
-    error_indication(Mme::Is(m), Mce::Is(c), UNKNOWN_PAIR, of_frame(f, noted))
 }

@@ -58,7 +58,7 @@ fn chain(
         × (now (mces .exit) ≡ numbersOf mceOf (listed items))
         × Slotted (now (mmes .exit)) (now (mces .exit)) (now (head .exit)) (now (next .exit)) ⌝ }
 {
-    let n = table::within(items.count);
+    let n = numbers::lesser(items.count, 256);
     let mut i: usize = 0;
     while i < n {
         let item = items.rows[i];
@@ -147,7 +147,7 @@ pub fn reset(t: Table, items: Items) -> Table
     let mut head: [u16; 2048] = [0; 2048];
     let mut next: [u16; 256] = [0; 256];
     chain(items, &mut mmes, &mut mces, &mut head, &mut next);
-    let n = table::within(t.count);
+    let n = numbers::lesser(t.count, 256);
     let mut out = table::empty();
     let mut k = 0;
     let mut i = 0;

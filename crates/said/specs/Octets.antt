@@ -3,8 +3,9 @@ use Prim.Native.Nat.{ℕ, suc}
 use mathlib.Core.Bool.{false}
 use mathlib.Core.List.{List, [], _∷_, _++_}
 use lib.ListN.{length}
-use Rattle.octets.specs.Write.{_bits_, bit, packed, numberOctets, lengthOctets}
-use Rattle.elements.specs.declared.Row.{Row}
+use Rattle.packed.specs.Packed.{_bits_, bit, packed}
+use Rattle.octets.specs.Write.{numberOctets, lengthOctets}
+use Rattle.envelopes.specs.declared.Row.{Row}
 use Rattle.tables.specs.declared.Message.{Message}
 use Rattle.tables.specs.declared.Code.{Code}
 use Rattle.tables.specs.Tables.{tableOf, codeOf}

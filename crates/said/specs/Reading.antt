@@ -11,7 +11,7 @@ use Rattle.items.specs.Items.{itemsAt, resetAt}
 use Rattle.diagnostics.specs.Diagnostics.{diagnosticsAt}
 use Rattle.kinds.specs.declared.Kind.{Kind}
 use Rattle.kinds.specs.declared.Kind.the-variants as kind
-use Rattle.elements.specs.declared.Row.{Row}
+use Rattle.envelopes.specs.declared.Row.{Row}
 use Rattle.elements.specs.Judge.{present}
 use Rattle.said.specs.Value.{Value, Given, given, absent, carried, mme, mce, tmgi, session, cause, reset, list, diagnostics}
 

@@ -17,10 +17,10 @@ use Rattle.identity.specs.declared.Item.{Item}
 use Rattle.identity.specs.declared.Items.{Items}
 use Rattle.identity.specs.Items.{emptyItem, listed}
 use Rattle.items.specs.Items.{ResetType, whole, part}
-use Rattle.diagnostics.specs.declared.Entry.{Entry}
-use Rattle.diagnostics.specs.declared.Entries.{Entries}
+use Rattle.entries.specs.declared.Entry.{Entry}
+use Rattle.entries.specs.declared.Entries.{Entries}
 use Rattle.diagnostics.specs.declared.Head.{Head}
-use Rattle.diagnostics.specs.Diagnostics.{emptyEntry, entriesIn}
+use Rattle.entries.specs.Entries.{emptyEntry, entriesIn}
 use Rattle.tables.specs.declared.Message.the-variants as message
 use Rattle.tables.specs.declared.Named.{Named}
 use Rattle.tables.specs.declared.Named.the-variants as named

@@ -16,7 +16,7 @@ use Rattle.items.specs.Items.{ResetType, whole, part}
 use Rattle.items.specs.Written.{ignore, itemsOctets, resetOctets}
 use Rattle.diagnostics.specs.declared.Number.{Number}
 use Rattle.diagnostics.specs.declared.Number.the-variants as number
-use Rattle.diagnostics.specs.declared.Entry.{Entry}
+use Rattle.entries.specs.declared.Entry.{Entry}
 use Rattle.diagnostics.specs.Diagnostics.{Diagnostics}
 use Rattle.diagnostics.specs.Written.{diagnosticsOctets}
 

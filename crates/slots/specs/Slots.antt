@@ -11,7 +11,7 @@ use Rattle.identity.specs.declared.Session.{Session}
 use Rattle.identity.specs.declared.Session.the-variants as session
 use Rattle.identity.specs.declared.Item.{Item}
 use Rattle.items.specs.Items.{whole, part}
-use Rattle.diagnostics.specs.declared.Entry.{Entry}
+use Rattle.entries.specs.declared.Entry.{Entry}
 use Rattle.records.specs.declared.MaybeTmgi.{MaybeTmgi}
 use Rattle.records.specs.declared.MaybeTmgi.the-variants as tmgi
 use Rattle.records.specs.declared.MaybeCause.{MaybeCause}

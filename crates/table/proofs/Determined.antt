@@ -3,8 +3,6 @@ use mathlib.Core.Path.{refl}
 use Rattle.lists.proofs.Unique.{Determined, _&_, _same_}
 use Rattle.table.proofs.empty.Kinds as empty'
 use Rattle.table.proofs.empty.Reads as empty
-use Rattle.table.proofs.within.Kinds as within'
-use Rattle.table.proofs.within.Reads as within
 use Rattle.table.proofs.look_up.Kinds as look-up'
 use Rattle.table.proofs.look_up.Reads as look-up
 use Rattle.table.proofs.stop.Kinds as stop'
@@ -14,9 +12,6 @@ use Rattle.table.proofs.identities_apart.Reads as identities-apart
 
 pub empty-is : Determined empty'.ps empty'.r empty.Asked empty.Learnt
 empty-is κs a p x y e f = (e same f) & refl
-
-pub within-is : Determined within'.ps within'.r within.Asked within.Learnt
-within-is κs a p x y e f = (e same f) & refl
 
 pub look-up-is : Determined look-up'.ps look-up'.r look-up.Asked look-up.Learnt
 look-up-is κs a p x y e f = (e same f) & refl

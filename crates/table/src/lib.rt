@@ -54,13 +54,6 @@ pub fn empty() -> Table
     }
 }
 
-// How many of 256 rows a count says: all of them where it is more.
-pub fn within(count: usize) -> usize
-    ensures { λ r. ⌜ r ≡ min count 256 ⌝ }
-{
-    if count < 256 { count } else { 256 }
-}
-
 // The item names the association.
 fn names(item: Item, a: Association) -> bool
     ensures { λ r. ⌜ r ≡ names item a ⌝ }
@@ -93,7 +86,7 @@ fn either(a: bool, b: bool) -> bool
 pub fn look_up(t: Table, item: Item) -> Standing
     ensures { λ r. ⌜ r ≡ standing item (held t) ⌝ }
 {
-    let n = within(t.count);
+    let n = numbers::lesser(t.count, 256);
     let x = item.mme;
     let y = item.mce;
     let first = Item {
@@ -127,7 +120,7 @@ pub fn look_up(t: Table, item: Item) -> Standing
 fn without_one(t: Table, item: Item) -> Table
     ensures { λ r. ⌜ r ≡ tableOf (unnamed item (held t)) ⌝ }
 {
-    let n = within(t.count);
+    let n = numbers::lesser(t.count, 256);
     let mut out = empty();
     let mut k = 0;
     let mut i = 0;
@@ -156,7 +149,7 @@ pub fn stop(t: Table, m: MmeId, c: MceId) -> Table
 pub fn identities_apart(t: Table) -> bool
     ensures { λ r. ⌜ r ≡ distinctHeld (held t) ⌝ }
 {
-    let n = within(t.count);
+    let n = numbers::lesser(t.count, 256);
     let mut mmes: [u16; 256] = [0; 256];
     let mut mces: [u16; 256] = [0; 256];
     let mut i = 0;

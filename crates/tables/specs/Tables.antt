@@ -7,9 +7,9 @@ use lib.ListN.{length}
 use Rattle.lists.specs.Lists.{pick, fill}
 use Rattle.kinds.specs.declared.Kind.{Kind}
 use Rattle.kinds.specs.declared.Kind.the-variants.{Carried, Mme, Mce, Tmgi, Session, Cause, ResetType, Acknowledged, Diagnostics}
-use Rattle.elements.specs.declared.Row.{Row}
-use Rattle.elements.specs.declared.Rows.{Rows}
-use Rattle.elements.specs.Table.{noRow}
+use Rattle.envelopes.specs.declared.Row.{Row}
+use Rattle.envelopes.specs.declared.Rows.{Rows}
+use Rattle.envelopes.specs.Table.{noRow}
 use Rattle.tables.specs.declared.Message.{Message}
 use Rattle.tables.specs.declared.Message.the-variants.{StartRequest, StartResponse, StartFailure, StopRequest, StopResponse, Reset, ResetAcknowledge, ErrorIndication}
 use Rattle.tables.specs.declared.Code.{Code}

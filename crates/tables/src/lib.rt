@@ -1,8 +1,8 @@
 // The eight messages, and the table of elements of each, as 9.3.4 has it.
 ghost use mathlib.Core.Path.{_≡_};
 ghost use Rattle.tables.specs.Tables.{rowsOf, codeOf, namedBy};
-use elements::Row;
-use elements::Rows;
+use envelopes::Row;
+use envelopes::Rows;
 use kinds::Kind;
 
 pub enum Message {

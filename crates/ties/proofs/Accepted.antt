@@ -11,8 +11,8 @@ use lib.ListN.{length}
 use Rattle.lists.specs.Lists.{pick, some}
 use Rattle.octets.specs.Read.{Read, got, stop, _>>=_}
 use Rattle.octets.specs.declared.Stop.{Stop}
-use Rattle.diagnostics.specs.declared.Entry.{Entry}
-use Rattle.elements.specs.Envelope.{scanAt, headsAt}
+use Rattle.entries.specs.declared.Entry.{Entry}
+use Rattle.envelopes.specs.Envelope.{scanAt, headsAt}
 use Rattle.elements.specs.Judge as judge
 use Rattle.tables.specs.declared.Message.{Message}
 use Rattle.tables.specs.declared.Named.{Named}

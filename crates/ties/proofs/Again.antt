@@ -11,9 +11,9 @@ use lib.Seq.{take-all}
 use Rattle.octets.specs.Read.{got}
 use Rattle.octets.specs.Stands.{Fills, Octets}
 use Rattle.octets.specs.declared.Span.{Span}
-use Rattle.elements.specs.declared.Row.{Row}
-use Rattle.elements.specs.declared.Head.{Head}
-use Rattle.elements.specs.Envelope.{headsAt}
+use Rattle.envelopes.specs.declared.Row.{Row}
+use Rattle.envelopes.specs.declared.Head.{Head}
+use Rattle.envelopes.specs.Envelope.{headsAt}
 use Rattle.elements.specs.Judge as judge
 use Rattle.elements.specs.Judge.{noSpan}
 use Rattle.elements.proofs.WalkLaws.{read-rows}

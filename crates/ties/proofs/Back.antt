@@ -16,7 +16,7 @@ use Rattle.octets.specs.declared.Span.{Span}
 use Rattle.octets.proofs.Chain.{past}
 use Rattle.octets.specs.Many.{Each}
 use Rattle.items.specs.Items.{ResetType, whole, part}
-use Rattle.elements.specs.declared.Row.{Row}
+use Rattle.envelopes.specs.declared.Row.{Row}
 use Rattle.elements.specs.Judge.{Found}
 use Rattle.tables.specs.declared.Message.{Message}
 use Rattle.tables.specs.declared.Message.the-variants as message

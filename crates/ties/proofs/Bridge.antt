@@ -25,12 +25,13 @@ use Rattle.identity.specs.Items.{emptyItem}
 use Rattle.values.specs.Values.{mmeAt, mceAt, tmgiAt, sessionAt, causeAt}
 use Rattle.items.specs.Items.{ResetType, whole, part, itemsAt, resetAt}
 use Rattle.items.proofs.Good.{items-good, reset-good}
-use Rattle.diagnostics.specs.declared.Entry.{Entry}
-use Rattle.diagnostics.specs.Diagnostics.{Diagnostics, emptyEntry, diagnosticsAt}
+use Rattle.entries.specs.declared.Entry.{Entry}
+use Rattle.diagnostics.specs.Diagnostics.{Diagnostics, diagnosticsAt}
+use Rattle.entries.specs.Entries.{emptyEntry}
 use Rattle.diagnostics.proofs.Again.{diagnostics-again}
 use Rattle.kinds.specs.declared.Kind.{Kind}
 use Rattle.kinds.specs.declared.Kind.the-variants as kind
-use Rattle.elements.specs.declared.Row.{Row}
+use Rattle.envelopes.specs.declared.Row.{Row}
 use Rattle.elements.specs.Judge.{present, noSpan}
 use Rattle.tables.specs.declared.Message.{Message}
 use Rattle.tables.specs.declared.Message.the-variants as message

@@ -17,11 +17,11 @@ use Rattle.octets.proofs.Got.{ends-got}
 use Rattle.octets.proofs.Stood.{stands-none, octets-front}
 use Rattle.octets.specs.Many.{Each}
 use Rattle.kinds.specs.declared.Kind.{Kind}
-use Rattle.elements.specs.declared.Row.{Row}
-use Rattle.elements.specs.declared.Head.{Head}
-use Rattle.elements.specs.Table.{find, noRow}
+use Rattle.envelopes.specs.declared.Row.{Row}
+use Rattle.envelopes.specs.declared.Head.{Head}
+use Rattle.envelopes.specs.Table.{find, noRow}
 use Rattle.elements.specs.Judge.{noSpan}
-use Rattle.elements.proofs.WalkLaws.{envelope-in}
+use Rattle.envelopes.proofs.ScanLaws.{envelope-in}
 use Rattle.said.specs.Value.{Value, given, octetsOf}
 use Rattle.said.specs.Reading.{readAs, valueIn}
 use Rattle.ties.specs.Ties.{Regular, rowOf}

@@ -14,10 +14,10 @@ use Rattle.octets.specs.declared.Span.{Span}
 use Rattle.octets.proofs.Chain.{past}
 use Rattle.octets.proofs.Back.{ends-back}
 use Rattle.kinds.proofs.Laws.{of-kind}
-use Rattle.elements.specs.declared.Row.{Row}
-use Rattle.elements.specs.declared.Head.{Head}
-use Rattle.elements.specs.Table.{find, noRow, kindOf}
-use Rattle.elements.specs.Envelope.{scanAt, headsAt}
+use Rattle.envelopes.specs.declared.Row.{Row}
+use Rattle.envelopes.specs.declared.Head.{Head}
+use Rattle.envelopes.specs.Table.{find, noRow, kindOf}
+use Rattle.envelopes.specs.Envelope.{scanAt, headsAt}
 use Rattle.elements.specs.Judge.{Found, front, readInto, noSpan, unknownOf, missingOf, judgedOf, elementsAt}
 use Rattle.said.specs.Value.{Given, given, absent, octetsOf}
 use Rattle.said.specs.Octets.{present}

@@ -9,7 +9,8 @@ use lib.ListN.{length, take, length-append}
 use lib.Seq.{length-take-le, take-all}
 use Rattle.octets.specs.Read.{got}
 use Rattle.octets.specs.Field.{bitsAt, plainAt, choiceAt, padAt, numberAt, openAt, endsAt}
-use Rattle.octets.specs.Write.{_bits_, bit, packed, numberOctets, lengthOctets}
+use Rattle.packed.specs.Packed.{_bits_, bit, packed}
+use Rattle.octets.specs.Write.{numberOctets, lengthOctets}
 use Rattle.octets.specs.Stands.{Stands, Fills, Octets}
 use Rattle.octets.specs.declared.Span.{Span}
 use Rattle.octets.proofs.Chain.{then-got, same-got}
@@ -17,9 +18,9 @@ use Rattle.octets.proofs.Got.{plain-got, choice-got, number-got, ends-got}
 use Rattle.octets.proofs.Stood.{stands-one, stands-join, stands-split, stands-front}
 use Rattle.octets.proofs.Back.{length-number}
 use Rattle.octets.proofs.Again.{packed-again, pad-zero, number-again, open-again}
-use Rattle.elements.specs.declared.Row.{Row}
-use Rattle.elements.specs.declared.Head.{Head}
-use Rattle.elements.specs.Envelope.{criticalityAt, envelopeAt}
+use Rattle.envelopes.specs.declared.Row.{Row}
+use Rattle.envelopes.specs.declared.Head.{Head}
+use Rattle.envelopes.specs.Envelope.{criticalityAt, envelopeAt}
 use Rattle.tables.specs.declared.Code.{Code}
 use Rattle.messages.specs.declared.Frame.{Frame}
 use Rattle.messages.specs.Frame.{kindAt, frameAt, countAt}

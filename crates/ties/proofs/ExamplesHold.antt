@@ -11,8 +11,9 @@ use lib.ListN.{take}
 use Rattle.lists.specs.Lists.{some}
 use Rattle.lists.proofs.Tests.{or-left, or-right}
 use Rattle.octets.specs.Read.{_>>=_, noMeaning}
-use Rattle.octets.specs.Field.{bitsOf, flagAt, plainAt, choiceAt, padAt, numberAt, sameAt, longLengthAt, lengthAt, openAt, endsAt}
-use Rattle.octets.specs.Write.{packedIn, numberOctets, lengthOctets}
+use Rattle.packed.specs.Packed.{bitsOf, packedIn}
+use Rattle.octets.specs.Field.{flagAt, plainAt, choiceAt, padAt, numberAt, sameAt, longLengthAt, lengthAt, openAt, endsAt}
+use Rattle.octets.specs.Write.{numberOctets, lengthOctets}
 use Rattle.octets.specs.Many.{many}
 use Rattle.octets.specs.Stands.{Stands, Octets}
 use Rattle.octets.proofs.Chain.{same-got}
@@ -20,12 +21,13 @@ use Rattle.octets.proofs.Stood.{fills-alone}
 use Rattle.octets.proofs.Back.{length-back}
 use Rattle.values.specs.Values.{causeAt}
 use Rattle.values.specs.Written.{causeOctets}
-use Rattle.items.specs.Items.{ResetType, marksAt, itemAt, itemElementAt, itemsAt, resetAt}
+use Rattle.items.specs.Items.{ResetType, itemsAt, resetAt}
+use Rattle.item.specs.Item.{marksAt, itemAt, itemElementAt}
 use Rattle.items.specs.Written.{itemOctets, itemElementOctets, itemsOctets, resetOctets, critAt, critsAt, Rejecting}
 use Rattle.diagnostics.specs.Diagnostics as diagnostics
 use Rattle.kinds.specs.Kinds.{valueAt}
-use Rattle.elements.specs.Table.{find}
-use Rattle.elements.specs.Envelope.{criticalityAt, envelopeAt, scanAt, headsAt}
+use Rattle.envelopes.specs.Table.{find}
+use Rattle.envelopes.specs.Envelope.{criticalityAt, envelopeAt, scanAt, headsAt}
 use Rattle.elements.specs.Judge.{front, readInto, unknownOf, missingOf, judgedOf, elementsAt}
 use Rattle.tables.specs.declared.Message.{Message}
 use Rattle.tables.specs.declared.Message.the-variants as message

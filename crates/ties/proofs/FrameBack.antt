@@ -1,28 +1,25 @@
 -- The frame of a message, and the count of its elements, are read back.
 -- Assumes nothing.
-use Prim.Native.Nat.{ℕ, _+_, _/_, _%_, _<_}
-use mathlib.Core.Path.{_≡_, refl, ap}
+use Prim.Native.Nat.{ℕ, _+_, _<_}
+use mathlib.Core.Path.{_≡_, refl}
 use mathlib.Core.Bool.{false}
 use mathlib.Core.List.{List, [], _∷_, _++_}
 use native.Mathlib.Omega.{arith}
 use lib.ListN.{length, length-append}
 use Rattle.octets.specs.Read.{got}
-use Rattle.octets.specs.Write.{_bits_, bit, packed, Fit, numberOctets, lengthOctets}
+use Rattle.packed.specs.Packed.{_bits_, bit, packed, Fit}
+use Rattle.octets.specs.Write.{numberOctets, lengthOctets}
 use Rattle.octets.specs.Stands.{Stands, Fills}
 use Rattle.octets.proofs.Chain.{past}
+use Rattle.octets.proofs.Writing.{number-one}
 use Rattle.octets.proofs.Stood.{stands-split, stands-alone}
 use Rattle.octets.proofs.Back.{length-number, number-back, choice-back, plain-back, rest-back, open-back, ends-back}
 use Rattle.tables.specs.declared.Code.{Code}
-use Rattle.elements.specs.declared.Row.{Row}
+use Rattle.envelopes.specs.declared.Row.{Row}
 use Rattle.messages.specs.Frame.{kindAt, frameAt, countAt}
 use Rattle.said.specs.Value.{Given}
 use Rattle.said.specs.Octets.{present, elementsOctets, insideOctets, frameOctets}
 use Rattle.ties.proofs.Laid.{criticality-back}
-
--- an octet is its number
-number-one : (v : ℕ) → v < 256 → numberOctets 1 v ≡ v ∷ []
-unfolding numberOctets
-number-one v h = let e : v / 1 % 256 ≡ v = omega arith in ap (λ (x : ℕ). x ∷ []) e
 
 kind-back : (s : List ℕ) (k : ℕ) → k < 3 → Stands s 0 (packed (bit false ∷ 2 bits k ∷ []) ∷ []) → got k ≡ kindAt s
 unfolding kindAt

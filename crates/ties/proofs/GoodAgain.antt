@@ -17,11 +17,11 @@ use Rattle.octets.specs.declared.Span.{Span}
 use Rattle.octets.proofs.Stood.{octets-front}
 use Rattle.octets.specs.Many.{Each}
 use Rattle.kinds.specs.declared.Kind.{Kind}
-use Rattle.elements.specs.declared.Row.{Row}
-use Rattle.elements.specs.declared.Head.{Head}
-use Rattle.elements.specs.Table.{find}
+use Rattle.envelopes.specs.declared.Row.{Row}
+use Rattle.envelopes.specs.declared.Head.{Head}
+use Rattle.envelopes.specs.Table.{find}
 use Rattle.elements.specs.Judge.{readInto, noSpan}
-use Rattle.elements.proofs.WalkLaws.{envelope-in}
+use Rattle.envelopes.proofs.ScanLaws.{envelope-in}
 use Rattle.said.specs.Value.{Value, Given, given, absent, hasOctets}
 use Rattle.said.specs.Written.{elementsGood}
 use Rattle.said.specs.Reading.{readAs, orAbsent, valueIn, valuesIn}

@@ -10,16 +10,17 @@ use borrow.Author.Tests.{not-true}
 use lib.ListN.{length, take, length-append}
 use Rattle.lists.proofs.Tests.{and-left, and-right}
 use Rattle.octets.specs.Read.{got}
-use Rattle.octets.specs.Write.{_bits_, packed, Fit, numberOctets, lengthOctets}
+use Rattle.packed.specs.Packed.{_bits_, packed, Fit}
+use Rattle.octets.specs.Write.{numberOctets, lengthOctets}
 use Rattle.octets.specs.Stands.{Stands, Fills}
 use Rattle.octets.specs.declared.Span.{Span}
 use Rattle.octets.proofs.Chain.{past}
 use Rattle.octets.proofs.Stood.{stands-split, fills-front}
 use Rattle.octets.proofs.Back.{length-number, number-back, choice-back, rest-back, open-back}
 use Rattle.octets.specs.Many.{Each}
-use Rattle.elements.specs.declared.Row.{Row}
-use Rattle.elements.specs.declared.Head.{Head}
-use Rattle.elements.specs.Envelope.{criticalityAt, envelopeAt}
+use Rattle.envelopes.specs.declared.Row.{Row}
+use Rattle.envelopes.specs.declared.Head.{Head}
+use Rattle.envelopes.specs.Envelope.{criticalityAt, envelopeAt}
 use Rattle.said.specs.Value.{Value, Given, given, absent, octetsOf, hasOctets}
 use Rattle.said.specs.Octets.{envelopeOctets, elementsOctets}
 use Rattle.said.specs.Written.{elementsGood}

@@ -16,10 +16,10 @@ use Rattle.octets.specs.declared.Span.{Span}
 use Rattle.octets.proofs.Chain.{then-got}
 use Rattle.octets.specs.Many.{Each}
 use Rattle.kinds.specs.Kinds.{valueAt}
-use Rattle.elements.specs.declared.Row.{Row}
-use Rattle.elements.specs.declared.Head.{Head}
-use Rattle.elements.specs.Table.{find, known, kindOf}
-use Rattle.elements.specs.Envelope.{envelopeAt, scanAt, onHead, headsAt}
+use Rattle.envelopes.specs.declared.Row.{Row}
+use Rattle.envelopes.specs.declared.Head.{Head}
+use Rattle.envelopes.specs.Table.{find, known, kindOf}
+use Rattle.envelopes.specs.Envelope.{envelopeAt, scanAt, onHead, headsAt}
 use Rattle.elements.specs.Judge.{front, readInto, noSpan}
 use Rattle.ties.specs.Ties.{Regular}
 

@@ -23,7 +23,7 @@ use Rattle.items.proofs.Again.{items-again, reset-again}
 use Rattle.items.proofs.Good.{items-good, reset-good}
 use Rattle.diagnostics.specs.declared.Number.{Number}
 use Rattle.diagnostics.specs.declared.Number.the-variants as number
-use Rattle.diagnostics.specs.declared.Entry.{Entry}
+use Rattle.entries.specs.declared.Entry.{Entry}
 use Rattle.diagnostics.specs.Diagnostics.{Diagnostics, diagnosticsAt}
 use Rattle.diagnostics.specs.Written.{Under, GoodEntry, Good}
 use Rattle.diagnostics.proofs.Again.{diagnostics-again}

@@ -28,7 +28,7 @@ use Rattle.values.proofs.Back.{mme-back, mce-back, tmgi-back, session-back, cau
 use Rattle.items.specs.Items.{ResetType, whole, part, itemsAt, resetAt}
 use Rattle.items.specs.Written.{ignore, GoodReset}
 use Rattle.items.proofs.Back.{items-back, reset-back}
-use Rattle.diagnostics.specs.declared.Entry.{Entry}
+use Rattle.entries.specs.declared.Entry.{Entry}
 use Rattle.diagnostics.specs.declared.Number.{Number}
 use Rattle.diagnostics.specs.declared.Number.the-variants as number
 use Rattle.diagnostics.specs.Diagnostics.{Diagnostics, marksAt, headAt, diagnosticsAt}

@@ -14,7 +14,8 @@ use Rattle.identity.specs.declared.Item.{Item}
 use Rattle.values.specs.declared.Cause.{Cause}
 use Rattle.values.specs.Values.{causeAt}
 use Rattle.values.specs.Written.{causeOctets}
-use Rattle.items.specs.Items.{ResetType, whole, part, itemAt, resetAt}
+use Rattle.items.specs.Items.{ResetType, whole, part, resetAt}
+use Rattle.item.specs.Item.{itemAt}
 use Rattle.items.specs.Written.{itemOctets, resetOctets}
 use Rattle.tables.specs.declared.Message.{Message}
 use Rattle.tables.specs.declared.Message.the-variants.{Reset, ResetAcknowledge}

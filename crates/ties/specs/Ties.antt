@@ -11,15 +11,15 @@ use Rattle.items.specs.Items.{ResetType, resetAt}
 use Rattle.items.specs.Written.{ignore, Marked, Rejecting}
 use Rattle.kinds.specs.declared.Kind.{Kind}
 use Rattle.kinds.specs.declared.Kind.the-variants as kind
-use Rattle.elements.specs.declared.Row.{Row}
-use Rattle.elements.specs.declared.Head.{Head}
-use Rattle.elements.specs.Table.{find, known, noRow}
-use Rattle.elements.specs.Envelope.{headsAt}
+use Rattle.envelopes.specs.declared.Row.{Row}
+use Rattle.envelopes.specs.declared.Head.{Head}
+use Rattle.envelopes.specs.Table.{find, known, noRow}
+use Rattle.envelopes.specs.Envelope.{headsAt}
 use Rattle.tables.specs.declared.Message.{Message}
 use Rattle.tables.specs.declared.Named.the-variants as named
 use Rattle.tables.specs.Tables.{tableOf, codeOf, namedBy}
 use Rattle.records.specs.declared.Record.{Record}
-use Rattle.records.specs.Records.{noEntries}
+use Rattle.entries.specs.Entries.{noEntries}
 use Rattle.messages.specs.declared.Frame.{Frame}
 use Rattle.messages.specs.declared.Outcome.the-variants as outcome
 use Rattle.messages.specs.Frame.{frameAt, countAt}

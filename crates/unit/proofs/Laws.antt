@@ -12,10 +12,10 @@ use Rattle.lists.specs.Lists.{pick}
 use Rattle.identity.specs.declared.MceId.{MceId}
 use Rattle.identity.specs.declared.Item.{Item}
 use Rattle.identity.specs.declared.Items.{Items}
-use Rattle.diagnostics.specs.declared.Entries.{Entries}
+use Rattle.entries.specs.declared.Entries.{Entries}
 use Rattle.records.specs.declared.Body.{Body}
-use Rattle.records.specs.declared.Body.the-variants as body
 use Rattle.records.specs.declared.Record.{Record}
+use Rattle.messages.specs.declared.Frame.{Frame}
 use Rattle.said.specs.Said.{saidBy}
 use Rattle.said.specs.Written.{Encoded, octets, none, encoded}
 use Rattle.table.specs.declared.Association.{Association}
@@ -25,7 +25,7 @@ use Rattle.table.specs.Table.{State, held, tableOf, starting, standing}
 use Rattle.table.proofs.Rows.{held-of}
 use Rattle.lent.specs.declared.TableIn.{TableIn}
 use Rattle.lent.specs.Lent.{Lent, Held, NoTable, readTable, tableOctets, tableIn, tableOut, rowOut}
-use Rattle.lent.proofs.Writing.{row-starts}
+use Rattle.put_table.proofs.Writing.{row-starts}
 use Rattle.lent.proofs.OneForm.{one-form}
 use Rattle.writer.specs.declared.Written.{Written}
 use Rattle.writer.specs.declared.Written.the-variants.{Done, NoRoom, NotWritten}
@@ -34,11 +34,14 @@ use Rattle.carry.specs.declared.Answer.{Answer}
 use Rattle.carry.specs.declared.Answer.the-variants as answer
 use Rattle.judge.specs.declared.Judged.{Judged}
 use Rattle.judge.specs.Judge.{judgedOf}
-use Rattle.replies.specs.Replies.{replied}
+use Rattle.replies.specs.declared.Reply.{Reply}
+use Rattle.replies.specs.declared.Reply.the-variants as reply
+use Rattle.replies.specs.Replies.{bodyOf, withIdentity, replied}
 use Rattle.carry.specs.declared.Change.{Change}
 use Rattle.carry.specs.declared.Change.the-variants as change
 use Rattle.carry.specs.declared.Decision.{Decision}
-use Rattle.carry.specs.Carry.{Decided, decision, asked, acknowledged, changed, applied, decided}
+use Rattle.carry.specs.declared.Request.{Request}
+use Rattle.carry.specs.Carry.{Decided, requestOf, asked, decision, changed, applied, decided}
 use Rattle.unit.specs.declared.Back as back
 use Rattle.unit.specs.Unit.{Call, octetsIn, replyOctets, replyOf, answerOf, tableAfter, settled, call, Called}
 
@@ -58,22 +61,23 @@ put-in d (octets os) = by (leb (length os) (length d)) refl
     by true e = put e
     by false e = not-put e
 
--- a body with its lists has the octets of the record that it is a reply as
-reply-octets : (is : Items) (es : Entries) (b : Body) → octetsIn (encoded (saidBy (record { body = b; crit = 0; items = is; entries = es }) [])) ≡ replyOctets (replied is es b)
-unfolding replyOctets encoded saidBy replied
-reply-octets is es (body.StartRequest b) = refl
-reply-octets is es (body.StartResponse b) = refl
-reply-octets is es (body.StartFailure b) = refl
-reply-octets is es (body.StopRequest b) = refl
-reply-octets is es (body.StopResponse b) = refl
-reply-octets is es (body.Reset b) = refl
-reply-octets is es (body.ResetAcknowledge b) = refl
-reply-octets is es (body.ErrorIndication b) = refl
-reply-octets is es body.None = refl
+-- a body with its lists has the octets of the record that is the reply
+module _ (f : Frame) (is : Items) (es : Entries) where
+  reply-octets : (r : Reply) → let kept = withIdentity is in
+      octetsIn (encoded (saidBy (record { body = bodyOf f (kept .count) (es .count) r; crit = 0; items = kept; entries = es }) [])) ≡ replyOctets (replied f is es r)
+  unfolding replyOctets encoded saidBy replied bodyOf
+  reply-octets reply.None = refl
+  reply-octets (reply.StartResponse m c) = refl
+  reply-octets (reply.StartFailure m why) = refl
+  reply-octets (reply.StopResponse m c) = refl
+  reply-octets reply.Acknowledge = refl
+  reply-octets reply.AcknowledgeItems = refl
+  reply-octets (reply.Rejection x y why) = refl
+  reply-octets (reply.PairNotHeld m c) = refl
 
-pub written-put : (d : List ℕ) (is : Items) (es : Entries) (b : Body) (s : List ℕ) {w : Written} {m : List ℕ} → s ≡ []
-    → Writes (writtenIn d (encoded (saidBy (record { body = b; crit = 0; items = is; entries = es }) s))) w m → Put d (replyOctets (replied is es b)) w m
-written-put d is es b s z h = rw (h .answer, h .room, z, ← reply-octets is es b) (put-in d (encoded (saidBy (record { body = b; crit = 0; items = is; entries = es }) [])))
+  pub written-put : (d : List ℕ) (r : Reply) {kept : Items} {b : Body} {s : List ℕ} {w : Written} {m : List ℕ} → kept ≡ withIdentity is → b ≡ bodyOf f (kept .count) (es .count) r → s ≡ []
+      → Writes (writtenIn d (encoded (saidBy (record { body = b; crit = 0; items = kept; entries = es }) s))) w m → Put d (replyOctets (replied f is es r)) w m
+  written-put d r p q z h = rw (h .answer, h .room, z, q, p, ← reply-octets r) (put-in d _)
 
 module _ (t d : List ℕ) (x : Decided) where
   pub no-room : {m : List ℕ} → Put d (replyOf x) NoRoom m → Called (settled t d x) (record { answer = answer.NoRoom; octets = 0 }) t m
@@ -107,12 +111,11 @@ reply-of l is r change.Empties = refl
 reply-of l is r change.Resets = refl
 
 -- what the code has found, step by step, is what is decided
-module _ (l : State) (c : MceId) (s : List ℕ) {t : Table} {j : Judged} {kept : Items} {i : Item} {k : Standing} {d : Decision} where
-  pub decided-by : t ≡ tableOf l → j ≡ judgedOf s → let v = j .verdict in kept ≡ acknowledged (v .message .body) (v .outcome) (v .message .items) → i ≡ asked c (v .message .body)
-      → k ≡ standing i (held t) → d ≡ decision k c (j .frame) (kept .count) (v .noted .count) (v .message .body) (v .outcome)
-      → applied (held t) (v .message .items) kept (v .noted) d ≡ decided l c (judgedOf s)
+module _ (l : State) (c : MceId) (s : List ℕ) {t : Table} {j : Judged} {q : Request} {i : Item} {k : Standing} {d : Decision} where
+  pub decided-by : t ≡ tableOf l → j ≡ judgedOf s → let v = j .verdict in q ≡ requestOf (v .message .body) → i ≡ asked c q → k ≡ standing i (held t) → d ≡ decision k c q (v .outcome)
+      → applied (held t) (j .frame) (v .message .items) (v .noted) d ≡ decided l c (judgedOf s)
   unfolding decided
-  decided-by e f g a b q = rw (← f, q, b, a, g, e, held-of l)
+  decided-by e f g a b h = rw (← f, h, b, a, g, e, held-of l)
 
 -- what was read of a table
 module _ (s : List ℕ) (t : TableIn) (e : t ≡ tableIn (readTable s)) where

@@ -82,19 +82,19 @@ fn finish(change: Change, t: Table, items: Items, table: &mut [u8], octets: usiz
     match change {
         Change::Stays(a) => hand_back(a, octets),
         Change::Starts(a) => {
-            lent::row_out(a, t.count, table);
+            put_table::row_out(a, t.count, table);
             hand_back(Answer::CarriedOut, octets)
         }
         Change::Stops(m, c) => {
-            lent::table_out(table::stop(t, m, c), table);
+            put_table::table_out(table::stop(t, m, c), table);
             hand_back(Answer::CarriedOut, octets)
         }
         Change::Empties => {
-            lent::table_out(table::empty(), table);
+            put_table::table_out(table::empty(), table);
             hand_back(Answer::CarriedOut, octets)
         }
         Change::Resets => {
-            lent::table_out(reset::reset(t, items), table);
+            put_table::table_out(reset::reset(t, items), table);
             hand_back(Answer::CarriedOut, octets)
         }
     }
@@ -109,21 +109,20 @@ pub fn call(table: &mut [u8], message: &[u8], offered: MceId, room: &mut [u8]) -
         return hand_back(Answer::NoTable, 0);
     }
     let j = judge::judge(message);
-    let f = j.frame;
     let v = j.verdict;
     let o = v.outcome;
     let r = v.message;
     let body = r.body;
-    let items = r.items;
-    let noted = v.noted;
-    let kept = carry::acknowledged(body, o, items);
-    let k = table::look_up(t.table, carry::asked(offered, body));
-    let d = carry::decide(k, offered, f, kept.count, noted.count, body, o);
-    let reply = d.reply;
+    let q = carry::request_of(body);
+    let k = table::look_up(t.table, carry::asked(offered, q));
+    let d = carry::decide(k, offered, q, o);
     let change = d.change;
-    match writer::write_body(reply, kept, noted, &message[0..0], room) {
-        Written::Done(n) => finish(change, t.table, items, table, n),
+    let reply = d.reply;
+    let kept = replies::with_identity(r.items);
+    let written = replies::body_of(j.frame, kept.count, v.noted.count, reply);
+    match writer::write_body(written, kept, v.noted, &message[0..0], room) {
+        Written::Done(n) => finish(change, t.table, r.items, table, n),
         Written::NoRoom => hand_back(Answer::NoRoom, 0),
-        Written::NotWritten => finish(change, t.table, items, table, 0),
+        Written::NotWritten => finish(change, t.table, r.items, table, 0),
     }
 }

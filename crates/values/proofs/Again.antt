@@ -8,7 +8,8 @@ use native.Mathlib.Omega.{arith}
 use lib.ListN.{length, getD}
 use Rattle.octets.specs.Read.{got}
 use Rattle.octets.specs.Field.{bitsAt, plainAt, choiceAt, padAt, numberAt, stringAt, endsAt}
-use Rattle.octets.specs.Write.{_bits_, bit, packed, numberOctets}
+use Rattle.packed.specs.Packed.{_bits_, bit, packed}
+use Rattle.octets.specs.Write.{numberOctets}
 use Rattle.octets.specs.Stands.{Stands, Fills, Octets}
 use Rattle.octets.proofs.Chain.{then-got, same-got}
 use Rattle.octets.proofs.Got.{plain-got, choice-got}

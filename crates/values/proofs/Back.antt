@@ -9,7 +9,8 @@ use native.Mathlib.Nat.{lt-of-lt-of-le}
 use borrow.Author.Tests.{lt-ltb}
 use lib.ListN.{length}
 use Rattle.octets.specs.Read.{got}
-use Rattle.octets.specs.Write.{_bits_, bit, packed, Fit, numberOctets}
+use Rattle.packed.specs.Packed.{_bits_, bit, packed, Fit}
+use Rattle.octets.specs.Write.{numberOctets}
 use Rattle.octets.specs.Stands.{Stands, Fills}
 use Rattle.octets.proofs.Chain.{past}
 use Rattle.octets.proofs.Stood.{stands-split}

@@ -4,7 +4,8 @@ use mathlib.Core.Bool.{false}
 use mathlib.Core.List.{List, [], _∷_}
 use lib.Dec.{ltb}
 use Rattle.lists.specs.Lists.{pick}
-use Rattle.octets.specs.Write.{_bits_, bit, packed, numberOctets}
+use Rattle.packed.specs.Packed.{_bits_, bit, packed}
+use Rattle.octets.specs.Write.{numberOctets}
 use Rattle.identity.specs.declared.MmeId.{MmeId}
 use Rattle.identity.specs.declared.MceId.{MceId}
 use Rattle.identity.specs.declared.Tmgi.{Tmgi}

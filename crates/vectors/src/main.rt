@@ -6,9 +6,9 @@
 //     3   the table is empty again
 //     4   the octet of the table at the first number is the second one; nothing is written
 use carry::Answer;
-use diagnostics::Entries;
 use diagnostics::Head;
 use diagnostics::Number;
+use entries::Entries;
 use identity::Items;
 use identity::Mce;
 use identity::MceId;

@@ -12,14 +12,15 @@ use lib.Seq.{length-take-le, getD-take}
 use Rattle.lists.specs.Lists.{pick, some, fill}
 use Rattle.lists.proofs.Fill.{getD-fill}
 use Rattle.lists.proofs.Tests.{or-left, or-right}
-use Rattle.octets.specs.Write.{_bits_, bit, packed, numberOctets, lengthOctets, Wrote}
+use Rattle.packed.specs.Packed.{_bits_, bit, packed}
+use Rattle.octets.specs.Write.{numberOctets, lengthOctets, Wrote}
 use Rattle.octets.proofs.Back.{length-number}
 use Rattle.octets.proofs.Writing.{sets-front}
 use Rattle.identity.specs.declared.Items.{Items}
-use Rattle.diagnostics.specs.declared.Entries.{Entries}
-use Rattle.elements.specs.declared.Row.{Row}
-use Rattle.elements.specs.declared.Rows.{Rows}
-use Rattle.elements.specs.Table.{noRow}
+use Rattle.entries.specs.declared.Entries.{Entries}
+use Rattle.envelopes.specs.declared.Row.{Row}
+use Rattle.envelopes.specs.declared.Rows.{Rows}
+use Rattle.envelopes.specs.Table.{noRow}
 use Rattle.tables.specs.declared.Message.{Message}
 use Rattle.tables.specs.declared.Message.the-variants.{StartRequest, StartResponse, StartFailure, StopRequest, StopResponse, Reset, ResetAcknowledge, ErrorIndication}
 use Rattle.tables.specs.declared.Named.{Named}

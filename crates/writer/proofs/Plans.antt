@@ -11,7 +11,8 @@ use lib.Dec.{ltb, leb, eqb}
 use lib.ListN.{length, getD, length-append}
 use Rattle.lists.specs.Lists.{pick, fill}
 use Rattle.lists.proofs.Fill.{getD-fill}
-use Rattle.octets.specs.Write.{_bits_, packed, numberOctets, lengthOctets}
+use Rattle.packed.specs.Packed.{_bits_, packed}
+use Rattle.octets.specs.Write.{numberOctets, lengthOctets}
 use Rattle.octets.proofs.Back.{length-number}
 use Rattle.values.specs.Written.{tmgiOctets, causeOctets}
 use Rattle.items.specs.Items.{whole, part}
@@ -21,8 +22,8 @@ use Rattle.diagnostics.specs.declared.Head.{Head}
 use Rattle.diagnostics.specs.Diagnostics.{after, behindTrigger, behindCode}
 use Rattle.diagnostics.specs.Written.{marksOf, headOctets, listOctets, diagnosticsOctets}
 use Rattle.diagnostics.proofs.HeadBack.{head-length}
-use Rattle.elements.specs.declared.Row.{Row}
-use Rattle.elements.specs.Table.{noRow}
+use Rattle.envelopes.specs.declared.Row.{Row}
+use Rattle.envelopes.specs.Table.{noRow}
 use Rattle.said.specs.Value.{Value, Given, given, absent, carried, mme, mce, tmgi, session, cause, reset, list, diagnostics, octetsOf, hasOctets}
 use Rattle.said.specs.Octets.{envelopeOctets, elementsOctets, present}
 use Rattle.said.specs.Written.{elementsGood}

@@ -9,17 +9,18 @@ use borrow.Author.Tests.{ne-eqb, eqb-false}
 use lib.Dec.{ltb, eqb}
 use lib.ListN.{length, getD}
 use Rattle.lists.specs.Lists.{pick}
-use Rattle.octets.specs.Write.{_bits_, packed, numberOctets, lengthOctets}
+use Rattle.packed.specs.Packed.{_bits_, packed}
+use Rattle.octets.specs.Write.{numberOctets, lengthOctets}
 use Rattle.identity.specs.declared.Items.{Items}
 use Rattle.identity.specs.Items.{listed}
 use Rattle.items.specs.Items.{part}
 use Rattle.items.specs.Written.{ignore, itemsOctets, resetOctets}
-use Rattle.diagnostics.specs.declared.Entries.{Entries}
+use Rattle.entries.specs.declared.Entries.{Entries}
 use Rattle.diagnostics.specs.declared.Head.{Head}
 use Rattle.diagnostics.specs.Diagnostics.{diagnosticsOf}
 use Rattle.diagnostics.specs.Written.{diagnosticsOctets}
-use Rattle.elements.specs.declared.Row.{Row}
-use Rattle.elements.specs.Table.{noRow}
+use Rattle.envelopes.specs.declared.Row.{Row}
+use Rattle.envelopes.specs.Table.{noRow}
 use Rattle.said.specs.Value.{Value, given, absent, octetsOf, hasOctets}
 use Rattle.slots.specs.declared.Slot.{Slot}
 use Rattle.slots.specs.declared.Plain.{Plain}

@@ -11,11 +11,12 @@ use lib.Bits.{bitOr}
 use lib.Dec.{ltb, eqb}
 use lib.ListN.{length}
 use Rattle.lists.specs.Lists.{pick}
-use Rattle.octets.specs.Write.{_bits_, bit, packed, packedIn, placed, numberOctets, lengthOctets, Wrote}
+use Rattle.packed.specs.Packed.{_bits_, bit, packed, packedIn, placed}
+use Rattle.octets.specs.Write.{numberOctets, lengthOctets, Wrote}
 use Rattle.octets.proofs.Writing.{wrote-length, length-short, length-long, length-over}
 use Rattle.identity.specs.declared.Items.{Items}
-use Rattle.diagnostics.specs.declared.Entries.{Entries}
-use Rattle.elements.specs.declared.Row.{Row}
+use Rattle.entries.specs.declared.Entries.{Entries}
+use Rattle.envelopes.specs.declared.Row.{Row}
 use Rattle.tables.specs.declared.Code.{Code}
 use Rattle.tables.specs.declared.Message.{Message}
 use Rattle.tables.specs.declared.Message.the-variants.{StartRequest, StartResponse, StartFailure, StopRequest, StopResponse, Reset, ResetAcknowledge, ErrorIndication}

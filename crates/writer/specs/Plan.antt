@@ -6,11 +6,12 @@ use mathlib.Core.List.{List, [], _∷_, _++_, map}
 use lib.Dec.{ltb, eqb}
 use lib.ListN.{length, take, getD}
 use Rattle.lists.specs.Lists.{pick, fill}
-use Rattle.octets.specs.Write.{_bits_, bit, packed, numberOctets, lengthOctets}
+use Rattle.packed.specs.Packed.{_bits_, bit, packed}
+use Rattle.octets.specs.Write.{numberOctets, lengthOctets}
 use Rattle.identity.specs.declared.Items.{Items}
-use Rattle.diagnostics.specs.declared.Entries.{Entries}
-use Rattle.elements.specs.declared.Row.{Row}
-use Rattle.elements.specs.Table.{noRow}
+use Rattle.entries.specs.declared.Entries.{Entries}
+use Rattle.envelopes.specs.declared.Row.{Row}
+use Rattle.envelopes.specs.Table.{noRow}
 use Rattle.tables.specs.declared.Message.{Message}
 use Rattle.tables.specs.Tables.{codeOf}
 use Rattle.said.specs.Value.{Given, given, absent}

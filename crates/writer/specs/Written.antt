@@ -6,7 +6,7 @@ use lib.Dec.{leb}
 use lib.ListN.{length, take, drop}
 use Rattle.lists.specs.Lists.{pick}
 use Rattle.identity.specs.declared.Items.{Items}
-use Rattle.diagnostics.specs.declared.Entries.{Entries}
+use Rattle.entries.specs.declared.Entries.{Entries}
 use Rattle.tables.specs.declared.Message.{Message}
 use Rattle.tables.specs.Tables.{tableOf}
 use Rattle.said.specs.Value.{Given}

@@ -7,9 +7,9 @@ ghost use Rattle.said.specs.Said.{saidBy};
 ghost use Rattle.said.specs.Written.{encoded};
 ghost use Rattle.writer.specs.Plan.{fitted, sizesOf, Small, stepOf, planTo, messageSize, frontOctets, Ready, rowOctets, joinTo, frameOctets};
 ghost use Rattle.writer.specs.Written.{writtenIn, Writes};
-use diagnostics::Entries;
-use elements::Row;
-use elements::Rows;
+use entries::Entries;
+use envelopes::Row;
+use envelopes::Rows;
 use identity::Items;
 use items::Reset;
 use put_values::Criticality;
@@ -129,9 +129,9 @@ fn put_frame(room: &mut [u8], m: Message, inside: usize, count: u16) -> usize
     ensures { λ r. ⌜ Wrote (now (room .entry)) 0 (frameOctets m inside count) (now (room .exit)) r ⌝ }
 {
     let code = tables::code_of(m);
-    let second = octets::put_octet(room, 0, octets::with_bits(0, 1, 2, code.kind));
+    let second = octets::put_octet(room, 0, packed::with_bits(0, 1, 2, code.kind));
     let third = octets::put_octet(room, second, code.code);
-    let fourth = octets::put_octet(room, third, octets::with_bits(0, 0, 2, code.crit));
+    let fourth = octets::put_octet(room, third, packed::with_bits(0, 0, 2, code.crit));
     let message = octets::put_length(room, fourth, inside);
     let number = octets::put_octet(room, message, 0);
     octets::put_two(room, number, count)

@@ -1,4 +1,4 @@
--- `carry::rejected` meets its contract. By the case, what was called says it. Assumes nothing.
+-- `carry::rejected` meets its contract. It follows from what was called. Assumes nothing.
 use borrow.Author.Needs.{needs}
 use Rattle.carry.proofs.rejected.Statement.{statement}
 use Rattle.carry.proofs.rejected.Tie as tie

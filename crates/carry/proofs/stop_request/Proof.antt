@@ -1,15 +1,13 @@
 -- `carry::stop_request` meets its contract. By the case, what was called says it. Assumes nothing.
-use mathlib.Core.Path.{_∙_}
-use Rattle.carry.proofs.Laws.{no-first, no-second}
 use borrow.Author.Needs.{needs}
 use Rattle.carry.proofs.stop_request.Statement.{statement}
 use Rattle.carry.proofs.stop_request.Tie as tie
 
-enum-known-mme : tie.Need-enum-known-mme
-enum-known-mme c = search needs
+enum-known-x : tie.Need-enum-known-x
+enum-known-x c = search needs
 
-enum-known-mce : tie.Need-enum-known-mce
-enum-known-mce c = search needs
+enum-known-y : tie.Need-enum-known-y
+enum-known-y c = search needs
 
 stop-requires : tie.Need-stop-requires
 stop-requires c κs = search needs
@@ -27,20 +25,20 @@ rejected-requires-2 : tie.Need-rejected-requires-2
 rejected-requires-2 c κs = search needs
 
 returns : tie.Need-returns
-returns c = rw (c .before .before .before .before .before .mme .given .1, c .before .before .mce .given .1) (c .stop .ensures)
+returns c = rw (c .before .before .before .before .before .x .given .1, c .before .before .y .given .1) (c .stop .ensures)
 
 returns-2 : tie.Need-returns-2
-returns-2 c = c .rejected .ensures ∙ no-second _ _ _ _ _ (c .before .before .before .before .mme .given .1) (c .before .enum-told .given .1)
+returns-2 c = rw (c .before .before .before .before .x .given .1, c .before .enum-told .given .1) (rw (c .before .enum-told .given .1) at (c .rejected .ensures))
 
 returns-3 : tie.Need-returns-3
-returns-3 c = c .rejected2 .ensures ∙ no-first _ _ _ _ _ (c .before .enum-told2 .given .1)
+returns-3 c = rw (c .before .enum-told2 .given .1) (rw (c .before .enum-told2 .given .1) at (c .rejected2 .ensures))
 
 pub stop-request-spec : {M : Type 1} → statement M
 stop-request-spec =
     tie.close
     (tie.spec
-    enum-known-mme
-    enum-known-mce
+    enum-known-x
+    enum-known-y
     stop-requires
     enum-told
     rejected-requires

@@ -7,7 +7,7 @@ use Rattle.octets.specs.Read.{got, stop}
 use Rattle.octets.proofs.Chain.{past, halt, told}
 use Rattle.diagnostics.specs.Diagnostics.{diagnosticsAt}
 use Rattle.diagnostics.specs.Found.{foundHead}
-use Rattle.diagnostics.proofs.ByGate.{list-got, list-stop}
+use Rattle.entries.proofs.ByGate.{list-got, list-stop}
 use Rattle.diagnostics.proofs.diagnostics_at.Statement.{statement}
 use Rattle.diagnostics.proofs.diagnostics_at.Tie as tie
 

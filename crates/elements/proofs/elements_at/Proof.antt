@@ -3,8 +3,8 @@ use mathlib.Core.Path.{_∙_, ap, refl}
 use denote.Ref.{now}
 use Rattle.octets.specs.Found.{foundGate}
 use Rattle.octets.proofs.Chain.{past, halt, told}
-use Rattle.elements.specs.Table.{rowsIn}
-use Rattle.elements.specs.Envelope.{headsAt}
+use Rattle.envelopes.specs.Table.{rowsIn}
+use Rattle.envelopes.specs.Envelope.{headsAt}
 use Rattle.elements.specs.Judge.{elementsAt, judgedBy}
 use Rattle.elements.proofs.WalkLaws.{judged-front, judged-all}
 use borrow.Author.Needs.{needs}

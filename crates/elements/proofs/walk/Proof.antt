@@ -12,12 +12,13 @@ use lib.Seq.{length-take-le}
 use Rattle.octets.specs.Read.{got}
 use Rattle.octets.specs.Found.{foundGate}
 use Rattle.octets.proofs.Chain.{told}
-use Rattle.elements.specs.Table.{rowsIn, find}
-use Rattle.elements.specs.Envelope.{envelopeAt, foundEnvelope}
+use Rattle.envelopes.specs.Table.{rowsIn, find}
+use Rattle.envelopes.specs.Envelope.{envelopeAt, foundEnvelope}
 use Rattle.elements.specs.Judge as judge
-use Rattle.elements.proofs.TableLaws.{row-here, row-past, row-kind, ended}
+use Rattle.envelopes.proofs.TableLaws.{row-here, row-past, row-kind, ended}
 use Rattle.elements.proofs.NoteLaws.{noted-room, noted-full}
-use Rattle.elements.proofs.WalkLaws.{envelope-in, Step, step-start, step-known, step-unknown, walk-end, walk-cut, walk-bad, walk-misplaced}
+use Rattle.elements.proofs.WalkLaws.{Step, step-start, step-known, step-unknown, walk-end, walk-cut, walk-bad, walk-misplaced}
+use Rattle.envelopes.proofs.ScanLaws.{envelope-in}
 use Rattle.elements.proofs.walk.Statement.{statement}
 use Rattle.elements.proofs.walk.Tie as tie
 

@@ -7,8 +7,8 @@ use Prim.Native.Nat.{_≤_, _-_}
 use native.Mathlib.Omega.{arith}
 use lib.ListN.{length, getD}
 use Rattle.lists.proofs.Slices.{length-of}
-use Rattle.diagnostics.specs.declared.Entry.{Entry}
-use Rattle.elements.specs.Table.{rowsIn, noRow}
+use Rattle.entries.specs.declared.Entry.{Entry}
+use Rattle.envelopes.specs.Table.{rowsIn, noRow}
 use Rattle.elements.specs.Judge as judge
 use Rattle.elements.proofs.NoteLaws.{Listed, listed-none, listed-all, listed-not, listed-full, listed-room}
 use Rattle.elements.proofs.with_missing.Statement.{statement}

@@ -11,11 +11,11 @@ returns c = held-short _ (c .if1 .taken)
 two-requires : tie.Need-two-requires
 two-requires c κs = search needs
 
-wide-requires : tie.Need-wide-requires
-wide-requires c κs = search needs
+wide16-requires : tie.Need-wide16-requires
+wide16-requires c κs = search needs
 
 returns-2 : tie.Need-returns-2
-returns-2 c = c .wide .ensures ∙ (c .before .two .ensures ∙ held-is _ (c .before .before .if1 .left))
+returns-2 c = c .wide16 .ensures ∙ (c .before .two .ensures ∙ held-is _ (c .before .before .if1 .left))
 
 pub held-spec : {M : Type 1} → statement M
-held-spec = tie.close (tie.spec returns two-requires wide-requires returns-2)
+held-spec = tie.close (tie.spec returns two-requires wide16-requires returns-2)

@@ -11,17 +11,17 @@ returns c = size-short _ (c .if1 .taken)
 two-requires : tie.Need-two-requires
 two-requires c κs = search needs
 
-wide-requires : tie.Need-wide-requires
-wide-requires c κs = search needs
+wide16-requires : tie.Need-wide16-requires
+wide16-requires c κs = search needs
 
 add-n : tie.Need-add-n
 add-n c = search needs
 
 returns-2 : tie.Need-returns-2
-returns-2 c = size-over _ (c .before .wide .ensures ∙ c .before .before .two .ensures) (c .if2 .taken)
+returns-2 c = size-over _ (c .before .wide16 .ensures ∙ c .before .before .two .ensures) (c .if2 .taken)
 
 returns-3 : tie.Need-returns-3
-returns-3 c = size-is _ (c .before .wide .ensures ∙ c .before .before .two .ensures) (c .if2 .left)
+returns-3 c = size-is _ (c .before .wide16 .ensures ∙ c .before .before .two .ensures) (c .if2 .left)
 
 pub size-spec : {M : Type 1} → statement M
-size-spec = tie.close (tie.spec returns two-requires wide-requires add-n returns-2 returns-3)
+size-spec = tie.close (tie.spec returns two-requires wide16-requires add-n returns-2 returns-3)

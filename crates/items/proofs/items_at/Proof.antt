@@ -13,8 +13,10 @@ use Rattle.octets.specs.declared.Gate.the-variants as gate
 use Rattle.octets.proofs.Got.{number-got}
 use Rattle.identity.specs.declared.Item.{Item}
 use Rattle.identity.specs.Items.{emptyItem}
-use Rattle.items.specs.Items.{itemElementAt, itemsAt}
-use Rattle.items.specs.Found.{foundElement, itemsRead}
+use Rattle.item.specs.Item.{itemElementAt}
+use Rattle.items.specs.Items.{itemsAt}
+use Rattle.item.specs.Found.{foundElement}
+use Rattle.items.specs.Found.{itemsRead}
 use Rattle.octets.proofs.Gathered.{Gathered, gathered-none, gathered-more, gathered-stop, gathered-all}
 use Rattle.items.proofs.items_at.Statement.{statement}
 use Rattle.items.proofs.items_at.Tie as tie

@@ -6,23 +6,23 @@ use Rattle.octets.specs.Field.{valueAt}
 use Rattle.lent.proofs.row_of.Statement.{statement}
 use Rattle.lent.proofs.row_of.Tie as tie
 
-shared-slice-read-number : tie.Need-shared-slice-read-number
-shared-slice-read-number c = search needs
+shared-slice-read-two : tie.Need-shared-slice-read-two
+shared-slice-read-two c = search needs
 
-shared-slice-read-number-2 : tie.Need-shared-slice-read-number-2
-shared-slice-read-number-2 c = search needs
+shared-slice-read-two-2 : tie.Need-shared-slice-read-two-2
+shared-slice-read-two-2 c = search needs
 
-number-requires : tie.Need-number-requires
-number-requires c κs = search needs
+two-requires : tie.Need-two-requires
+two-requires c κs = search needs
 
-shared-slice-read-number-3 : tie.Need-shared-slice-read-number-3
-shared-slice-read-number-3 c = search needs
+shared-slice-read-two-3 : tie.Need-shared-slice-read-two-3
+shared-slice-read-two-3 c = search needs
 
-shared-slice-read-number-4 : tie.Need-shared-slice-read-number-4
-shared-slice-read-number-4 c = search needs
+shared-slice-read-two-4 : tie.Need-shared-slice-read-two-4
+shared-slice-read-two-4 c = search needs
 
-number-requires-2 : tie.Need-number-requires-2
-number-requires-2 c κs = search needs
+two-requires-2 : tie.Need-two-requires-2
+two-requires-2 c κs = search needs
 
 shared-slice-read-session-of : tie.Need-shared-slice-read-session-of
 shared-slice-read-session-of c = search needs
@@ -53,20 +53,20 @@ shared-slice-read-t25 c = search needs
 
 returns : tie.Need-returns
 returns c = let s = c .before .before .before .before .before .before .before .before .before .before .before .before .before .before .before .before .args .p .now in
-    let a : c .before .before .before .before .before .before .before .before .before .before .before .before .number .result ≡ valueAt 2 s 0 = c .before .before .before .before .before .before .before .before .before .before .before .before .number .ensures ∙ omega arith in
-    let b : c .before .before .before .before .before .before .before .before .before .number2 .result ≡ valueAt 2 s 2 = c .before .before .before .before .before .before .before .before .before .number2 .ensures ∙ omega arith in
+    let a : c .before .before .before .before .before .before .before .before .before .before .before .before .two .result ≡ valueAt 2 s 0 = c .before .before .before .before .before .before .before .before .before .before .before .before .two .ensures ∙ omega arith in
+    let b : c .before .before .before .before .before .before .before .before .before .two2 .result ≡ valueAt 2 s 2 = c .before .before .before .before .before .before .before .before .before .two2 .ensures ∙ omega arith in
     rw (a, b, c .before .before .before .before .before .before .session-of .ensures)
 
 pub row-of-spec : {M : Type 1} → statement M
 row-of-spec =
     tie.close
     (tie.spec
-    shared-slice-read-number
-    shared-slice-read-number-2
-    number-requires
-    shared-slice-read-number-3
-    shared-slice-read-number-4
-    number-requires-2
+    shared-slice-read-two
+    shared-slice-read-two-2
+    two-requires
+    shared-slice-read-two-3
+    shared-slice-read-two-4
+    two-requires-2
     shared-slice-read-session-of
     shared-slice-read-session-of-2
     session-of-requires

@@ -15,14 +15,14 @@ no-table-requires c κs = search needs
 returns : tie.Need-returns
 returns c = c .no-table .ensures ∙ ap tableIn (sym (not-long (c .before .before .before .args .s .now) (c .before .if1 .taken)))
 
-shared-slice-read-number : tie.Need-shared-slice-read-number
-shared-slice-read-number c = search needs
+shared-slice-read-two : tie.Need-shared-slice-read-two
+shared-slice-read-two c = search needs
 
-shared-slice-read-number-2 : tie.Need-shared-slice-read-number-2
-shared-slice-read-number-2 c = search needs
+shared-slice-read-two-2 : tie.Need-shared-slice-read-two-2
+shared-slice-read-two-2 c = search needs
 
-number-requires : tie.Need-number-requires
-number-requires c κs = search needs
+two-requires : tie.Need-two-requires
+two-requires c κs = search needs
 
 cast-n : tie.Need-cast-n
 cast-n c = search needs
@@ -31,7 +31,7 @@ no-table-requires-2 : tie.Need-no-table-requires-2
 no-table-requires-2 c κs = search needs
 
 returns-2 : tie.Need-returns-2
-returns-2 c = let e : c .before .before .number .result ≡ valueAt 2 (c .before .before .before .before .before .before .before .args .s .now) 0 = c .before .before .number .ensures ∙ omega arith in
+returns-2 c = let e : c .before .before .two .result ≡ valueAt 2 (c .before .before .before .before .before .before .before .args .s .now) 0 = c .before .before .two .ensures ∙ omega arith in
     c .no-table2 .ensures ∙ ap tableIn (sym (too-many (c .before .before .before .before .before .before .before .args .s .now) e (c .before .if2 .taken)))
 
 mul-zeros-from : tie.Need-mul-zeros-from
@@ -47,7 +47,7 @@ no-table-requires-3 : tie.Need-no-table-requires-3
 no-table-requires-3 c κs = search needs
 
 returns-3 : tie.Need-returns-3
-returns-3 c = let e : c .before .before .before .before .number .result ≡ valueAt 2 (c .before .before .before .before .before .before .before .before .before .args .s .now) 0 = c .before .before .before .before .number .ensures ∙ omega arith in
+returns-3 c = let e : c .before .before .before .before .two .result ≡ valueAt 2 (c .before .before .before .before .before .before .before .before .before .args .s .now) 0 = c .before .before .before .before .two .ensures ∙ omega arith in
     c .no-table3 .ensures ∙ ap tableIn (sym (not-zeros (c .before .before .before .before .before .before .before .before .before .args .s .now) e (sym (c .before .before .zeros-from .ensures) ∙ not-true _ (c .before .if3 .taken))))
 
 rows-in-requires : tie.Need-rows-in-requires
@@ -55,7 +55,7 @@ rows-in-requires c κs = search needs
 
 returns-4 : tie.Need-returns-4
 returns-4 c = let s = c .before .before .before .before .before .before .before .before .before .args .s .now in
-    let e : c .before .before .before .before .number .result ≡ valueAt 2 s 0 = c .before .before .before .before .number .ensures ∙ omega arith in
+    let e : c .before .before .before .before .two .result ≡ valueAt 2 s 0 = c .before .before .before .before .two .ensures ∙ omega arith in
     c .rows-in .ensures ∙ ap tableIn (rest-pass s e (λ i. c .before .before .before .before .before .before .shared-slice-known2 .given i .fits) (omega arith) (omega arith) (sym (c .before .before .zeros-from .ensures) ∙ not-false _ (c .before .if3 .left)))
 
 pub table-in-spec : {M : Type 1} → statement M
@@ -64,9 +64,9 @@ table-in-spec =
     (tie.spec
     no-table-requires
     returns
-    shared-slice-read-number
-    shared-slice-read-number-2
-    number-requires
+    shared-slice-read-two
+    shared-slice-read-two-2
+    two-requires
     cast-n
     no-table-requires-2
     returns-2

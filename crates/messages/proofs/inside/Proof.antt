@@ -6,8 +6,8 @@ use denote.Ref.{now}
 use native.Mathlib.Omega.{arith}
 use Prim.Native.Nat.{ℕ, _+_}
 use mathlib.Core.List.{List}
-use Rattle.elements.specs.declared.Row.{Row}
-use Rattle.elements.specs.Table.{rowsIn}
+use Rattle.envelopes.specs.declared.Row.{Row}
+use Rattle.envelopes.specs.Table.{rowsIn}
 use Rattle.elements.specs.Judge.{judgedBy, elementsAt}
 use Rattle.tables.specs.Tables.{tableOf}
 use Rattle.messages.specs.Verdict.{orStopped, insideOf}
@@ -19,7 +19,7 @@ use Rattle.messages.proofs.inside.Tie as tie
 -- the elements were judged by the message's table
 judged : (c : tie.After-elements-at) → let a = c .before .before .before .before .before .before .before .before .args in c .elements-at .result ≡ judgedBy (elementsAt (tableOf (a .m)) (now (a .s)) (c .before .before .before .before .v .given .0 .0) (a .from + 3))
 judged c = let a = c .before .before .before .before .before .before .before .before .args in
-    c .elements-at .ensures ∙ (ap (λ (n : ℕ). judgedBy (elementsAt (rowsIn (c .before .rows-of .result)) (now (a .s)) n (a .from + 3))) (c .before .before .wide .ensures)
+    c .elements-at .ensures ∙ (ap (λ (n : ℕ). judgedBy (elementsAt (rowsIn (c .before .rows-of .result)) (now (a .s)) n (a .from + 3))) (c .before .before .wide16 .ensures)
     ∙ ap (λ (t : List Row). judgedBy (elementsAt t (now (a .s)) (c .before .before .before .before .v .given .0 .0) (a .from + 3))) (ap rowsIn (c .before .rows-of .ensures) ∙ rows-in (a .m)))
 
 count-at-requires : tie.Need-count-at-requires
@@ -28,8 +28,8 @@ count-at-requires c κs = search needs
 enum-known-v : tie.Need-enum-known-v
 enum-known-v c = search needs
 
-wide-requires : tie.Need-wide-requires
-wide-requires c κs = search needs
+wide16-requires : tie.Need-wide16-requires
+wide16-requires c κs = search needs
 
 enum-known-x : tie.Need-enum-known-x
 enum-known-x c = search needs
@@ -72,7 +72,7 @@ record-of-requires c κs = search needs
 returns-3 : tie.Need-returns-3
 unfolding insideOf
 returns-3 c = let a = c .before .before .before .before .before .before .before .before .before .before .before .before .before .before .before .args in let p = judged-pass (c .before .before .before .before .before .before .before .elements-at .result) _ (judged (c .before .before .before .before .before .before .before)) (c .before .before .before .before .before .enum-told .given .1) in
-    verdict-is (a .m) (now (a .s)) (a .crit) (c .before .before .before .before .before .before .before .before .before .before .before .v .given .0 .0) (c .before .before .before .before .before .before .before .elements-at .result) (p .0) (judged (c .before .before .before .before .before .before .before) ∙ ap judgedBy (sym (p .1))) _ (rw (c .before .before .before .before .before .before .before .before .before .wide .ensures) at (c .before .outcome-of .ensures)) _ (c .record-of .ensures)
+    verdict-is (a .m) (now (a .s)) (a .crit) (c .before .before .before .before .before .before .before .before .before .before .before .v .given .0 .0) (c .before .before .before .before .before .before .before .elements-at .result) (p .0) (judged (c .before .before .before .before .before .before .before) ∙ ap judgedBy (sym (p .1))) _ (rw (c .before .before .before .before .before .before .before .before .before .wide16 .ensures) at (c .before .outcome-of .ensures)) _ (c .record-of .ensures)
     ∙ ap orStopped (past _ _ (told foundTwo (c .before .before .before .before .before .before .before .before .before .before .before .v .given .1) (c .before .before .before .before .before .before .before .before .before .before .before .before .before .count-at .ensures)) (past _ _ (p .1) refl))
 
 pub inside-spec : {M : Type 1} → statement M
@@ -81,7 +81,7 @@ inside-spec =
     (tie.spec
     count-at-requires
     enum-known-v
-    wide-requires
+    wide16-requires
     enum-known-x
     bare-requires
     returns

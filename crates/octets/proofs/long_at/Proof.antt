@@ -6,8 +6,9 @@ use lib.ListN.{length, getD}
 use denote.Ref.{now}
 use lib.Bits.{bitOr}
 use mathlib.Core.Path.{_≡_, _∙_}
-use Rattle.octets.specs.Field.{bitsOf, longAt, longLengthAt}
-use Rattle.octets.proofs.Packed.{two-octets, six-small}
+use Rattle.packed.specs.Packed.{bitsOf}
+use Rattle.octets.specs.Field.{longAt, longLengthAt}
+use Rattle.packed.proofs.Packed.{two-octets, six-small}
 use borrow.Author.Needs.{needs}
 use Rattle.octets.proofs.long_at.Statement.{statement}
 use Rattle.octets.proofs.long_at.Tie as tie

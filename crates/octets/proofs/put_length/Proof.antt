@@ -4,8 +4,8 @@ use mathlib.Core.List.{[], _∷_}
 use Prim.Native.Nat.{ℕ, _/_}
 use lib.Bits.{bitOr}
 use native.Mathlib.Omega.{arith}
-use Rattle.octets.specs.Write.{packed, packedIn, _bits_, placed}
-use Rattle.octets.proofs.Packed.{together}
+use Rattle.packed.specs.Packed.{packed, packedIn, _bits_, placed}
+use Rattle.packed.proofs.Packed.{together}
 use Rattle.octets.proofs.Writing.{wrote-none, wrote-then, length-short, length-long, length-over}
 use borrow.Author.Needs.{needs}
 use Rattle.octets.proofs.put_length.Statement.{statement}
@@ -29,11 +29,11 @@ same-length c = search needs
 returns : tie.Need-returns
 returns c = rw (length-short _ (c .before .before .before .before .if1 .taken)) (c .before .before .put-octet .ensures)
 
-place-in-requires : tie.Need-place-in-requires
-place-in-requires c κs = search needs
+lesser-requires : tie.Need-lesser-requires
+lesser-requires c κs = search needs
 
 returns-2 : tie.Need-returns-2
-returns-2 c = rw (length-over _ (c .before .if2 .taken)) (wrote-none _ _ (c .place-in .ensures))
+returns-2 c = rw (length-over _ (c .before .if2 .taken)) (wrote-none _ _ (c .lesser .ensures))
 
 with-bits-requires : tie.Need-with-bits-requires
 with-bits-requires c κs = search needs
@@ -67,7 +67,7 @@ put-length-spec =
     put-octet-requires
     same-length
     returns
-    place-in-requires
+    lesser-requires
     returns-2
     with-bits-requires
     cast-with-bits

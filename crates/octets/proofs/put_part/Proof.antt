@@ -16,11 +16,11 @@ Inv-loop room₀ at s from to next₀ i₀ room next i = (from ≤ i) × (i ≤ 
 abbrev μ-loop : tie.MeasureT-loop
 μ-loop room₀ at s from to next₀ i₀ room next i = to - i
 
-place-in-requires : tie.Need-place-in-requires Inv-loop μ-loop
-place-in-requires c κs = search needs
+lesser-requires : tie.Need-lesser-requires Inv-loop μ-loop
+lesser-requires c κs = search needs
 
 loop-holds : tie.Need-loop-holds Inv-loop μ-loop
-loop-holds c = (omega arith, omega arith, rw slice-empty (wrote-none _ _ (c .place-in .ensures)))
+loop-holds c = (omega arith, omega arith, rw slice-empty (wrote-none _ _ (c .lesser .ensures)))
 
 same-length : tie.Need-same-length Inv-loop μ-loop
 same-length c = wrote-length (c .before .before .loop .inv .2)
@@ -55,7 +55,7 @@ put-part-spec =
     (tie.spec
     Inv-loop
     μ-loop
-    place-in-requires
+    lesser-requires
     loop-holds
     same-length
     returns

@@ -7,7 +7,7 @@ use denote.Ref.{now}
 use mathlib.Core.Path.{ap, _∙_}
 use Rattle.octets.specs.Read.{got}
 use Rattle.octets.specs.Field.{numberAt}
-use Rattle.octets.proofs.Packed.{two-octets}
+use Rattle.packed.proofs.Packed.{two-octets}
 use borrow.Author.Needs.{needs}
 use Rattle.octets.proofs.two_at.Statement.{statement}
 use Rattle.octets.proofs.two_at.Tie as tie

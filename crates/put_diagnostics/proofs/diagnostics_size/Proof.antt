@@ -8,7 +8,8 @@ use native.Mathlib.Omega.{arith}
 use borrow.Author.Needs.{needs}
 use lib.ListN.{length, length-append}
 use Rattle.lists.proofs.Slices.{length-of}
-use Rattle.diagnostics.specs.Diagnostics.{entriesIn, diagnosticsOf}
+use Rattle.entries.specs.Entries.{entriesIn}
+use Rattle.diagnostics.specs.Diagnostics.{diagnosticsOf}
 use Rattle.diagnostics.specs.Written.{headOctets, listOctets}
 use Rattle.put_diagnostics.proofs.Putting.{with-list, without-list}
 use Rattle.put_diagnostics.proofs.Sizes.{head-small, entries-size, list-size}

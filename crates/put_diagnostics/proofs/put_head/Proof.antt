@@ -3,7 +3,7 @@
 use mathlib.Core.Path.{_∙_, sym, ap}
 use mathlib.Core.List.{_++_, map}
 use borrow.Author.Needs.{needs}
-use Rattle.octets.specs.Write.{bit}
+use Rattle.packed.specs.Packed.{bit}
 use Rattle.octets.proofs.Writing.{wrote-then}
 use Rattle.diagnostics.specs.declared.Number.{Number}
 use Rattle.diagnostics.specs.Written.{marksOf, marks, numbers, withCode, headOctets}

@@ -8,10 +8,10 @@ use borrow.Author.Needs.{needs}
 use lib.ListN.{length, getD}
 use lib.Seq.{getD-take}
 use Rattle.lists.proofs.Slices.{length-of}
-use Rattle.octets.proofs.Writing.{wrote-length, wrote-then}
+use Rattle.octets.proofs.Writing.{number-one, wrote-length, wrote-then}
 use Rattle.diagnostics.specs.Written.{entriesOctets}
-use Rattle.diagnostics.specs.Diagnostics.{emptyEntry, entriesIn}
-use Rattle.put_diagnostics.proofs.Putting.{wrote-as, number-one, Listing, listing-none, listing-more, listing-all}
+use Rattle.entries.specs.Entries.{emptyEntry, entriesIn}
+use Rattle.put_diagnostics.proofs.Putting.{wrote-as, Listing, listing-none, listing-more, listing-all}
 use Rattle.put_diagnostics.proofs.Sizes.{entries-size}
 use Rattle.put_diagnostics.proofs.put_list.Statement.{statement}
 use Rattle.put_diagnostics.proofs.put_list.Tie as tie
@@ -30,7 +30,7 @@ lesser-requires : tie.Need-lesser-requires Inv-loop μ-loop
 lesser-requires c κs = search needs
 
 less-one-requires : tie.Need-less-one-requires Inv-loop μ-loop
-less-one-requires c κs = omega arith
+less-one-requires c κs = search needs
 
 put-octet-requires : tie.Need-put-octet-requires Inv-loop μ-loop
 put-octet-requires c κs = search needs
@@ -73,7 +73,7 @@ returns : tie.Need-returns Inv-loop μ-loop
 returns c = let es = entriesIn (c .before .before .before .before .before .before .before .before .before .before .before .before .before .args .t3) in
     let s = size (c .before .before .before .before .before .before .before .before .before .before .before) in
     let p = c .before .before .before .before .before .before .before .before .before .before .before .lesser .ensures in
-    let q : c .before .before .before .before .before .before .before .before .before .less-one .result ≡ length es - 1 = c .before .before .before .before .before .before .before .before .before .less-one .ensures ∙ ap (λ (n : ℕ). n - 1) (sym s) in
+    let q : c .before .before .before .before .before .before .before .before .before .less-one .result ≡ length es - 1 = omega (arith, s, p, c .before .before .before .before .before .before .before .before .before .less-one .ensures) in
     wrote-as (ap (λ (ns : List ℕ). ns ++ entriesOctets [] es) (ap (λ (n : ℕ). n ∷ []) q ∙ sym (number-one (length es - 1) (omega arith))))
     (wrote-then (c .before .before .before .before .before .before .before .before .put-octet .ensures) (listing-all _ _ _ (c .before .before .before .before .before .loop .inv .1) (omega arith) (c .before .before .put-octet2 .ensures)))
 

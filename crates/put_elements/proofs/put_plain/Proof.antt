@@ -1,5 +1,5 @@
 -- `put_elements::put_plain` meets its contract: by cases, what was called says it. Assumes nothing.
-use Rattle.octets.specs.Write.{packedIn}
+use Rattle.packed.specs.Packed.{packedIn}
 use Rattle.items.specs.Written.{resetOctets}
 use Rattle.said.specs.Value.{octetsOf}
 use Rattle.slots.specs.Slots.{plainIn}

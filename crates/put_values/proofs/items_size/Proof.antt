@@ -15,8 +15,8 @@ Inv-loop rows n size₀ i₀ size i = (i ≤ n) × (size ≤ 1 + 9 * i) × Sized
 abbrev μ-loop : tie.MeasureT-loop
 μ-loop rows n size₀ i₀ size i = n - i
 
-held-requires : tie.Need-held-requires Inv-loop μ-loop
-held-requires c κs = search needs
+lesser-requires : tie.Need-lesser-requires Inv-loop μ-loop
+lesser-requires c κs = search needs
 
 loop-holds : tie.Need-loop-holds Inv-loop μ-loop
 loop-holds c = (omega arith, omega arith, λ crit. omega arith)
@@ -25,7 +25,7 @@ mul-row : tie.Need-mul-row Inv-loop μ-loop
 mul-row c = search needs
 
 array-copy-out-row : tie.Need-array-copy-out-row Inv-loop μ-loop
-array-copy-out-row c = omega (arith, c .before .before .held .ensures)
+array-copy-out-row c = omega (arith, c .before .before .lesser .ensures)
 
 item-size-requires : tie.Need-item-size-requires Inv-loop μ-loop
 item-size-requires c κs = search needs
@@ -34,7 +34,7 @@ add-size : tie.Need-add-size Inv-loop μ-loop
 add-size c = omega (arith, item-small _ (c .item-size .ensures))
 
 add-size-2 : tie.Need-add-size-2 Inv-loop μ-loop
-add-size-2 c = omega (arith, item-small _ (c .item-size .ensures), c .before .before .before .before .held .ensures)
+add-size-2 c = omega (arith, item-small _ (c .item-size .ensures), c .before .before .before .before .lesser .ensures)
 
 add-i : tie.Need-add-i Inv-loop μ-loop
 add-i c = search needs
@@ -44,12 +44,12 @@ loop-less c = search needs
 
 loop-again : tie.Need-loop-again Inv-loop μ-loop
 loop-again c = let l : length (c .before .before .before .before .before .before .args .items .rows) ≡ 256 = search (needs, length-of) in
-    (omega arith, omega (arith, item-small _ (c .item-size .ensures)), sized-more (c .before .before .before .before .before .before .args .items .rows) (c .before .before .before .loop .i) _ (omega (arith, c .before .before .before .before .held .ensures)) (c .before .before .before .loop .inv .2) (c .item-size .ensures))
+    (omega arith, omega (arith, item-small _ (c .item-size .ensures)), sized-more (c .before .before .before .before .before .before .args .items .rows) (c .before .before .before .loop .i) _ (omega (arith, c .before .before .before .before .lesser .ensures)) (c .before .before .before .loop .inv .2) (c .item-size .ensures))
 
 returns : tie.Need-returns Inv-loop μ-loop
 returns c = let l : length (c .before .before .before .before .args .items .rows) ≡ 256 = search (needs, length-of) in
-    let e : c .before .loop .i ≡ c .before .before .held .result = omega arith in
-    sized-all (c .before .before .before .before .args .items .rows) (c .before .before .before .before .args .items .count) (c .before .before .held .result) l (c .before .before .held .ensures) (rw e at (c .before .loop .inv .2))
+    let e : c .before .loop .i ≡ c .before .before .lesser .result = omega arith in
+    sized-all (c .before .before .before .before .args .items .rows) (c .before .before .before .before .args .items .count) (c .before .before .lesser .result) l (c .before .before .lesser .ensures) (rw e at (c .before .loop .inv .2))
 
 pub items-size-spec : {M : Type 1} → statement M
 items-size-spec =
@@ -57,7 +57,7 @@ items-size-spec =
     (tie.spec
     Inv-loop
     μ-loop
-    held-requires
+    lesser-requires
     loop-holds
     mul-row
     array-copy-out-row

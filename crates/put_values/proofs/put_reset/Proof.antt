@@ -1,5 +1,5 @@
 -- `put_values::put_reset` meets its contract: by cases. Assumes nothing.
-use Rattle.octets.specs.Write.{packedIn}
+use Rattle.packed.specs.Packed.{packedIn}
 use Rattle.octets.proofs.Writing.{wrote-then}
 use Rattle.items.specs.Written.{resetOctets}
 use Rattle.put_values.proofs.Put.{part-together}

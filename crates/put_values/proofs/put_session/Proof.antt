@@ -1,6 +1,6 @@
 -- `put_values::put_session` meets its contract: an octet is the number of one octet. Assumes nothing.
 use native.Mathlib.Omega.{arith}
-use Rattle.put_values.proofs.Put.{number-one}
+use Rattle.octets.proofs.Writing.{number-one}
 use borrow.Author.Needs.{needs}
 use Rattle.put_values.proofs.put_session.Statement.{statement}
 use Rattle.put_values.proofs.put_session.Tie as tie

@@ -1,5 +1,5 @@
 -- `put_values::put_tmgi` meets its contract: the octets one after another. Assumes nothing.
-use Rattle.octets.specs.Write.{packedIn}
+use Rattle.packed.specs.Packed.{packedIn}
 use Rattle.octets.proofs.Writing.{wrote-then}
 use Rattle.values.specs.Written.{tmgiOctets}
 use borrow.Author.Needs.{needs}

@@ -1,10 +1,6 @@
--- Each part begins where the one before it ends, and all fit.
-use mathlib.Core.Path.{_≡_}
-use lib.ListN.{length}
-use Rattle.lists.proofs.Slices.{length-of}
+-- Each part begins where the one before it ends.
 use Rattle.octets.proofs.Writing.{wrote-length, wrote-then}
 use Rattle.record_out.specs.Layout.{recordOctets}
-use Rattle.record_out.proofs.Sizes.{slots-size, items-size}
 use borrow.Author.Needs.{needs}
 use native.Mathlib.Omega.{arith}
 use Rattle.record_out.proofs.put_record.Statement.{statement}
@@ -20,32 +16,13 @@ put-pair-requires : tie.Need-put-pair-requires
 put-pair-requires c κs = search needs
 
 put-slots-requires : tie.Need-put-slots-requires
-put-slots-requires c κs = search needs
+put-slots-requires c κs = omega (arith, c .before .before .before .put-pair .ensures .next, wrote-length (c .before .before .before .put-pair .ensures))
 
 put-items-requires : tie.Need-put-items-requires
-put-items-requires c κs = let w = c .before .before .before .before .before .before .before .put-pair .ensures in
-    let p = w .next in
-    let e = wrote-length w in
-    let x = c .before .before .before .put-slots .ensures in
-    let q = x .next in
-    let f = wrote-length x in
-    let s = slots-size (c .before .before .before .before .before .before .before .before .before .before .before .before .before .before .args .what .body) in
-    omega arith
+put-items-requires c κs = search needs
 
 put-entries-requires : tie.Need-put-entries-requires
-put-entries-requires c κs = let w = c .before .before .before .before .before .before .before .before .before .before .before .put-pair .ensures in
-    let p = w .next in
-    let e = wrote-length w in
-    let x = c .before .before .before .before .before .before .before .put-slots .ensures in
-    let q = x .next in
-    let f = wrote-length x in
-    let y = c .before .before .before .put-items .ensures in
-    let r = y .next in
-    let g = wrote-length y in
-    let s = slots-size (c .before .before .before .before .before .before .before .before .before .before .before .before .before .before .before .before .before .before .args .what .body) in
-    let l : length (c .before .before .before .before .before .before .before .before .before .before .before .before .before .before .before .before .before .before .args .what .items .rows) ≡ 256 = search (needs, length-of) in
-    let t = items-size (c .before .before .before .before .before .before .before .before .before .before .before .before .before .before .before .before .before .before .args .what .items) l in
-    omega arith
+put-entries-requires c κs = search needs
 
 same-length : tie.Need-same-length
 same-length c = search needs

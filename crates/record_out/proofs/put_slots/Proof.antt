@@ -1,4 +1,4 @@
--- The first i slots are written, so the next begins 8 * i octets behind the first.
+-- The first i slots are written.
 use Prim.Native.Nat.{_-_, _≤_}
 use mathlib.Core.Path.{_≡_}
 use lib.ListN.{length, take}
@@ -6,9 +6,9 @@ use Rattle.lists.proofs.Slices.{length-of}
 use Rattle.octets.specs.Many.{eachOctets}
 use Rattle.octets.specs.Write.{Wrote}
 use Rattle.octets.proofs.Writing.{wrote-length, wrote-none}
+use Rattle.octets.proofs.EachWritten.{wrote-more}
 use Rattle.record_out.specs.Layout.{slotOctets}
-use Rattle.record_out.proofs.Writing.{wrote-more, each-place}
-use Rattle.record_out.proofs.Sizes.{slot-size, slots-wrote}
+use Rattle.record_out.proofs.Sizes.{slots-wrote}
 use borrow.Author.Needs.{needs}
 use native.Mathlib.Omega.{arith}
 use Rattle.record_out.proofs.put_slots.Statement.{statement}
@@ -33,9 +33,7 @@ element-copy-out-x : tie.Need-element-copy-out-x Inv-loop μ-loop
 element-copy-out-x c = omega arith
 
 put-slot-requires : tie.Need-put-slot-requires Inv-loop μ-loop
-put-slot-requires c κs = let l : length (c .before .before .before .before .slots-of .result .rows) ≡ 12 = search (needs, length-of) in
-    let p = each-place slotOctets 8 slot-size (c .before .before .before .before .slots-of .result .rows) (c .before .before .before .loop .i) (omega arith) (c .before .before .before .loop .inv .1) in
-    omega (arith, wrote-length (c .before .before .before .loop .inv .1))
+put-slot-requires c κs = omega (arith, c .before .before .before .loop .inv .1 .next, wrote-length (c .before .before .before .loop .inv .1))
 
 add-i : tie.Need-add-i Inv-loop μ-loop
 add-i c = omega arith

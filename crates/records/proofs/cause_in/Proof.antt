@@ -12,8 +12,8 @@ use borrow.Author.Needs.{needs}
 use Rattle.records.proofs.cause_in.Statement.{statement}
 use Rattle.records.proofs.cause_in.Tie as tie
 
-end-in-requires : tie.Need-end-in-requires
-end-in-requires c κs = search needs
+lesser-requires : tie.Need-lesser-requires
+lesser-requires c κs = search needs
 
 slice-aggregate-cause-at : tie.Need-slice-aggregate-cause-at
 slice-aggregate-cause-at c = sym (length-take-le _ (now (c .before .before .before .args .s)) (omega arith))
@@ -29,17 +29,17 @@ enum-told c = search needs
 
 returns : tie.Need-returns
 unfolding causeIn
-returns c = let a = c .before .before .before .before .before .before .before .args in read-in cause.Absent cause.Is causeAt (now (a .s)) (a .v) foundCause (c .before .before .before .before .before .end-in .ensures) (c .before .m .given .1) (c .before .before .before .cause-at .ensures)
+returns c = let a = c .before .before .before .before .before .before .before .args in read-in cause.Absent cause.Is causeAt (now (a .s)) (a .v) foundCause (c .before .before .before .before .before .lesser .ensures) (c .before .m .given .1) (c .before .before .before .cause-at .ensures)
 
 returns-2 : tie.Need-returns-2
 unfolding causeIn
-returns-2 c = let a = c .before .before .before .before .before .before .args in read-in cause.Absent cause.Is causeAt (now (a .s)) (a .v) foundCause (c .before .before .before .before .end-in .ensures) (c .enum-told .given .1) (c .before .before .cause-at .ensures)
+returns-2 c = let a = c .before .before .before .before .before .before .args in read-in cause.Absent cause.Is causeAt (now (a .s)) (a .v) foundCause (c .before .before .before .before .lesser .ensures) (c .enum-told .given .1) (c .before .before .cause-at .ensures)
 
 pub cause-in-spec : {M : Type 1} → statement M
 cause-in-spec =
     tie.close
     (tie.spec
-    end-in-requires
+    lesser-requires
     slice-aggregate-cause-at
     cause-at-requires
     enum-known-m

@@ -11,8 +11,8 @@ use borrow.Author.Needs.{needs}
 use Rattle.records.proofs.diagnostics_in.Statement.{statement}
 use Rattle.records.proofs.diagnostics_in.Tie as tie
 
-end-in-requires : tie.Need-end-in-requires
-end-in-requires c κs = search needs
+lesser-requires : tie.Need-lesser-requires
+lesser-requires c κs = search needs
 
 slice-aggregate-diagnostics-at : tie.Need-slice-aggregate-diagnostics-at
 slice-aggregate-diagnostics-at c = sym (length-take-le _ (now (c .before .before .before .args .s)) (omega arith))
@@ -28,17 +28,17 @@ enum-told-2 c = search needs
 
 returns : tie.Need-returns
 unfolding diagnosticsIn
-returns c = diagnosed-is (c .before .before .before .before .diagnostics-at .result) (within diagnosticsAt (now (c .before .before .before .before .before .before .before .before .args .s)) (c .before .before .before .before .before .before .before .before .args .v)) (c .before .before .before .before .diagnostics-at .ensures ∙ ap diagnosticsRead (clipped diagnosticsAt (now (c .before .before .before .before .before .before .before .before .args .s)) (c .before .before .before .before .before .before .before .before .args .v) (c .before .before .before .before .before .before .end-in .ensures))) (c .enum-told .given .1)
+returns c = diagnosed-is (c .before .before .before .before .diagnostics-at .result) (within diagnosticsAt (now (c .before .before .before .before .before .before .before .before .args .s)) (c .before .before .before .before .before .before .before .before .args .v)) (c .before .before .before .before .diagnostics-at .ensures ∙ ap diagnosticsRead (clipped diagnosticsAt (now (c .before .before .before .before .before .before .before .before .args .s)) (c .before .before .before .before .before .before .before .before .args .v) (c .before .before .before .before .before .before .lesser .ensures))) (c .enum-told .given .1)
 
 returns-2 : tie.Need-returns-2
 unfolding diagnosticsIn
-returns-2 c = diagnosed-not (c .before .before .before .before .diagnostics-at .result) (within diagnosticsAt (now (c .before .before .before .before .before .before .before .before .args .s)) (c .before .before .before .before .before .before .before .before .args .v)) (c .before .before .before .before .diagnostics-at .ensures ∙ ap diagnosticsRead (clipped diagnosticsAt (now (c .before .before .before .before .before .before .before .before .args .s)) (c .before .before .before .before .before .before .before .before .args .v) (c .before .before .before .before .before .before .end-in .ensures))) (c .enum-told2 .given .1)
+returns-2 c = diagnosed-not (c .before .before .before .before .diagnostics-at .result) (within diagnosticsAt (now (c .before .before .before .before .before .before .before .before .args .s)) (c .before .before .before .before .before .before .before .before .args .v)) (c .before .before .before .before .diagnostics-at .ensures ∙ ap diagnosticsRead (clipped diagnosticsAt (now (c .before .before .before .before .before .before .before .before .args .s)) (c .before .before .before .before .before .before .before .before .args .v) (c .before .before .before .before .before .before .lesser .ensures))) (c .enum-told2 .given .1)
 
 pub diagnostics-in-spec : {M : Type 1} → statement M
 diagnostics-in-spec =
     tie.close
     (tie.spec
-    end-in-requires
+    lesser-requires
     slice-aggregate-diagnostics-at
     diagnostics-at-requires
     enum-told

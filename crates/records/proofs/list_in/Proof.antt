@@ -11,8 +11,8 @@ use borrow.Author.Needs.{needs}
 use Rattle.records.proofs.list_in.Statement.{statement}
 use Rattle.records.proofs.list_in.Tie as tie
 
-end-in-requires : tie.Need-end-in-requires
-end-in-requires c κs = search needs
+lesser-requires : tie.Need-lesser-requires
+lesser-requires c κs = search needs
 
 slice-aggregate-items-at : tie.Need-slice-aggregate-items-at
 slice-aggregate-items-at c = sym (length-take-le _ (now (c .before .before .before .args .s)) (omega arith))
@@ -28,17 +28,17 @@ enum-told-2 c = search needs
 
 returns : tie.Need-returns
 unfolding listIn
-returns c = listed-is (c .before .before .before .items-at .result) (within itemsAt (now (c .before .before .before .before .before .before .before .args .s)) (c .before .before .before .before .before .before .before .args .v)) (c .before .before .before .items-at .ensures ∙ ap itemsRead (clipped itemsAt (now (c .before .before .before .before .before .before .before .args .s)) (c .before .before .before .before .before .before .before .args .v) (c .before .before .before .before .before .end-in .ensures))) (c .enum-told .given .1)
+returns c = listed-is (c .before .before .before .items-at .result) (within itemsAt (now (c .before .before .before .before .before .before .before .args .s)) (c .before .before .before .before .before .before .before .args .v)) (c .before .before .before .items-at .ensures ∙ ap itemsRead (clipped itemsAt (now (c .before .before .before .before .before .before .before .args .s)) (c .before .before .before .before .before .before .before .args .v) (c .before .before .before .before .before .lesser .ensures))) (c .enum-told .given .1)
 
 returns-2 : tie.Need-returns-2
 unfolding listIn
-returns-2 c = listed-not (c .before .before .before .items-at .result) (within itemsAt (now (c .before .before .before .before .before .before .before .args .s)) (c .before .before .before .before .before .before .before .args .v)) (c .before .before .before .items-at .ensures ∙ ap itemsRead (clipped itemsAt (now (c .before .before .before .before .before .before .before .args .s)) (c .before .before .before .before .before .before .before .args .v) (c .before .before .before .before .before .end-in .ensures))) (c .enum-told2 .given .1)
+returns-2 c = listed-not (c .before .before .before .items-at .result) (within itemsAt (now (c .before .before .before .before .before .before .before .args .s)) (c .before .before .before .before .before .before .before .args .v)) (c .before .before .before .items-at .ensures ∙ ap itemsRead (clipped itemsAt (now (c .before .before .before .before .before .before .before .args .s)) (c .before .before .before .before .before .before .before .args .v) (c .before .before .before .before .before .lesser .ensures))) (c .enum-told2 .given .1)
 
 pub list-in-spec : {M : Type 1} → statement M
 list-in-spec =
     tie.close
     (tie.spec
-    end-in-requires
+    lesser-requires
     slice-aggregate-items-at
     items-at-requires
     enum-told

@@ -12,8 +12,8 @@ use borrow.Author.Needs.{needs}
 use Rattle.records.proofs.mce_in.Statement.{statement}
 use Rattle.records.proofs.mce_in.Tie as tie
 
-end-in-requires : tie.Need-end-in-requires
-end-in-requires c κs = search needs
+lesser-requires : tie.Need-lesser-requires
+lesser-requires c κs = search needs
 
 slice-aggregate-mce-at : tie.Need-slice-aggregate-mce-at
 slice-aggregate-mce-at c = sym (length-take-le _ (now (c .before .before .before .args .s)) (omega arith))
@@ -29,17 +29,17 @@ enum-told c = search needs
 
 returns : tie.Need-returns
 unfolding mceIn
-returns c = let a = c .before .before .before .before .before .before .before .args in read-in mce.Absent mce.Is mceAt (now (a .s)) (a .v) foundMce (c .before .before .before .before .before .end-in .ensures) (c .before .m .given .1) (c .before .before .before .mce-at .ensures)
+returns c = let a = c .before .before .before .before .before .before .before .args in read-in mce.Absent mce.Is mceAt (now (a .s)) (a .v) foundMce (c .before .before .before .before .before .lesser .ensures) (c .before .m .given .1) (c .before .before .before .mce-at .ensures)
 
 returns-2 : tie.Need-returns-2
 unfolding mceIn
-returns-2 c = let a = c .before .before .before .before .before .before .args in read-in mce.Absent mce.Is mceAt (now (a .s)) (a .v) foundMce (c .before .before .before .before .end-in .ensures) (c .enum-told .given .1) (c .before .before .mce-at .ensures)
+returns-2 c = let a = c .before .before .before .before .before .before .args in read-in mce.Absent mce.Is mceAt (now (a .s)) (a .v) foundMce (c .before .before .before .before .lesser .ensures) (c .enum-told .given .1) (c .before .before .mce-at .ensures)
 
 pub mce-in-spec : {M : Type 1} → statement M
 mce-in-spec =
     tie.close
     (tie.spec
-    end-in-requires
+    lesser-requires
     slice-aggregate-mce-at
     mce-at-requires
     enum-known-m

@@ -12,8 +12,8 @@ use borrow.Author.Needs.{needs}
 use Rattle.records.proofs.mme_in.Statement.{statement}
 use Rattle.records.proofs.mme_in.Tie as tie
 
-end-in-requires : tie.Need-end-in-requires
-end-in-requires c κs = search needs
+lesser-requires : tie.Need-lesser-requires
+lesser-requires c κs = search needs
 
 slice-aggregate-mme-at : tie.Need-slice-aggregate-mme-at
 slice-aggregate-mme-at c = sym (length-take-le _ (now (c .before .before .before .args .s)) (omega arith))
@@ -29,17 +29,17 @@ enum-told c = search needs
 
 returns : tie.Need-returns
 unfolding mmeIn
-returns c = let a = c .before .before .before .before .before .before .before .args in read-in mme.Absent mme.Is mmeAt (now (a .s)) (a .v) foundMme (c .before .before .before .before .before .end-in .ensures) (c .before .m .given .1) (c .before .before .before .mme-at .ensures)
+returns c = let a = c .before .before .before .before .before .before .before .args in read-in mme.Absent mme.Is mmeAt (now (a .s)) (a .v) foundMme (c .before .before .before .before .before .lesser .ensures) (c .before .m .given .1) (c .before .before .before .mme-at .ensures)
 
 returns-2 : tie.Need-returns-2
 unfolding mmeIn
-returns-2 c = let a = c .before .before .before .before .before .before .args in read-in mme.Absent mme.Is mmeAt (now (a .s)) (a .v) foundMme (c .before .before .before .before .end-in .ensures) (c .enum-told .given .1) (c .before .before .mme-at .ensures)
+returns-2 c = let a = c .before .before .before .before .before .before .args in read-in mme.Absent mme.Is mmeAt (now (a .s)) (a .v) foundMme (c .before .before .before .before .lesser .ensures) (c .enum-told .given .1) (c .before .before .mme-at .ensures)
 
 pub mme-in-spec : {M : Type 1} → statement M
 mme-in-spec =
     tie.close
     (tie.spec
-    end-in-requires
+    lesser-requires
     slice-aggregate-mme-at
     mme-at-requires
     enum-known-m

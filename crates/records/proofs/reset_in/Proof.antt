@@ -11,8 +11,8 @@ use borrow.Author.Needs.{needs}
 use Rattle.records.proofs.reset_in.Statement.{statement}
 use Rattle.records.proofs.reset_in.Tie as tie
 
-end-in-requires : tie.Need-end-in-requires
-end-in-requires c κs = search needs
+lesser-requires : tie.Need-lesser-requires
+lesser-requires c κs = search needs
 
 slice-aggregate-reset-at : tie.Need-slice-aggregate-reset-at
 slice-aggregate-reset-at c = sym (length-take-le _ (now (c .before .before .before .args .s)) (omega arith))
@@ -34,21 +34,21 @@ enum-told-4 c = search needs
 
 returns : tie.Need-returns
 unfolding resetIn
-returns c = reset-whole (c .before .before .before .before .before .reset-at .result) (within resetAt (now (c .before .before .before .before .before .before .before .before .before .args .s)) (c .before .before .before .before .before .before .before .before .before .args .v)) (c .before .before .before .before .before .reset-at .ensures ∙ ap resetRead (clipped resetAt (now (c .before .before .before .before .before .before .before .before .before .args .s)) (c .before .before .before .before .before .before .before .before .before .args .v) (c .before .before .before .before .before .before .before .end-in .ensures))) (c .before .before .enum-told .given .1) (c .enum-told2 .given .1)
+returns c = reset-whole (c .before .before .before .before .before .reset-at .result) (within resetAt (now (c .before .before .before .before .before .before .before .before .before .args .s)) (c .before .before .before .before .before .before .before .before .before .args .v)) (c .before .before .before .before .before .reset-at .ensures ∙ ap resetRead (clipped resetAt (now (c .before .before .before .before .before .before .before .before .before .args .s)) (c .before .before .before .before .before .before .before .before .before .args .v) (c .before .before .before .before .before .before .before .lesser .ensures))) (c .before .before .enum-told .given .1) (c .enum-told2 .given .1)
 
 returns-2 : tie.Need-returns-2
 unfolding resetIn
-returns-2 c = reset-part (c .before .before .before .before .before .reset-at .result) (within resetAt (now (c .before .before .before .before .before .before .before .before .before .args .s)) (c .before .before .before .before .before .before .before .before .before .args .v)) (c .before .before .before .before .before .reset-at .ensures ∙ ap resetRead (clipped resetAt (now (c .before .before .before .before .before .before .before .before .before .args .s)) (c .before .before .before .before .before .before .before .before .before .args .v) (c .before .before .before .before .before .before .before .end-in .ensures))) (c .before .before .enum-told .given .1) (c .enum-told3 .given .1)
+returns-2 c = reset-part (c .before .before .before .before .before .reset-at .result) (within resetAt (now (c .before .before .before .before .before .before .before .before .before .args .s)) (c .before .before .before .before .before .before .before .before .before .args .v)) (c .before .before .before .before .before .reset-at .ensures ∙ ap resetRead (clipped resetAt (now (c .before .before .before .before .before .before .before .before .before .args .s)) (c .before .before .before .before .before .before .before .before .before .args .v) (c .before .before .before .before .before .before .before .lesser .ensures))) (c .before .before .enum-told .given .1) (c .enum-told3 .given .1)
 
 returns-3 : tie.Need-returns-3
 unfolding resetIn
-returns-3 c = reset-not (c .before .before .before .reset-at .result) (within resetAt (now (c .before .before .before .before .before .before .before .args .s)) (c .before .before .before .before .before .before .before .args .v)) (c .before .before .before .reset-at .ensures ∙ ap resetRead (clipped resetAt (now (c .before .before .before .before .before .before .before .args .s)) (c .before .before .before .before .before .before .before .args .v) (c .before .before .before .before .before .end-in .ensures))) (c .enum-told4 .given .1)
+returns-3 c = reset-not (c .before .before .before .reset-at .result) (within resetAt (now (c .before .before .before .before .before .before .before .args .s)) (c .before .before .before .before .before .before .before .args .v)) (c .before .before .before .reset-at .ensures ∙ ap resetRead (clipped resetAt (now (c .before .before .before .before .before .before .before .args .s)) (c .before .before .before .before .before .before .before .args .v) (c .before .before .before .before .before .lesser .ensures))) (c .enum-told4 .given .1)
 
 pub reset-in-spec : {M : Type 1} → statement M
 reset-in-spec =
     tie.close
     (tie.spec
-    end-in-requires
+    lesser-requires
     slice-aggregate-reset-at
     reset-at-requires
     enum-told

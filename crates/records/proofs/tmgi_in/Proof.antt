@@ -12,8 +12,8 @@ use borrow.Author.Needs.{needs}
 use Rattle.records.proofs.tmgi_in.Statement.{statement}
 use Rattle.records.proofs.tmgi_in.Tie as tie
 
-end-in-requires : tie.Need-end-in-requires
-end-in-requires c κs = search needs
+lesser-requires : tie.Need-lesser-requires
+lesser-requires c κs = search needs
 
 slice-aggregate-tmgi-at : tie.Need-slice-aggregate-tmgi-at
 slice-aggregate-tmgi-at c = sym (length-take-le _ (now (c .before .before .before .args .s)) (omega arith))
@@ -29,17 +29,17 @@ enum-told c = search needs
 
 returns : tie.Need-returns
 unfolding tmgiIn
-returns c = let a = c .before .before .before .before .before .before .before .args in read-in tmgi.Absent tmgi.Is tmgiAt (now (a .s)) (a .v) foundTmgi (c .before .before .before .before .before .end-in .ensures) (c .before .m .given .1) (c .before .before .before .tmgi-at .ensures)
+returns c = let a = c .before .before .before .before .before .before .before .args in read-in tmgi.Absent tmgi.Is tmgiAt (now (a .s)) (a .v) foundTmgi (c .before .before .before .before .before .lesser .ensures) (c .before .m .given .1) (c .before .before .before .tmgi-at .ensures)
 
 returns-2 : tie.Need-returns-2
 unfolding tmgiIn
-returns-2 c = let a = c .before .before .before .before .before .before .args in read-in tmgi.Absent tmgi.Is tmgiAt (now (a .s)) (a .v) foundTmgi (c .before .before .before .before .end-in .ensures) (c .enum-told .given .1) (c .before .before .tmgi-at .ensures)
+returns-2 c = let a = c .before .before .before .before .before .before .args in read-in tmgi.Absent tmgi.Is tmgiAt (now (a .s)) (a .v) foundTmgi (c .before .before .before .before .lesser .ensures) (c .enum-told .given .1) (c .before .before .tmgi-at .ensures)
 
 pub tmgi-in-spec : {M : Type 1} → statement M
 tmgi-in-spec =
     tie.close
     (tie.spec
-    end-in-requires
+    lesser-requires
     slice-aggregate-tmgi-at
     tmgi-at-requires
     enum-known-m

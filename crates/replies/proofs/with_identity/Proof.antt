@@ -1,6 +1,5 @@
 -- `replies::with_identity` meets its contract. A filter into an empty array: of the items passed, those that have an identity stand in its front. Assumes nothing.
-use Rattle.replies.specs.Replies.{withIdentity}
-use Rattle.replies.specs.Replies.{hasIdentity}
+use Rattle.replies.specs.Replies.{withIdentity, hasIdentity}
 use Rattle.identity.specs.Items.{emptyItem}
 use Rattle.lists.proofs.Filter.{Kept, kept-none, kept-one, kept-not, kept-all}
 use Rattle.lists.proofs.Slices.{length-of, take-within}
@@ -18,8 +17,8 @@ Inv-loop items n out₀ k₀ i₀ out k i = Kept emptyItem 256 hasIdentity (item
 abbrev μ-loop : tie.MeasureT-loop
 μ-loop items n out₀ k₀ i₀ out k i = n - i
 
-within-requires : tie.Need-within-requires Inv-loop μ-loop
-within-requires c κs = search needs
+lesser-requires : tie.Need-lesser-requires Inv-loop μ-loop
+lesser-requires c κs = search needs
 
 no-items-requires : tie.Need-no-items-requires Inv-loop μ-loop
 no-items-requires c κs = search needs
@@ -66,7 +65,7 @@ returns : tie.Need-returns Inv-loop μ-loop
 unfolding withIdentity
 returns c = let b : length (c .before .before .before .before .args .t1 .rows) ≡ 256 = search (needs, length-of) in
     let a = kept-all (c .before .loop .inv) (c .loop-test .left) in
-    rw (a .0, a .1, take-within (c .before .before .before .before .args .t1 .rows) (c .before .before .before .before .args .t1 .count) 256 b (c .before .before .before .within .ensures))
+    rw (a .0, a .1, take-within (c .before .before .before .before .args .t1 .rows) (c .before .before .before .before .args .t1 .count) 256 b (c .before .before .before .lesser .ensures))
 
 pub with-identity-spec : {M : Type 1} → statement M
 with-identity-spec =
@@ -74,7 +73,7 @@ with-identity-spec =
     (tie.spec
     Inv-loop
     μ-loop
-    within-requires
+    lesser-requires
     no-items-requires
     loop-holds
     mul-item

@@ -15,8 +15,8 @@ Inv-loop mmes₀ mces₀ head₀ next₀ items n i₀ mmes mces head next i = (i
 abbrev μ-loop : tie.MeasureT-loop
 μ-loop mmes₀ mces₀ head₀ next₀ items n i₀ mmes mces head next i = n - i
 
-within-requires : tie.Need-within-requires Inv-loop μ-loop
-within-requires c κs = search needs
+lesser-requires : tie.Need-lesser-requires Inv-loop μ-loop
+lesser-requires c κs = search needs
 
 loop-holds : tie.Need-loop-holds Inv-loop μ-loop
 loop-holds c = (omega arith, rw (c .before .pre .0 .0, c .before .pre .0 .1, c .before .pre .1 .0, c .before .pre .1 .1) chaining-none)
@@ -79,7 +79,7 @@ loop-again : tie.Need-loop-again Inv-loop μ-loop
 loop-again c =
     let b : length (c .before .before .before .before .before .before .before .before .before .args .t1 .rows) ≡ 256 = search (needs, length-of) in
     let g = c .before .before .before .before .before .before .before .loop .inv .1 in
-    (omega arith, chaining-more g b (c .before .before .before .before .before .before .before .before .within .ensures) (omega arith) _ (c .before .before .before .before .mme-number .ensures) (c .before .before .before .mce-number .ensures) (c .before .before .slot .ensures) (c .before .if1 .taken))
+    (omega arith, chaining-more g b (c .before .before .before .before .before .before .before .before .lesser .ensures) (omega arith) _ (c .before .before .before .before .mme-number .ensures) (c .before .before .before .mce-number .ensures) (c .before .before .slot .ensures) (c .before .if1 .taken))
 
 loop-less-2 : tie.Need-loop-less-2 Inv-loop μ-loop
 loop-less-2 c = search needs
@@ -88,12 +88,12 @@ loop-again-2 : tie.Need-loop-again-2 Inv-loop μ-loop
 loop-again-2 c =
     let b : length (c .before .before .before .before .before .before .before .before .args .t1 .rows) ≡ 256 = search (needs, length-of) in
     let g = c .before .before .before .before .before .before .loop .inv .1 in
-    (omega arith, chaining-not g b (c .before .before .before .before .before .before .before .within .ensures) (omega arith) _ (c .before .before .before .mme-number .ensures) (c .before .before .mce-number .ensures) (c .before .slot .ensures) (c .if1 .left))
+    (omega arith, chaining-not g b (c .before .before .before .before .before .before .before .lesser .ensures) (omega arith) _ (c .before .before .before .mme-number .ensures) (c .before .before .mce-number .ensures) (c .before .slot .ensures) (c .if1 .left))
 
 returns : tie.Need-returns Inv-loop μ-loop
 returns c =
     let b : length (c .before .before .before .args .t1 .rows) ≡ 256 = search (needs, length-of) in
-    chaining-all (c .before .loop .inv .1) b (c .before .before .within .ensures) (c .loop-test .left)
+    chaining-all (c .before .loop .inv .1) b (c .before .before .lesser .ensures) (c .loop-test .left)
 
 pub chain-spec : {M : Type 1} → statement M
 chain-spec =
@@ -101,7 +101,7 @@ chain-spec =
     (tie.spec
     Inv-loop
     μ-loop
-    within-requires
+    lesser-requires
     loop-holds
     mul-item
     element-copy-out-item

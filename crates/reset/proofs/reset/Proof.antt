@@ -25,8 +25,8 @@ abbrev μ-loop : tie.MeasureT-loop
 chain-requires : tie.Need-chain-requires Inv-loop μ-loop
 chain-requires c κs = ((refl, refl), (refl, refl))
 
-within-requires : tie.Need-within-requires Inv-loop μ-loop
-within-requires c κs = search needs
+lesser-requires : tie.Need-lesser-requires Inv-loop μ-loop
+lesser-requires c κs = search needs
 
 empty-requires : tie.Need-empty-requires Inv-loop μ-loop
 empty-requires c κs = search needs
@@ -78,7 +78,7 @@ returns c =
     let d : length (s .args .items .rows) ≡ 256 = search (needs, length-of) in
     let n : length (listed (s .args .items)) ≤ 256 = rw length-take (omega arith) in
     let e = c .before .before .before .before .chain .ensures in
-    table-kept (s .args .t1) b (c .before .before .before .within .ensures) (c .before .loop .inv) (c .loop-test .left)
+    table-kept (s .args .t1) b (c .before .before .before .lesser .ensures) (c .before .loop .inv) (c .loop-test .left)
     ∙ ap tableOf (without-met (listed (s .args .items)) n _ _ (e .0) (e .1) (held (s .args .t1)))
 
 pub reset-spec : {M : Type 1} → statement M
@@ -88,7 +88,7 @@ reset-spec =
     Inv-loop
     μ-loop
     chain-requires
-    within-requires
+    lesser-requires
     empty-requires
     loop-holds
     mul-a

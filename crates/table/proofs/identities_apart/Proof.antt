@@ -24,8 +24,8 @@ Inv-loop t n mmes₀ mces₀ i₀ mmes mces i = Copied mme 0 256 (t .rows) n mme
 abbrev μ-loop : tie.MeasureT-loop
 μ-loop t n mmes₀ mces₀ i₀ mmes mces i = n - i
 
-within-requires : tie.Need-within-requires Inv-loop μ-loop
-within-requires c κs = search needs
+lesser-requires : tie.Need-lesser-requires Inv-loop μ-loop
+lesser-requires c κs = search needs
 
 loop-holds : tie.Need-loop-holds Inv-loop μ-loop
 loop-holds c = (copied-none, copied-none)
@@ -72,8 +72,8 @@ returns c =
     let s = c .before .before .before .before .before .before in
     let b : length (s .args .t1 .rows) ≡ 256 = search (needs, length-of) in
     let v = c .before .before .before .before .loop .inv in
-    let m = series-apart (s .args .t1) b (c .before .before .before .before .before .within .ensures) mme _ (copied-front (v .0) (omega arith) (omega arith)) in
-    let e = series-apart (s .args .t1) b (c .before .before .before .before .before .within .ensures) mce _ (copied-front (v .1) (omega arith) (omega arith)) in
+    let m = series-apart (s .args .t1) b (c .before .before .before .before .before .lesser .ensures) mme _ (copied-front (v .0) (omega arith) (omega arith)) in
+    let e = series-apart (s .args .t1) b (c .before .before .before .before .before .lesser .ensures) mce _ (copied-front (v .1) (omega arith) (omega arith)) in
     rw (sym m ∙ sym (c .before .before .unequal .ensures) ∙ c .before .if1 .taken) (c .unequal2 .ensures ∙ e)
 
 returns-2 : tie.Need-returns-2 Inv-loop μ-loop
@@ -82,7 +82,7 @@ returns-2 c =
     let s = c .before .before .before .before .before in
     let b : length (s .args .t1 .rows) ≡ 256 = search (needs, length-of) in
     let v = c .before .before .before .loop .inv in
-    let m = series-apart (s .args .t1) b (c .before .before .before .before .within .ensures) mme _ (copied-front (v .0) (omega arith) (omega arith)) in
+    let m = series-apart (s .args .t1) b (c .before .before .before .before .lesser .ensures) mme _ (copied-front (v .0) (omega arith) (omega arith)) in
     rw (sym m ∙ sym (c .before .unequal .ensures) ∙ c .if1 .left) (c .if1 .left)
 
 pub identities-apart-spec : {M : Type 1} → statement M
@@ -91,7 +91,7 @@ identities-apart-spec =
     (tie.spec
     Inv-loop
     μ-loop
-    within-requires
+    lesser-requires
     loop-holds
     mul-a
     element-copy-out-a

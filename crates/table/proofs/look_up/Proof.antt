@@ -19,8 +19,8 @@ Inv-loop item t n first second mme₀ mce₀ pair₀ i₀ mme mce pair i = Met (
 abbrev μ-loop : tie.MeasureT-loop
 μ-loop item t n first second mme₀ mce₀ pair₀ i₀ mme mce pair i = n - i
 
-within-requires : tie.Need-within-requires Inv-loop μ-loop
-within-requires c κs = search needs
+lesser-requires : tie.Need-lesser-requires Inv-loop μ-loop
+lesser-requires c κs = search needs
 
 loop-holds : tie.Need-loop-holds Inv-loop μ-loop
 loop-holds c = (met-none, met-none, met-none)
@@ -69,7 +69,7 @@ returns c =
     let a = c .before .before .before .args in
     let v = c .before .loop .inv in
     let b : length (c .before .before .before .args .t1 .rows) ≡ 256 = search (needs, length-of) in
-    let h = take-within (a .t1 .rows) (a .t1 .count) 256 b (c .before .before .within .ensures) in
+    let h = take-within (a .t1 .rows) (a .t1 .count) 256 b (c .before .before .lesser .ensures) in
     λ i. record {
       mme = (met-all (v .0) (c .loop-test .left) ∙ ap (some _) h ∙ held-by (a .item .mme) mce.Absent (held (a .t1))) i;
       mce = (met-all (v .1) (c .loop-test .left) ∙ ap (some _) h ∙ held-by mme.Absent (a .item .mce) (held (a .t1))) i;
@@ -83,7 +83,7 @@ look-up-spec =
     (tie.spec
     Inv-loop
     μ-loop
-    within-requires
+    lesser-requires
     loop-holds
     mul-a
     element-copy-out-a

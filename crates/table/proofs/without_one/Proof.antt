@@ -19,8 +19,8 @@ Inv-loop item t n out₀ k₀ i₀ out k i = Kept emptyAssociation 256 (λ (a : 
 abbrev μ-loop : tie.MeasureT-loop
 μ-loop item t n out₀ k₀ i₀ out k i = n - i
 
-within-requires : tie.Need-within-requires Inv-loop μ-loop
-within-requires c κs = search needs
+lesser-requires : tie.Need-lesser-requires Inv-loop μ-loop
+lesser-requires c κs = search needs
 
 empty-requires : tie.Need-empty-requires Inv-loop μ-loop
 empty-requires c κs = search needs
@@ -68,7 +68,7 @@ loop-again-2 c =
 returns : tie.Need-returns Inv-loop μ-loop
 returns c =
     let b : length (c .before .before .before .before .args .t1 .rows) ≡ 256 = search (needs, length-of) in
-    table-kept (c .before .before .before .before .args .t1) b (c .before .before .before .within .ensures) (c .before .loop .inv) (c .loop-test .left)
+    table-kept (c .before .before .before .before .args .t1) b (c .before .before .before .lesser .ensures) (c .before .loop .inv) (c .loop-test .left)
 
 pub without-one-spec : {M : Type 1} → statement M
 without-one-spec =
@@ -76,7 +76,7 @@ without-one-spec =
     (tie.spec
     Inv-loop
     μ-loop
-    within-requires
+    lesser-requires
     empty-requires
     loop-holds
     mul-a

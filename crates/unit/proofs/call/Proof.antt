@@ -1,5 +1,5 @@
 -- `unit::call` meets its contract. No table; or what was decided is settled: the reply does not fit, or it stands, and then the table. Assumes nothing.
-use mathlib.Core.Path.{_≡_, refl, subst, _∙_}
+use mathlib.Core.Path.{refl, subst}
 use mathlib.Core.List.{List}
 use Prim.Native.Nat.{ℕ}
 use denote.Ref.{now}
@@ -7,7 +7,6 @@ use borrow.Author.Tests.{not-true, not-false}
 use Rattle.records.specs.declared.Record.{Record}
 use Rattle.table.specs.Table.{held}
 use Rattle.replies.specs.Replies.{replied}
-use Rattle.judge.specs.Judge.{judgedOf}
 use Rattle.carry.specs.Carry.{Decided, applied, decided}
 use Rattle.unit.specs.declared.Back as back
 use Rattle.unit.specs.Unit.{Call, replyOf, settled, call, Called}
@@ -19,38 +18,35 @@ use Rattle.unit.proofs.call.Tie as tie
 -- ---- once the reply is written, or not
 
 abbrev table : tie.After-write-body → List ℕ
-table w = now (w .before .before .before .before .before .before .before .before .before .before .before .before .before .before .before .before .before .before .before .before .args .table)
+table w = now (w .before .before .before .before .before .before .before .before .before .before .before .before .before .before .before .before .before .before .before .args .table)
 
 abbrev asking : tie.After-write-body → Call
-asking w = let a = w .before .before .before .before .before .before .before .before .before .before .before .before .before .before .before .before .before .before .before .before .args in record { message = now (a .message); offered = a .offered; room = now (a .room) }
+asking w = let a = w .before .before .before .before .before .before .before .before .before .before .before .before .before .before .before .before .before .before .before .args in record { message = now (a .message); offered = a .offered; room = now (a .room) }
 
 -- the table that was read
-read : (w : tie.After-write-body) → Found (table w) (w .before .before .before .before .before .before .before .before .before .before .before .before .before .before .before .table-in .result) (w .before .before .before .before .before .before .before .before .before .before .before .before .before .before .before .table-in .ensures)
-read w = found (table w) (w .before .before .before .before .before .before .before .before .before .before .before .before .before .before .before .table-in .result) (w .before .before .before .before .before .before .before .before .before .before .before .before .before .before .before .table-in .ensures) (not-false _ (w .before .before .before .before .before .before .before .before .before .before .before .before .before .if1 .left))
+read : (w : tie.After-write-body) → Found (table w) (w .before .before .before .before .before .before .before .before .before .before .before .before .before .before .table-in .result) (w .before .before .before .before .before .before .before .before .before .before .before .before .before .before .table-in .ensures)
+read w = found (table w) (w .before .before .before .before .before .before .before .before .before .before .before .before .before .before .table-in .result) (w .before .before .before .before .before .before .before .before .before .before .before .before .before .before .table-in .ensures) (not-false _ (w .before .before .before .before .before .before .before .before .before .before .before .before .if1 .left))
 
 -- the reply, and what was decided
 abbrev reply : tie.After-write-body → Record
-reply w = replied (w .before .before .before .before .before .before .acknowledged .result) (w .before .before .before .before .before .before .before .before .before .before .before .before .judge .result .verdict .noted) (w .before .before .before .decide .result .reply)
+reply w = let j = w .before .before .before .before .before .before .before .before .before .before .before .judge .result in replied (j .frame) (j .verdict .message .items) (j .verdict .noted) (w .before .before .before .before .before .decide .result .reply)
 
 abbrev made : tie.After-write-body → Decided
-made w =
-    applied (held (w .before .before .before .before .before .before .before .before .before .before .before .before .before .before .before .table-in .result .table)) (w .before .before .before .before .before .before .before .before .before .before .before .before .judge .result .verdict .message .items) (w .before .before .before .before .before .before .acknowledged .result) (w .before .before .before .before .before .before .before .before .before .before .before .before .judge .result .verdict .noted)
-    (w .before .before .before .decide .result)
+made w = let j = w .before .before .before .before .before .before .before .before .before .before .before .judge .result in applied (held (w .before .before .before .before .before .before .before .before .before .before .before .before .before .before .table-in .result .table)) (j .frame) (j .verdict .message .items) (j .verdict .noted) (w .before .before .before .before .before .decide .result)
 
 written : (w : tie.After-write-body) → Put (asking w .room) (replyOf (made w)) (w .write-body .result) (w .write-body .last .1 .1 .1 .1 .0)
 written w =
-    let v = w .before .before .before .before .before .before .before .before .before .before .before .before .judge .result .verdict in
-    let k = w .before .before .before .before .before .before .acknowledged .result in
-    let d = w .before .before .before .decide .result in
-    subst (λ (os : List ℕ). Put (asking w .room) os (w .write-body .result) (w .write-body .last .1 .1 .1 .1 .0)) (reply-of (held (w .before .before .before .before .before .before .before .before .before .before .before .before .before .before .before .table-in .result .table)) (v .message .items) (reply w) (d .change))
-    (written-put (asking w .room) k (v .noted) (d .reply) _ refl (w .write-body .ensures))
+    let j = w .before .before .before .before .before .before .before .before .before .before .before .judge .result in
+    let d = w .before .before .before .before .before .decide .result in
+    subst (λ (os : List ℕ). Put (asking w .room) os (w .write-body .result) (w .write-body .last .1 .1 .1 .1 .0)) (reply-of (held (w .before .before .before .before .before .before .before .before .before .before .before .before .before .before .table-in .result .table)) (j .verdict .message .items) (reply w) (d .change))
+    (written-put (j .frame) (j .verdict .message .items) (j .verdict .noted) (asking w .room) (d .reply) (w .before .before .before .before .with-identity .ensures) (w .before .before .before .body-of .ensures) refl (w .write-body .ensures))
 
 settles : (w : tie.After-write-body) {r : back.Back} {t d : List ℕ} → Called (settled (table w) (asking w .room) (made w)) r t d → Called (call (table w) (asking w)) r t d
 settles w {r} {t} {d} h =
     let e = read w in
     on-table (table w) (asking w) (e .state) (e .held)
     (subst (λ (x : Decided). Called (settled (table w) (asking w .room) x) r t d)
-    (decided-by (e .state) (asking w .offered) (asking w .message) (e .table) (w .before .before .before .before .before .before .before .before .before .before .before .before .judge .ensures) (w .before .before .before .before .before .before .acknowledged .ensures) (w .before .before .before .before .before .asked .ensures) (w .before .before .before .before .look-up .ensures) (w .before .before .before .decide .ensures)) h)
+    (decided-by (e .state) (asking w .offered) (asking w .message) (e .table) (w .before .before .before .before .before .before .before .before .before .before .before .judge .ensures) (w .before .before .before .before .before .before .before .before .request-of .ensures) (w .before .before .before .before .before .before .before .asked .ensures) (w .before .before .before .before .before .before .look-up .ensures) (w .before .before .before .before .before .decide .ensures)) h)
 
 -- ---- what is left to prove
 
@@ -69,8 +65,8 @@ returns c = let a = c .before .before .before .before .before .before .before .b
 judge-requires : tie.Need-judge-requires
 judge-requires c κs = search needs
 
-acknowledged-requires : tie.Need-acknowledged-requires
-acknowledged-requires c κs = search needs
+request-of-requires : tie.Need-request-of-requires
+request-of-requires c κs = search needs
 
 asked-requires : tie.Need-asked-requires
 asked-requires c κs = search needs
@@ -80,6 +76,12 @@ look-up-requires c κs = search needs
 
 decide-requires : tie.Need-decide-requires
 decide-requires c κs = search needs
+
+with-identity-requires : tie.Need-with-identity-requires
+with-identity-requires c κs = search needs
+
+body-of-requires : tie.Need-body-of-requires
+body-of-requires c κs = search needs
 
 sub-write-body : tie.Need-sub-write-body
 sub-write-body c = search needs
@@ -97,7 +99,7 @@ enum-known-n : tie.Need-enum-known-n
 enum-known-n c = search needs
 
 finish-requires : tie.Need-finish-requires
-finish-requires c κs = let w = c .before .before .before .before .before .before in found-held (table w) (w .before .before .before .before .before .before .before .before .before .before .before .before .before .before .before .table-in .result) (w .before .before .before .before .before .before .before .before .before .before .before .before .before .before .before .table-in .ensures) (read w)
+finish-requires c κs = let w = c .before .before .before .before .before .before in found-held (table w) (w .before .before .before .before .before .before .before .before .before .before .before .before .before .before .table-in .result) (w .before .before .before .before .before .before .before .before .before .before .before .before .before .before .table-in .ensures) (read w)
 
 enum-told : tie.Need-enum-told
 enum-told c = search needs
@@ -109,7 +111,7 @@ enum-told-2 : tie.Need-enum-told-2
 enum-told-2 c = search needs
 
 finish-requires-2 : tie.Need-finish-requires-2
-finish-requires-2 c κs = let w = c .before .before .before .before .before in found-held (table w) (w .before .before .before .before .before .before .before .before .before .before .before .before .before .before .before .table-in .result) (w .before .before .before .before .before .before .before .before .before .before .before .before .before .before .before .table-in .ensures) (read w)
+finish-requires-2 c κs = let w = c .before .before .before .before .before in found-held (table w) (w .before .before .before .before .before .before .before .before .before .before .before .before .before .before .table-in .result) (w .before .before .before .before .before .before .before .before .before .before .before .before .before .before .table-in .ensures) (read w)
 
 same-length-2 : tie.Need-same-length-2
 same-length-2 c = search needs
@@ -147,10 +149,12 @@ call-spec =
     same-length
     returns
     judge-requires
-    acknowledged-requires
+    request-of-requires
     asked-requires
     look-up-requires
     decide-requires
+    with-identity-requires
+    body-of-requires
     sub-write-body
     part-write-body-start
     part-write-body-end

@@ -1,0 +1,3 @@
+pub mod Zeros
+pub mod Listed
+pub mod Determined
