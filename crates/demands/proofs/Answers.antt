@@ -41,7 +41,7 @@ use Rattle.judge.specs.declared.Judged.{Judged}
 use Rattle.judge.specs.Judge.{asks, noFrame, judgedBy, verdictBy, judgedIn, judgedOf}
 use Rattle.carry.specs.declared.Decision.{Decision}
 use Rattle.carry.specs.Carry.{Decided, started, stopped, decision, requestOf, asked, applied, decided}
-use Rattle.unit.specs.Answers.{numbered}
+use Rattle.answers.specs.Answers.{numbered}
 use Rattle.unit.specs.Unit.{answerOf, settledIf, fits, settled, onTable, call}
 use Rattle.demands.specs.Due.{firstDue, dueFor, due, fitsIn, AnswersAs}
 use Rattle.demands.proofs.Accepted.{IsMme, IsMce, IsTmgi, IsReset, Complete, Usual, inside-judged}

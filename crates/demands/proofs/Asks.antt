@@ -26,7 +26,7 @@ use Rattle.judge.specs.declared.Judged.{Judged}
 use Rattle.judge.specs.Judge.{judgedOf}
 use Rattle.carry.specs.declared.Request.the-variants as request
 use Rattle.carry.specs.Carry.{carriedOut, decided}
-use Rattle.unit.specs.Answers.{numbered}
+use Rattle.answers.specs.Answers.{numbered}
 use Rattle.unit.specs.Unit.{Call, onTable, call}
 use Rattle.demands.specs.Answered.{numberOf}
 use Rattle.demands.specs.Words.{Starts, Stops}

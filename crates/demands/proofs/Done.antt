@@ -25,7 +25,7 @@ use Rattle.judge.specs.declared.Judged.{Judged}
 use Rattle.judge.specs.Judge.{judgedOf}
 use Rattle.carry.specs.declared.Decision.{Decision}
 use Rattle.carry.specs.Carry.{Decided, changes, started, stopped, applied, decided}
-use Rattle.unit.specs.Answers.{numbered}
+use Rattle.answers.specs.Answers.{numbered}
 use Rattle.unit.specs.Unit.{Call, Back, call, settled, settledIf, fits, replyOf, answerOf, tableAfter}
 use Rattle.demands.specs.Answered.{numberOf}
 use Rattle.demands.specs.Words.{PartialReset, Starts, Stops}

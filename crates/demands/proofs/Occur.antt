@@ -45,7 +45,7 @@ use Rattle.judge.specs.Judge.{noFrame, judgedBy, judgedOf}
 use Rattle.carry.specs.declared.Answer.{Answer}
 use Rattle.carry.specs.declared.Answer.the-variants as answer
 use Rattle.carry.specs.Carry.{Decided, keeps, changes, started, stopped, decided}
-use Rattle.unit.specs.Answers.{numbered}
+use Rattle.answers.specs.Answers.{numbered}
 use Rattle.unit.specs.Unit.{Back, replyOctets, replyOf, answerOf, fits, settled, onTable, call}
 use Rattle.demands.specs.Occur.{offer, Gives, pair, many, start, stop, whole, error, numberOf, EveryAnswer}
 use Rattle.demands.proofs.Settle.{no-record, none-said}

@@ -39,7 +39,7 @@ use Rattle.carry.specs.declared.Request.{Request}
 use Rattle.carry.specs.declared.Request.the-variants as request
 use Rattle.carry.specs.declared.Decision.{Decision}
 use Rattle.carry.specs.Carry.{Decided, keeps, changes, started, stopped, carriedOut, decision, requestOf, asked, applied, decided}
-use Rattle.unit.specs.Answers.{numbered}
+use Rattle.answers.specs.Answers.{numbered}
 use Rattle.unit.specs.Unit.{Call, Back, replyOctets, replyOf, answerOf, settledIf, fits, settled, onTable, call}
 use Rattle.demands.specs.Answered.{isAmong, numbers, silentNumbers, Answered}
 

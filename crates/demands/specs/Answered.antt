@@ -19,7 +19,7 @@ use Rattle.said.specs.Said.{saidBy}
 use Rattle.ties.specs.Ties.{ReadAs}
 use Rattle.judge.specs.Judge.{judgedOf}
 use Rattle.carry.specs.Carry.{Decided, keeps, changes, decided}
-use Rattle.unit.specs.Answers.{numbered}
+use Rattle.answers.specs.Answers.{numbered}
 use Rattle.unit.specs.Unit.{Call, fits, call}
 
 abbrev pub isAmong : List ℕ → ℕ → Bool

@@ -28,7 +28,7 @@ use Rattle.table.specs.Table.{State, full, holdsMme, holdsMce, holdsPair}
 use Rattle.lent.specs.Lent.{Lent, Held, NoTable, readTable}
 use Rattle.judge.specs.Judge.{asks, judgedOf}
 use Rattle.carry.specs.Carry.{decided}
-use Rattle.unit.specs.Answers.{numbered}
+use Rattle.answers.specs.Answers.{numbered}
 use Rattle.unit.specs.Unit.{Call, fits, call}
 
 pub record Due : Type 0 where

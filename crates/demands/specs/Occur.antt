@@ -11,7 +11,7 @@ use Rattle.table.specs.Table.{State, holdsMme, holdsMce}
 use Rattle.lent.specs.Lent.{tableOctets, Held, NoTable, readTable, Good}
 use Rattle.ties.specs.Examples.{partialReset, acknowledgement}
 use Rattle.carry.specs.declared.Answer.the-variants as answer
-use Rattle.unit.specs.Answers.{numbered}
+use Rattle.answers.specs.Answers.{numbered}
 use Rattle.unit.specs.Unit.{call}
 use Rattle.demands.specs.Due.{AnswersAs}
 

@@ -13,7 +13,7 @@ use Rattle.lists.specs.Lists.{pick}
 use Rattle.lent.specs.Lent.{Lent, Held, NoTable, readTable, tableOctets}
 use Rattle.judge.specs.Judge.{judgedOf}
 use Rattle.carry.specs.Carry.{Decided, decided}
-use Rattle.unit.specs.Answers.{numbered}
+use Rattle.answers.specs.Answers.{numbered}
 use Rattle.unit.specs.Unit.{Back, replyOf, settledIf, fits, settled, onTable, call}
 use Rattle.evening.specs.declared.Turn.{Turn}
 use Rattle.evening.specs.declared.Played as own

@@ -14,7 +14,7 @@ use Rattle.lists.proofs.Parts.{take-drop}
 use Rattle.octets.specs.Field.{valueAt}
 use Rattle.octets.proofs.Writing.{sets-append, sets-front}
 use Rattle.carry.specs.declared.Answer.{Answer}
-use Rattle.unit.specs.Answers.{numbered}
+use Rattle.answers.specs.Answers.{numbered}
 use Rattle.unit.specs.Unit.{Called, call}
 use Rattle.unit.specs.declared.Back as back
 use Rattle.evening.specs.declared.Turn.{Turn}

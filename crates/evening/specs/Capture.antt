@@ -10,7 +10,7 @@ use lib.Seq.{slice}
 use Rattle.lists.specs.Lists.{pick}
 use Rattle.octets.specs.Field.{valueAt}
 use Rattle.lent.specs.Lent.{tableOctets}
-use Rattle.unit.specs.Answers.{numbered}
+use Rattle.answers.specs.Answers.{numbered}
 use Rattle.unit.specs.Unit.{Call, Back, call}
 use Rattle.evening.specs.declared.Turn.{Turn}
 use Rattle.evening.specs.declared.Played as own

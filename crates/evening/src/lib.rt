@@ -63,7 +63,7 @@ fn take_turn(s: &[u8], n: usize, table: &mut [u8], room: &mut [u8]) -> Turn
     let offered = two(s, 0);
     let b = unit::call(table, &s[4..n], MceId(offered), room);
     let a = b.answer;
-    let answer = unit::number_of(a) as usize;
+    let answer = answers::number_of(a) as usize;
     let now_held = held(table);
     Turn {
         answer: answer,

@@ -49,7 +49,7 @@ use Rattle.carry.specs.declared.Request.{Request}
 use Rattle.carry.specs.declared.Request.the-variants as request
 use Rattle.carry.specs.declared.Decision.{Decision}
 use Rattle.carry.specs.Carry.{Decided, keeps, changes, started, stopped, carriedOut, decision, requestOf, asked, applied, decided}
-use Rattle.unit.specs.Answers.{numbered}
+use Rattle.answers.specs.Answers.{numbered}
 use Rattle.unit.specs.Unit.{Call, octetsIn, replyOctets, answerOf, settledIf, fits, settled, onTable, call, Called}
 use Rattle.unit.specs.declared.Back as unit
 use Rattle.demands.proofs.Sound.{insideRead, inside-got}

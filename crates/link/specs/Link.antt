@@ -6,7 +6,7 @@ use mathlib.Core.List.{List}
 use lib.Dec.{leb}
 use lib.ListN.{length}
 use Rattle.lists.specs.Lists.{pick}
-use Rattle.unit.specs.Answers.{numbered}
+use Rattle.answers.specs.Answers.{numbered}
 use Rattle.unit.specs.Unit.{Back}
 use Rattle.records.specs.declared.Record.{Record}
 use Rattle.messages.specs.declared.Outcome.{Outcome}

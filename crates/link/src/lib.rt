@@ -31,8 +31,8 @@ pub extern "C" fn m3ap_call(
 {
     let b = unit::call(table, message, MceId(offered), room);
     let a = b.answer;
-    let number = unit::number_of(a);
-    let place = unit::place_of(a);
+    let number = answers::number_of(a);
+    let place = answers::place_of(a);
     Answer {
         answer: number,
         place: place as u32,

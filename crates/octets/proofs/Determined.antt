@@ -33,6 +33,10 @@ use Rattle.octets.proofs.put_length.Kinds as put-length'
 use Rattle.octets.proofs.put_length.Reads as put-length
 use Rattle.octets.proofs.put_part.Kinds as put-part'
 use Rattle.octets.proofs.put_part.Reads as put-part
+use Rattle.octets.proofs.put_three.Kinds as put-three'
+use Rattle.octets.proofs.put_three.Reads as put-three
+use Rattle.octets.proofs.put_zeros.Kinds as put-zeros'
+use Rattle.octets.proofs.put_zeros.Reads as put-zeros
 
 pub flag-at-is : Determined flag-at'.ps flag-at'.r flag-at.Asked flag-at.Learnt
 flag-at-is κs a p x y e f = one-flag (e same f) & refl
@@ -78,3 +82,9 @@ put-length-is κs a p x y e f = (e .next same f .next) & (e .octets same f .octe
 
 pub put-part-is : Determined put-part'.ps put-part'.r put-part.Asked put-part.Learnt
 put-part-is κs a p x y e f = (e .next same f .next) & (e .octets same f .octets) & refl
+
+pub put-three-is : Determined put-three'.ps put-three'.r put-three.Asked put-three.Learnt
+put-three-is κs a p x y e f = (e .next same f .next) & (e .octets same f .octets) & refl
+
+pub put-zeros-is : Determined put-zeros'.ps put-zeros'.r put-zeros.Asked put-zeros.Learnt
+put-zeros-is κs a p x y e f = (e .next same f .next) & (e .octets same f .octets) & refl

@@ -2,6 +2,7 @@ pub mod Chain
 pub mod Got
 pub mod Stood
 pub mod Writing
+pub mod Zeros
 pub mod EachWritten
 pub mod OneFound
 pub mod Determined

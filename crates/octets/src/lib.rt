@@ -3,8 +3,8 @@
 // A packed field begins b bits behind the first bit of the octet at a place; b counts within that octet, so 8 is 0 again.
 ghost use mathlib.Core.Path.{_≡_};
 ghost use mathlib.Core.List.{_∷_, []};
-ghost use Prim.Native.Nat.{min, _<_, _%_};
-ghost use lib.ListN.{length};
+ghost use Prim.Native.Nat.{min, _+_, _<_, _%_};
+ghost use lib.ListN.{length, replicate};
 ghost use lib.Seq.{slice};
 ghost use Rattle.octets.specs.Read.{cutShort, noMeaning, leftOver, extended};
 ghost use Rattle.octets.specs.Found.{foundGate, foundFlag, foundOctet, foundTwo, foundThree, foundLength, foundOpen};
@@ -332,4 +332,38 @@ pub fn put_part(room: &mut [u8], at: usize, s: &[u8], from: usize, to: usize) ->
         i += 1;
     }
     next
+}
+
+pub fn put_three(room: &mut [u8], at: usize, a: u8, b: u8, c: u8) -> usize
+    ensures { λ r. ⌜ Wrote (now (room .entry)) at (a ∷ b ∷ c ∷ []) (now (room .exit)) r ⌝ }
+{
+    let second = put_octet(room, at, a);
+    let third = put_octet(room, second, b);
+    put_octet(room, third, c)
+}
+
+// The place that is n further, or the room's end where that comes before it.
+fn place_behind(at: usize, n: usize, room: usize) -> usize
+    ensures { λ r. ⌜ r ≡ min (at + n) room ⌝ }
+{
+    if room <= at {
+        return room;
+    }
+    if room - at <= n {
+        return room;
+    }
+    at + n
+}
+
+// Zeros. A plain loop, so that the compiler takes many octets at a time.
+pub fn put_zeros(room: &mut [u8], at: usize, n: usize) -> usize
+    ensures { λ r. ⌜ Wrote (now (room .entry)) at (replicate n 0) (now (room .exit)) r ⌝ }
+{
+    let end = place_behind(at, n, room.len());
+    let mut i = at;
+    while i < end {
+        room[i] = 0;
+        i += 1;
+    }
+    end
 }

@@ -11,7 +11,7 @@ use lib.Seq.{sets, sets-eq, take-at, drop-at, drop-drop, length-take-le}
 use Rattle.lists.proofs.Slices.{take-next}
 use Rattle.octets.specs.Write.{numberOctets, Wrote}
 use Rattle.octets.proofs.Back.{length-number}
-use Rattle.octets.proofs.Writing.{sets-front, wrote-length, wrote-then, wrote-none, wrote-one}
+use Rattle.octets.proofs.Writing.{sets-front, wrote-length, wrote-then, wrote-none}
 use Rattle.table.specs.Table.{State, full, starting}
 use Rattle.table.specs.declared.Association.{Association}
 use Rattle.lent.specs.Lent.{rowOctets, rowsOctets, tableOctets, rowOut}
@@ -68,12 +68,12 @@ count-wrote n w x = (omega (arith, x .next, length-number 2 n), wrote-length x �
 
 -- the count, the rows, and zeros to the end: a table
 pub written-all : {l : State} {n i at from to : ℕ} {d d₀ d₁ d₂ : List ℕ} → length d ≡ 3074 → n ≤ 256 → n ≤ length l →
-    Wrote d 0 (numberOctets 2 n) d₀ from → WrittenTo l from d₀ d₁ n i at → n ≤ i → Wrote d₁ at (replicate (length d₁ - at) 0) d₂ to → d₂ ≡ tableOctets (take n l)
+    Wrote d 0 (numberOctets 2 n) d₀ from → WrittenTo l from d₀ d₁ n i at → n ≤ i → Wrote d₁ at (replicate (3074 - at) 0) d₂ to → d₂ ≡ tableOctets (take n l)
 written-all {l} {n} {i} {at} {from} {to} {d} {d₀} {d₁} {d₂} w b k a g h z =
     let e : i ≡ n = omega (arith, g .within) in
     let m : length (take n l) ≡ n = length-take-le n l k in
-    let r : length d₁ - at ≡ 3074 - length (numberOctets 2 n ++ rowsOctets (take n l)) =
-    rw (g .long, length-append, length-number, length-octets, m) (omega (arith, g .place)) in
+    let r : 3074 - at ≡ 3074 - length (numberOctets 2 n ++ rowsOctets (take n l)) =
+    rw (length-append, length-number, length-octets, m) (omega (arith, g .place)) in
     let x : Wrote d₀ from (rowsOctets (take n l)) d₁ at = rw e at (g .wrote) in
     let y : Wrote d 0 (numberOctets 2 n ++ rowsOctets (take n l) ++ replicate (3074 - length (numberOctets 2 n ++ rowsOctets (take n l))) 0) d₂ to =
     rw r at (wrote-then (wrote-then a x) z) in
@@ -139,30 +139,3 @@ row-starts l a h = by (leb 256 (length l)) refl
     by : (b : Bool) → leb 256 (length l) ≡ b → rowOut a (length l) (tableOctets l) ≡ tableOctets (starting a l)
     by true q = rw (e, q, le-ltb (length l) 256 (leb-true 256 (length l) q))
     by false q = let k = leb-false 256 (length l) q in rw (e, q, lt-ltb (length l) 256 k) (row-more l a k)
-
--- ---- zeros up to i
-pub record Cleared (d₀ d : List ℕ) (from i : ℕ) : Type 0 where
-  pub start : from ≤ i
-  pub within : i ≤ length d₀
-  pub long : length d ≡ length d₀
-  pub wrote : Wrote d₀ from (replicate (i - from) 0) d i
-
-pub cleared-none : (d : List ℕ) (from : ℕ) → from ≤ length d → Cleared d d from from
-cleared-none d from h =
-    let e : from - from ≡ 0 = omega arith in
-    record { start = omega arith; within = h; long = refl; wrote = rw e (wrote-none d from (omega arith)) }
-
-module _ {d₀ d : List ℕ} {from i : ℕ} (g : Cleared d₀ d from i) where
-  pub cleared-more : i < length d₀ → Cleared d₀ (set d i 0) from (i + 1)
-  cleared-more h =
-      let e : i + 1 - from ≡ (i - from) + 1 = omega (arith, g .start) in
-      let x = wrote-one d i 0 (omega (arith, g .long)) in
-      record {
-        start = omega (arith, g .start);
-        within = omega arith;
-        long = wrote-length x ∙ g .long;
-        wrote = rw (e, ← replicate-append-replicate {A = ℕ} (i - from) 1 0) (wrote-then (g .wrote) x);
-      }
-
-  pub cleared-all : length d ≤ i → Wrote d₀ from (replicate (length d₀ - from) 0) d (length d₀)
-  cleared-all h = let e : i ≡ length d₀ = omega (arith, g .long, g .within) in rw e at (g .wrote)

@@ -1,8 +1,7 @@
 // The table put into the octets that the link process lends.
 ghost use mathlib.Core.Path.{_≡_};
 ghost use Prim.Native.Nat.{_+_, _*_, _-_, _/_, _%_, _≤_};
-ghost use lib.ListN.{length, replicate};
-ghost use Rattle.octets.specs.Write.{Wrote};
+ghost use lib.ListN.{length};
 ghost use Rattle.table.specs.Table.{held};
 ghost use Rattle.lent.specs.Lent.{flagOf, valueOf, rowOctets, room, tableOut, rowOut};
 use identity::Session;
@@ -59,18 +58,6 @@ fn put_row(d: &mut [u8], a: Association)
     d[11] = value(session);
 }
 
-// Zeros from a place on.
-fn clear_from(d: &mut [u8], at: usize)
-    requires { ⌜ at ≤ length (now d) ⌝ }
-    ensures { λ _. ⌜ Wrote (now (d .entry)) at (replicate (length (now (d .entry)) - at) 0) (now (d .exit)) (length (now (d .entry))) ⌝ }
-{
-    let mut i = at;
-    while i < d.len() {
-        d[i] = 0;
-        i += 1;
-    }
-}
-
 // The table's octets into what is lent, if that is as long as a table; it says whether it is.
 pub fn table_out(t: Table, d: &mut [u8]) -> bool
     ensures { λ r. ⌜ (r ≡ room (now (d .entry))) × (now (d .exit) ≡ tableOut (held t) (now (d .entry))) ⌝ }
@@ -88,7 +75,7 @@ pub fn table_out(t: Table, d: &mut [u8]) -> bool
         i += 1;
         at = e;
     }
-    clear_from(d, at);
+    octets::put_zeros(d, at, 3074 - at);
     true
 }
 

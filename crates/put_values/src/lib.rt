@@ -46,14 +46,6 @@ pub fn put_session(room: &mut [u8], at: usize, v: u8) -> usize
     octets::put_octet(room, at, v)
 }
 
-fn put_three(room: &mut [u8], at: usize, a: u8, b: u8, c: u8) -> usize
-    ensures { λ r. ⌜ Wrote (now (room .entry)) at (a ∷ b ∷ c ∷ []) (now (room .exit)) r ⌝ }
-{
-    let second = octets::put_octet(room, at, a);
-    let third = octets::put_octet(room, second, b);
-    octets::put_octet(room, third, c)
-}
-
 // A TMGI, without extensions.
 pub fn put_tmgi(room: &mut [u8], at: usize, t: Tmgi) -> usize
     ensures { λ r. ⌜ Wrote (now (room .entry)) at (tmgiOctets t) (now (room .exit)) r ⌝ }
@@ -61,8 +53,8 @@ pub fn put_tmgi(room: &mut [u8], at: usize, t: Tmgi) -> usize
     let p = t.plmn;
     let v = t.service;
     let plmn = octets::put_octet(room, at, 0);
-    let service = put_three(room, plmn, p.0, p.1, p.2);
-    put_three(room, service, v.0, v.1, v.2)
+    let service = octets::put_three(room, plmn, p.0, p.1, p.2);
+    octets::put_three(room, service, v.0, v.1, v.2)
 }
 
 fn cause_octet(c: Cause) -> u8

@@ -60,20 +60,13 @@ fn put_pair(room: &mut [u8], at: usize, a: u8, b: u8) -> usize
     octets::put_octet(room, next, b)
 }
 
-fn put_three(room: &mut [u8], at: usize, a: u8, b: u8, c: u8) -> usize
-    ensures { λ r. ⌜ Wrote (now (room .entry)) at (a ∷ b ∷ c ∷ []) (now (room .exit)) r ⌝ }
-{
-    let next = put_pair(room, at, a, b);
-    octets::put_octet(room, next, c)
-}
-
 fn put_tmgi(room: &mut [u8], at: usize, t: Tmgi) -> usize
     ensures { λ r. ⌜ Wrote (now (room .entry)) at (plainOctets (plain.Tmgi t)) (now (room .exit)) r ⌝ }
 {
     let p = t.plmn;
     let v = t.service;
-    let service = put_three(room, at, p.0, p.1, p.2);
-    put_three(room, service, v.0, v.1, v.2)
+    let service = octets::put_three(room, at, p.0, p.1, p.2);
+    octets::put_three(room, service, v.0, v.1, v.2)
 }
 
 // How many octets there are from a place up to another.
@@ -154,7 +147,7 @@ fn put_slot(room: &mut [u8], at: usize, x: Slot) -> usize
     ensures { λ r. ⌜ Wrote (now (room .entry)) at (slotOctets x) (now (room .exit)) r ⌝ }
 {
     let v = x.value;
-    let end = record_rows::put_zeros(room, at, 8);
+    let end = octets::put_zeros(room, at, 8);
     put_value(room, at, v);
     end
 }

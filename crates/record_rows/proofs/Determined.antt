@@ -3,8 +3,6 @@ use mathlib.Core.Path.{refl}
 use Rattle.lists.proofs.Unique.{Determined, _same_, _&_}
 use Rattle.record_rows.proofs.put_number.Kinds as put-number'
 use Rattle.record_rows.proofs.put_number.Reads as put-number
-use Rattle.record_rows.proofs.put_zeros.Kinds as put-zeros'
-use Rattle.record_rows.proofs.put_zeros.Reads as put-zeros
 use Rattle.record_rows.proofs.put_items.Kinds as put-items'
 use Rattle.record_rows.proofs.put_items.Reads as put-items
 use Rattle.record_rows.proofs.put_entries.Kinds as put-entries'
@@ -12,9 +10,6 @@ use Rattle.record_rows.proofs.put_entries.Reads as put-entries
 
 pub put-number-is : Determined put-number'.ps put-number'.r put-number.Asked put-number.Learnt
 put-number-is κs a p x y e f = (e .next same f .next) & (e .octets same f .octets) & refl
-
-pub put-zeros-is : Determined put-zeros'.ps put-zeros'.r put-zeros.Asked put-zeros.Learnt
-put-zeros-is κs a p x y e f = (e .next same f .next) & (e .octets same f .octets) & refl
 
 pub put-items-is : Determined put-items'.ps put-items'.r put-items.Asked put-items.Learnt
 put-items-is κs a p x y e f = (e .next same f .next) & (e .octets same f .octets) & refl

@@ -1,3 +1,3 @@
-pub mod Zeros
+pub mod Low
 pub mod Listed
 pub mod Determined

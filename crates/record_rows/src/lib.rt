@@ -20,32 +20,6 @@ pub fn put_number(room: &mut [u8], at: usize, n: usize) -> usize
     octets::put_two(room, at, (n % 65536) as u16)
 }
 
-// The place that is n further, or the room's end where that comes before it.
-fn place_behind(at: usize, n: usize, room: usize) -> usize
-    ensures { λ r. ⌜ r ≡ min (at + n) room ⌝ }
-{
-    if room <= at {
-        return room;
-    }
-    if room - at <= n {
-        return room;
-    }
-    at + n
-}
-
-// Zeros. A plain loop, so that the compiler takes many octets at a time.
-pub fn put_zeros(room: &mut [u8], at: usize, n: usize) -> usize
-    ensures { λ r. ⌜ Wrote (now (room .entry)) at (replicate n 0) (now (room .exit)) r ⌝ }
-{
-    let end = place_behind(at, n, room.len());
-    let mut i = at;
-    while i < end {
-        room[i] = 0;
-        i += 1;
-    }
-    end
-}
-
 // An identity: whether it is there, and its number.
 fn put_identity(room: &mut [u8], at: usize, there: u8, v: u16) -> usize
     ensures { λ r. ⌜ Wrote (now (room .entry)) at (there ∷ numberOctets 2 v) (now (room .exit)) r ⌝ }
@@ -101,7 +75,7 @@ pub fn put_items(room: &mut [u8], at: usize, items: Items) -> usize
         next = put_item(room, next, x);
         i += 1;
     }
-    put_zeros(room, next, 1536 - 6 * n)
+    octets::put_zeros(room, next, 1536 - 6 * n)
 }
 
 // The count, the entries, and zeros in the place of those that are missing.
@@ -116,5 +90,5 @@ pub fn put_entries(room: &mut [u8], at: usize, entries: Entries) -> usize
         next = put_entry(room, next, x);
         i += 1;
     }
-    put_zeros(room, next, 1024 - 4 * n)
+    octets::put_zeros(room, next, 1024 - 4 * n)
 }

@@ -4,16 +4,6 @@ use mathlib.Core.Path.{refl}
 use Rattle.lists.proofs.Unique.{Determined, _same_, _&_}
 use Rattle.unit.proofs.call.Kinds as call'
 use Rattle.unit.proofs.call.Reads as call
-use Rattle.unit.proofs.number_of.Kinds as number-of'
-use Rattle.unit.proofs.number_of.Reads as number-of
-use Rattle.unit.proofs.place_of.Kinds as place-of'
-use Rattle.unit.proofs.place_of.Reads as place-of
-
-pub number-of-is : Determined number-of'.ps number-of'.r number-of.Asked number-of.Learnt
-number-of-is κs a p x y e f = (e same f) & refl
-
-pub place-of-is : Determined place-of'.ps place-of'.r place-of.Asked place-of.Learnt
-place-of-is κs a p x y e f = (e same f) & refl
 
 pub call-is : Determined call'.ps call'.r call.Asked call.Learnt
 call-is κs a p x y e f =

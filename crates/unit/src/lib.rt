@@ -5,13 +5,11 @@ ghost use Rattle.table.specs.Table.{held};
 ghost use Rattle.lent.specs.Lent.{Held, readTable};
 ghost use Rattle.records.specs.declared.Record.{Record};
 ghost use Rattle.carry.specs.Carry.{changed};
-ghost use Rattle.unit.specs.Answers.{numbered};
 ghost use Rattle.unit.specs.Unit.{Finished, Called, call};
 use carry::Answer;
 use carry::Change;
 use identity::Items;
 use identity::MceId;
-use octets::Stop;
 use table::Table;
 use writer::Written;
 
@@ -19,50 +17,6 @@ use writer::Written;
 pub struct Back {
     pub answer: Answer,
     pub octets: usize,
-}
-
-// 01's number of the answer.
-pub fn number_of(a: Answer) -> u32
-    ensures { λ r. ⌜ r ≡ numbered a .number ⌝ }
-{
-    match a {
-        Answer::CarriedOut => 0,
-        Answer::TooLong => 1,
-        Answer::Stopped(x) => match x {
-            Stop::Fault(_p) => 2,
-            Stop::Extension(_p) => 3,
-        },
-        Answer::NoRequest => 4,
-        Answer::Rejected => 5,
-        Answer::MmeHeld => 6,
-        Answer::OfferHeld => 7,
-        Answer::PairNotHeld => 8,
-        Answer::Full => 9,
-        Answer::NoRoom => 10,
-        Answer::NoTable => 21,
-    }
-}
-
-// The octet at fault for 2 and 3, else 0.
-pub fn place_of(a: Answer) -> usize
-    ensures { λ r. ⌜ r ≡ numbered a .place ⌝ }
-{
-    match a {
-        Answer::Stopped(x) => match x {
-            Stop::Fault(p) => p.octet,
-            Stop::Extension(p) => p.octet,
-        },
-        Answer::CarriedOut => 0,
-        Answer::TooLong => 0,
-        Answer::NoRequest => 0,
-        Answer::Rejected => 0,
-        Answer::MmeHeld => 0,
-        Answer::OfferHeld => 0,
-        Answer::PairNotHeld => 0,
-        Answer::Full => 0,
-        Answer::NoRoom => 0,
-        Answer::NoTable => 0,
-    }
 }
 
 fn hand_back(answer: Answer, octets: usize) -> Back

@@ -378,16 +378,16 @@ fn show_written(w: Written, room: &[u8]) {
 
 // The place stands beside 2 and 3.
 fn answer(a: Answer) {
-    let n = unit::number_of(a) as usize;
+    let n = answers::number_of(a) as usize;
     text(b"answer=");
     number(n);
     text(b" offset=");
     if n == 2 {
-        number(unit::place_of(a));
+        number(answers::place_of(a));
         return;
     }
     if n == 3 {
-        number(unit::place_of(a));
+        number(answers::place_of(a));
         return;
     }
     text(b"-");

@@ -63,8 +63,11 @@ loop-again : tie.Need-loop-again Inv-loop μ-loop
 loop-again c = let b : length (c .before .before .before .before .before .before .before .before .before .before .before .before .before .before .args .t1 .rows) ≡ 256 = search (needs, length-of) in
     written-more (c .before .before .before .before .before .before .loop .inv) _ (omega arith) (omega arith) (omega arith) (c .before .before .put-row .ensures)
 
-clear-from-requires : tie.Need-clear-from-requires Inv-loop μ-loop
-clear-from-requires c κs = omega arith
+sub-put-zeros : tie.Need-sub-put-zeros Inv-loop μ-loop
+sub-put-zeros c = omega arith
+
+put-zeros-requires : tie.Need-put-zeros-requires Inv-loop μ-loop
+put-zeros-requires c κs = search needs
 
 same-length : tie.Need-same-length Inv-loop μ-loop
 same-length c = search needs
@@ -73,7 +76,7 @@ returns-2 : tie.Need-returns-2 Inv-loop μ-loop
 returns-2 c = let t = c .before .before .before .before .before .before .before .before .before .before .before .before .before .args .t1 in
     let b : length (t .rows) ≡ 256 = search (needs, length-of) in
     let e = eq-eqb (length (c .before .before .before .before .before .before .before .before .before .before .before .before .before .args .d .now)) 3074 (omega arith) in
-    let w = written-all (omega arith) (omega arith) (omega arith) (c .before .before .before .before .before .before .before .before .put-two .ensures) (c .before .before .before .before .before .loop .inv) (omega arith) (c .before .before .clear-from .ensures) in
+    let w = written-all (omega arith) (omega arith) (omega arith) (c .before .before .before .before .before .before .before .before .put-two .ensures) (c .before .before .before .before .before .loop .inv) (omega arith) (c .before .before .put-zeros .ensures) in
     (rw e, rw e (w ∙ ap tableOctets (take-within (t .rows) (t .count) 256 b (c .before .before .before .before .before .before .before .before .before .before .lesser .ensures))))
 
 pub table-out-spec : {M : Type 1} → statement M
@@ -97,6 +100,7 @@ table-out-spec =
     add-i
     loop-less
     loop-again
-    clear-from-requires
+    sub-put-zeros
+    put-zeros-requires
     same-length
     returns-2)

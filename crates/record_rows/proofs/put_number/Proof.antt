@@ -1,5 +1,5 @@
 -- The remainder by 65,536 has the same two octets.
-use Rattle.record_rows.proofs.Zeros.{number-low}
+use Rattle.record_rows.proofs.Low.{number-low}
 use borrow.Author.Needs.{needs}
 use Rattle.record_rows.proofs.put_number.Statement.{statement}
 use Rattle.record_rows.proofs.put_number.Tie as tie

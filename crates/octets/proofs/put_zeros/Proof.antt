@@ -1,10 +1,10 @@
 -- Zeros stand from the place up to where the loop is.
 use Prim.Native.Nat.{_-_}
-use Rattle.record_rows.proofs.Zeros.{Cleared, cleared-none, cleared-size, cleared-more, cleared-all}
+use Rattle.octets.proofs.Zeros.{Cleared, cleared-none, cleared-size, cleared-more, cleared-all}
 use borrow.Author.Needs.{needs}
 use native.Mathlib.Omega.{arith}
-use Rattle.record_rows.proofs.put_zeros.Statement.{statement}
-use Rattle.record_rows.proofs.put_zeros.Tie as tie
+use Rattle.octets.proofs.put_zeros.Statement.{statement}
+use Rattle.octets.proofs.put_zeros.Tie as tie
 
 abbrev Inv-loop : tie.InvT-loop
 Inv-loop room₀ at n end i₀ room i = Cleared room₀ room at end i

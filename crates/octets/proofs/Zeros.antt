@@ -1,24 +1,17 @@
--- Numbers cut to two octets, and zeros one after another.
+-- Zeros one after another.
+-- Assumes nothing.
 use mathlib.Core.Path.{_≡_, refl, sym}
 use mathlib.Core.Bool.{Bool, true, false}
 use mathlib.Core.List.{List}
-use Prim.Native.Nat.{ℕ, min, max, _+_, _-_, _/_, _%_, _≤_, _<_}
+use Prim.Native.Nat.{ℕ, min, max, _+_, _-_, _≤_, _<_}
 use native.Mathlib.Omega.{arith}
 use borrow.Author.Tests.{ltb-true, ltb-false}
 use lib.Dec.{ltb}
 use lib.ListN.{length, set, replicate, replicate-append-replicate}
-use Rattle.octets.specs.Write.{numberOctets, Wrote}
+use Rattle.octets.specs.Write.{Wrote}
 use Rattle.octets.proofs.Writing.{sets-out, wrote-length, wrote-then, wrote-none, wrote-one}
 
--- two octets say a number's low 16 bits
-pub number-low : (n : ℕ) → numberOctets 2 (n % 65536) ≡ numberOctets 2 n
-unfolding numberOctets
-number-low n =
-    let a : n % 65536 / 256 % 256 ≡ n / 256 % 256 = omega arith in
-    let b : n % 65536 / 1 % 256 ≡ n / 1 % 256 = omega arith in
-    rw (a, b)
-
--- ---- zeros stand from a place up to i
+-- zeros stand from a place up to i
 pub record Cleared (d₀ d : List ℕ) (at end i : ℕ) : Type 0 where
   pub start : at ≤ i
   pub within : i ≤ max at end

@@ -1,8 +1,8 @@
--- `put_values::put_three` meets its contract: the octets one after another. Assumes nothing.
+-- `octets::put_three` meets its contract: the octets one after another. Assumes nothing.
 use Rattle.octets.proofs.Writing.{wrote-then}
 use borrow.Author.Needs.{needs}
-use Rattle.put_values.proofs.put_three.Statement.{statement}
-use Rattle.put_values.proofs.put_three.Tie as tie
+use Rattle.octets.proofs.put_three.Statement.{statement}
+use Rattle.octets.proofs.put_three.Tie as tie
 
 put-octet-requires : tie.Need-put-octet-requires
 put-octet-requires c κs = search needs
