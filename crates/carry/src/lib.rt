@@ -248,6 +248,7 @@ pub fn asked(c: MceId, q: Request) -> Item
     }
 }
 
+// What a message asks for, by its body.
 pub fn request_of(body: Body) -> Request
     ensures { λ q. ⌜ q ≡ requestOf body ⌝ }
 {
