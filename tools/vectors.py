@@ -1,54 +1,82 @@
 #!/usr/bin/env python3
 """vectors.py FILE..: writes crates/vectors/stdin, the entries that crates/vectors/src/main.rt describes, and crates/vectors/stdout, a line for each:
-what must be read of each message, and for those that another program encoded, the same octets written again.
-A FILE is one of messages that another program encoded, one JSON object a line (hex, kind, procedure, criticality, octets, the elements' meanings),
+what must be read of each message, as the octets of a record (docs/LAYOUTS.md), and for those that another program encoded, the same octets written again.
+A FILE is one of messages that another program encoded, one JSON object a line (hex, name, criticality, octets, the elements' meanings),
 or a text with lines 'HEX => answer=N offset=K', or '=> answer=N NAME frame=C ID:VALUE .. noted=[..]' with what was read ('read' may stand in front)."""
 import json, re, sys
 from encoder import two
-NAMES = {(0, 0): 'start-request', (1, 0): 'start-response', (2, 0): 'start-failure', (0, 1): 'stop-request', (1, 1): 'stop-response', (0, 4): 'reset', (1, 4): 'reset-acknowledge', (0, 2): 'error-indication'}
 
-def absent(v, f=str):
-    return '-' if v is None else f(v)
+# The messages in the order of their numbers, from 1, and the ids of the rows of each table.
+ROWS = {
+    'StartRequest': (0, 2, 3, 4, 5, 6, 16, 7, 21, 23, 24, 25),
+    'StartResponse': (0, 1, 8),
+    'StartFailure': (0, 9, 8),
+    'StopRequest': (0, 1, 22),
+    'StopResponse': (0, 1, 8),
+    'Reset': (9, 13),
+    'ResetAcknowledge': (15, 8),
+    'ErrorIndication': (0, 1, 9, 8),
+}
 
-def line(m):
+def maybe(v, octets):
+    """1 and the value, or as many zeros."""
+    return bytes(1 + octets) if v is None else b'\1' + v.to_bytes(octets, 'big')
+
+def length_at(s, at):
+    """A length, and the place behind it."""
+    return (s[at], at + 1) if s[at] < 128 else (int.from_bytes(s[at:at + 2], 'big') & 0x3fff, at + 2)
+
+def places(s):
+    """Where the value of each element of a message begins, and how many octets it has, by id; of a repeated one, the first."""
+    found = {}
+    at = length_at(s, 3)[1] + 3
+    for _ in range(int.from_bytes(s[at - 2:at], 'big')):
+        id = int.from_bytes(s[at:at + 2], 'big')
+        n, at = length_at(s, at + 3)
+        found.setdefault(id, (at, n))
+        at += n
+    return found
+
+def value(e, s):
+    """What stands in the slot of an element, behind the first octet."""
+    if 'mme' in e: return two(e['mme'])
+    if 'mce' in e: return two(e['mce'])
+    if 'tmgi' in e: return bytes.fromhex(''.join(e['tmgi']))
+    if 'session' in e: return bytes([e['session']])
+    if 'cause' in e: return bytes(e['cause'])
+    if 'reset' in e or 'ack' in e: return b''
+    if 'diagnostics' in e:
+        d = e['diagnostics']
+        return b''.join(maybe(d.get(k), 1) for k in ('procedure', 'trigger', 'criticality')) + bytes([bool(d.get('list'))])
+    at, n = places(s)[e['id']]
+    assert s[at:at + n].hex() == e['hex']
+    return two(at) + two(n)
+
+def slot(e, s):
+    return bytes(8) if e is None else (bytes([2 if isinstance(e.get('reset'), list) else 1]) + value(e, s)).ljust(8, b'\0')
+
+def record(name, criticality, elements, s):
+    """The record of what was read of the octets s: what is in front of the lists, the items, the entries."""
+    found = {e['id']: e for e in elements}
+    slots = b''.join(slot(found.get(id), s) for id in ROWS[name])
+    front = bytes([1 + list(ROWS).index(name), criticality]) + slots.ljust(96, b'\0')
+    named = found.get(13, {}).get('reset', found.get(15, {}).get('ack', []))
+    items = [] if named == 'all' else named
+    listed = found.get(8, {}).get('diagnostics', {}).get('list') or []
+    return front, [maybe(m, 2) + maybe(c, 2) for m, c in items], [bytes([crit]) + two(id) + bytes([error]) for crit, id, error in listed]
+
+NONE = bytes(98), [], []
+
+def line(answer, record, noted):
+    front, items, entries = record
+    rows = lambda l: (two(len(l)) + b''.join(l)).hex()
+    return f'{answer} record={front.hex()} items={rows(items)} entries={rows(entries)} noted:' + ''.join(f' {e[0]}.{e[1]}.{e[2]}' for e in noted)
+
+def encoded(m, s):
+    """The line of a message that another program encoded."""
     if m['octets'] > 8192:
-        return 'answer=1 none frame=0 items: entries: noted:'
-    el = {e['id']: e for e in m['elements']}
-    get = lambda i, k: el[i][k] if i in el else None
-    carried = lambda i: absent(get(i, 'hex'))
-    mme = lambda: ' mme=' + absent(get(0, 'mme'))
-    mce = lambda: ' mce=' + absent(get(1, 'mce'))
-    cause = lambda: ' cause=' + absent(get(9, 'cause'), lambda c: f'{c[0]}.{c[1]}')
-    d = get(8, 'diagnostics')
-    def head(d):
-        t = ','.join(absent(d.get(k)) for k in ('procedure', 'trigger', 'criticality'))
-        return t + (',list' if d.get('list') else '')
-    diagnosed = lambda: ' diagnostics=' + absent(d, head)
-    name = NAMES[(m['kind'], m['procedure'])]
-    out = f'answer=0 {name}'
-    items = []
-    if name == 'start-request':
-        out += mme() + ' tmgi=' + absent(get(2, 'tmgi'), ''.join) + ' session=' + absent(get(3, 'session'))
-        out += ''.join(' ' + carried(i) for i in (4, 5, 6, 16, 7, 21, 23, 24, 25))
-    elif name in ('start-response', 'stop-response'):
-        out += mme() + mce() + diagnosed()
-    elif name == 'start-failure':
-        out += mme() + cause() + diagnosed()
-    elif name == 'stop-request':
-        out += mme() + mce() + ' ' + carried(22)
-    elif name == 'reset':
-        r = get(13, 'reset')
-        out += cause() + (' reset=-' if r is None else ' reset=all' if r == 'all' else ' reset=part')
-        items = r if isinstance(r, list) else []
-    elif name == 'reset-acknowledge':
-        items = get(15, 'ack')
-        out += ' list=' + ('-' if items is None else 'items') + diagnosed()
-        items = items or []
-    else:
-        out += mme() + mce() + cause() + diagnosed()
-    out += f" frame={m['criticality']} items:" + ''.join(f' mme={absent(i[0])} mce={absent(i[1])}' for i in items)
-    out += ' entries:' + ''.join(f' {e[0]}.{e[1]}.{e[2]}' for e in (d or {}).get('list') or [])
-    return out + ' noted:'
+        return line('answer=1', NONE, [])
+    return line('answer=0', record(m['name'].removeprefix('MBMSSession'), m['criticality'], m['elements'], s), [])
 
 def number(x):
     return None if x == '-' else int(x)
@@ -74,19 +102,15 @@ def element(id, text):
         e['diagnostics'] = {'procedure': number(code), 'trigger': number(trigger), 'criticality': number(crit), 'list': None if list == '-' else entries(list)}
     return e
 
-def read(said):
+def read(said, s):
     """What is said behind '=>' of a witness, as a line."""
     words = said.split()
-    answer = words[0]
-    if answer in ('answer=0', 'answer=5'):
-        name = re.sub(r'(?<!^)([A-Z])', r'-\1', words[1]).lower()
-        kind, procedure = next(k for k, v in NAMES.items() if v == name)
-        elements = [element(int(m.group(1)), m.group(2)) for w in words[3:] if (m := re.match(r'(\d+):(.*)', w))]
-        m = {'octets': 0, 'kind': kind, 'procedure': procedure, 'criticality': int(words[2].split('=')[1]), 'elements': elements}
-        noted = next(w for w in words if w.startswith('noted='))[len('noted='):]
-        front = answer + ''.join(' ' + w for w in words if w.startswith(('cause=', 'place=')) and w != 'place=-')
-        return front + line(m)[len('answer=0'):] + ''.join(f' {e[0]}.{e[1]}.{e[2]}' for e in entries(noted))
-    return ' '.join(words) + ' none frame=0 items: entries: noted:'
+    if words[0] not in ('answer=0', 'answer=5'):
+        return line(' '.join(words), NONE, [])
+    elements = [element(int(m.group(1)), m.group(2)) for w in words[3:] if (m := re.match(r'(\d+):(.*)', w))]
+    noted = next(w for w in words if w.startswith('noted='))[len('noted='):]
+    answer = words[0] + ''.join(' ' + w for w in words if w.startswith(('cause=', 'place=')) and w != 'place=-')
+    return line(answer, record(words[1], int(words[2].removeprefix('frame=')), elements, s), entries(noted))
 
 with open('crates/vectors/stdin', 'wb') as data, open('crates/vectors/stdout', 'w') as wanted:
     def add(what, octets, wants):
@@ -97,8 +121,9 @@ with open('crates/vectors/stdin', 'wb') as data, open('crates/vectors/stdout', '
             if path.endswith('.jsonl'):
                 m = json.loads(text)
                 octets = bytes.fromhex(m['hex'])
-                add(0, octets, line(m))
+                add(0, octets, encoded(m, octets))
                 if m['octets'] <= 8192:
                     add(1, octets, 'answer=0 ' + octets.hex())
             elif m := re.match(r'(?:\s*read ?)?([0-9a-f ]*) => (.*)', text):
-                add(0, bytes.fromhex(m.group(1)), read(m.group(2)))
+                octets = bytes.fromhex(m.group(1))
+                add(0, octets, read(m.group(2), octets))

@@ -6,14 +6,9 @@ use Rattle.carry.proofs.decide.Kinds as decide'
 use Rattle.carry.proofs.decide.Reads as decide
 use Rattle.carry.proofs.asked.Kinds as asked'
 use Rattle.carry.proofs.asked.Reads as asked
-use Rattle.carry.proofs.request_of.Kinds as request-of'
-use Rattle.carry.proofs.request_of.Reads as request-of
 
 pub decide-is : Determined decide'.ps decide'.r decide.Asked decide.Learnt
 decide-is κs a p x y e f = (e same f) & refl
 
 pub asked-is : Determined asked'.ps asked'.r asked.Asked asked.Learnt
 asked-is κs a p x y e f = (e same f) & refl
-
-pub request-of-is : Determined request-of'.ps request-of'.r request-of.Asked request-of.Learnt
-request-of-is κs a p x y e f = (e same f) & refl

@@ -14,8 +14,6 @@ use Rattle.values.specs.declared.Cause.{Cause}
 use Rattle.entries.specs.declared.Entries.{Entries}
 use Rattle.records.specs.declared.MaybeTmgi.the-variants as tmgi
 use Rattle.records.specs.declared.MaybeReset.the-variants as reset
-use Rattle.records.specs.declared.Body.{Body}
-use Rattle.records.specs.declared.Body.the-variants as body
 use Rattle.records.specs.declared.Record.{Record}
 use Rattle.messages.specs.declared.Frame.{Frame}
 use Rattle.messages.specs.declared.Outcome.{Outcome}
@@ -25,27 +23,15 @@ use Rattle.table.specs.Table.{State, without, starting, stopping, standing}
 use Rattle.replies.specs.declared.Reply.{Reply}
 use Rattle.replies.specs.declared.Reply.the-variants as reply
 use Rattle.replies.specs.Replies.{mmeTaken, noResources, abstractSyntax, falselyConstructed, replied}
-use Rattle.judge.specs.declared.Judged.{Judged}
-use Rattle.carry.specs.declared.Request.{Request}
-use Rattle.carry.specs.declared.Request.the-variants as request
+use Rattle.requests.specs.declared.Request.{Request}
+use Rattle.requests.specs.declared.Request.the-variants as request
+use Rattle.requests.specs.Requests.{requestOf}
+use Rattle.judge.specs.Judge.{Judged}
 use Rattle.carry.specs.declared.Answer.{Answer}
 use Rattle.carry.specs.declared.Answer.the-variants as answer
 use Rattle.carry.specs.declared.Change.{Change}
 use Rattle.carry.specs.declared.Change.the-variants as change
 use Rattle.carry.specs.declared.Decision.{Decision}
-
--- ---- what a message asks for
-
-abbrev pub requestOf : Body → Request
-requestOf (body.StartRequest b) = request.Start (b .mme) (b .tmgi) (b .session)
-requestOf (body.StopRequest b) = request.Stop (b .mme) (b .mce)
-requestOf (body.Reset b) = request.Reset (b .reset)
-requestOf (body.ErrorIndication b) = request.Indication
-requestOf (body.StartResponse b) = request.None
-requestOf (body.StartFailure b) = request.None
-requestOf (body.StopResponse b) = request.None
-requestOf (body.ResetAcknowledge b) = request.None
-requestOf body.None = request.None
 
 -- a start asks about its MME identity and the offered one, a stop about its two; nothing else asks
 abbrev pub asked : MceId → Request → Item

@@ -1,6 +1,6 @@
 // What is decided about a judged message: 01's rules on the table, and the replies.
 ghost use mathlib.Core.Path.{_≡_};
-ghost use Rattle.carry.specs.Carry.{stays, started, stopped, rejection, rejected, carriedOut, decision, asked, requestOf};
+ghost use Rattle.carry.specs.Carry.{stays, started, stopped, rejection, rejected, carriedOut, decision, asked};
 use identity::Item;
 use identity::Mce;
 use identity::MceId;
@@ -10,24 +10,13 @@ use identity::Session;
 use identity::Tmgi;
 use messages::Outcome;
 use octets::Stop;
-use records::Body;
 use records::MaybeReset;
 use records::MaybeTmgi;
 use replies::Reply;
+use requests::Request;
 use table::Association;
 use table::Standing;
 use values::Cause;
-
-// What a message asks for.
-pub enum Request {
-    Start(Mme, MaybeTmgi, Session),
-    Stop(Mme, Mce),
-    Reset(MaybeReset),
-    // ERROR INDICATION
-    Indication,
-    // a response, failure or acknowledgement, or no message
-    None,
-}
 
 pub enum Answer {
     // 0
@@ -245,34 +234,5 @@ pub fn asked(c: MceId, q: Request) -> Item
             mme: Mme::Absent,
             mce: Mce::Absent,
         },
-    }
-}
-
-// What a message asks for, by its body.
-pub fn request_of(body: Body) -> Request
-    ensures { λ q. ⌜ q ≡ requestOf body ⌝ }
-{
-    match body {
-        Body::StartRequest(b) => {
-            let x = b.mme;
-            let g = b.tmgi;
-            let session = b.session;
-            Request::Start(x, g, session)
-        }
-        Body::StopRequest(b) => {
-            let x = b.mme;
-            let y = b.mce;
-            Request::Stop(x, y)
-        }
-        Body::Reset(b) => {
-            let x = b.reset;
-            Request::Reset(x)
-        }
-        Body::ErrorIndication(_) => Request::Indication,
-        Body::StartResponse(_) => Request::None,
-        Body::StartFailure(_) => Request::None,
-        Body::StopResponse(_) => Request::None,
-        Body::ResetAcknowledge(_) => Request::None,
-        Body::None => Request::None,
     }
 }

@@ -50,7 +50,7 @@ use Rattle.messages.specs.declared.Outcome.{Outcome}
 use Rattle.messages.specs.declared.Outcome.the-variants as outcome
 use Rattle.messages.specs.declared.Verdict.{Verdict}
 use Rattle.messages.specs.Verdict.{outcomeBy, orStopped, insideOf}
-use Rattle.judge.specs.Judge.{asks}
+use Rattle.requests.specs.Requests.{asks}
 use Rattle.ties.proofs.Ordered.{Scanned, scanned}
 use Rattle.demands.proofs.Sound.{insideRead, inside-got, front-each}
 

@@ -37,10 +37,10 @@ use Rattle.messages.specs.Frame.{frameAt}
 use Rattle.messages.specs.Verdict.{without, insideOf}
 use Rattle.table.specs.Table.{State, full, holdsMme, holdsMce, holdsPair, standing}
 use Rattle.lent.specs.Lent.{Lent, Held, NoTable, readTable}
-use Rattle.judge.specs.declared.Judged.{Judged}
-use Rattle.judge.specs.Judge.{asks, noFrame, judgedBy, verdictBy, judgedIn, judgedOf}
+use Rattle.requests.specs.Requests.{asks, requestOf}
+use Rattle.judge.specs.Judge.{Judged, noFrame, judgedBy, verdictBy, judgedIn, judgedOf}
 use Rattle.carry.specs.declared.Decision.{Decision}
-use Rattle.carry.specs.Carry.{Decided, started, stopped, decision, requestOf, asked, applied, decided}
+use Rattle.carry.specs.Carry.{Decided, started, stopped, decision, asked, applied, decided}
 use Rattle.answers.specs.Answers.{numbered}
 use Rattle.unit.specs.Unit.{answerOf, settledIf, fits, settled, onTable, call}
 use Rattle.demands.specs.Due.{firstDue, dueFor, due, fitsIn, AnswersAs}

@@ -22,9 +22,8 @@ use Rattle.messages.specs.declared.Outcome.{Outcome}
 use Rattle.messages.specs.declared.Outcome.the-variants as outcome
 use Rattle.table.specs.Table.{State, standing}
 use Rattle.lent.specs.Lent.{Lent, Held, NoTable, readTable}
-use Rattle.judge.specs.declared.Judged.{Judged}
-use Rattle.judge.specs.Judge.{judgedOf}
-use Rattle.carry.specs.declared.Request.the-variants as request
+use Rattle.judge.specs.Judge.{Judged, judgedOf}
+use Rattle.requests.specs.declared.Request.the-variants as request
 use Rattle.carry.specs.Carry.{carriedOut, decided}
 use Rattle.answers.specs.Answers.{numbered}
 use Rattle.unit.specs.Unit.{Call, onTable, call}

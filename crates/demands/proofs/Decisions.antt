@@ -42,13 +42,14 @@ use Rattle.lent.specs.Lent.{InRange, Good}
 use Rattle.replies.specs.declared.Reply.{Reply}
 use Rattle.replies.specs.declared.Reply.the-variants as reply
 use Rattle.replies.specs.Replies.{abstractSyntax, falselyConstructed, bodyOf, replied}
-use Rattle.judge.specs.declared.Judged.{Judged}
-use Rattle.carry.specs.declared.Request.{Request}
-use Rattle.carry.specs.declared.Request.the-variants as request
+use Rattle.judge.specs.Judge.{Judged}
+use Rattle.requests.specs.declared.Request.{Request}
+use Rattle.requests.specs.declared.Request.the-variants as request
+use Rattle.requests.specs.Requests.{requestOf}
 use Rattle.carry.specs.declared.Change.{Change}
 use Rattle.carry.specs.declared.Change.the-variants as change
 use Rattle.carry.specs.declared.Decision.{Decision}
-use Rattle.carry.specs.Carry.{Decided, keeps, changes, rejection, started, stopped, carriedOut, decision, requestOf, asked, changed, applied, decided}
+use Rattle.carry.specs.Carry.{Decided, keeps, changes, rejection, started, stopped, carriedOut, decision, asked, changed, applied, decided}
 use Rattle.demands.proofs.Taken.{Written}
 use Rattle.demands.proofs.Written.{GoodEntries, GoodFrame, GoodMme, GoodMce, GoodList, start-response-written, stop-response-written, start-failure-written, whole-written, part-written, rejection-written, pair-not-held-written}
 use Rattle.demands.proofs.Sound.{GoodRequest, Sound}

@@ -21,8 +21,7 @@ use Rattle.lent.specs.Lent.{Held, readTable}
 use Rattle.replies.specs.declared.Reply.{Reply}
 use Rattle.replies.specs.declared.Reply.the-variants as reply
 use Rattle.replies.specs.Replies.{replied}
-use Rattle.judge.specs.declared.Judged.{Judged}
-use Rattle.judge.specs.Judge.{judgedOf}
+use Rattle.judge.specs.Judge.{Judged, judgedOf}
 use Rattle.carry.specs.declared.Decision.{Decision}
 use Rattle.carry.specs.Carry.{Decided, changes, started, stopped, applied, decided}
 use Rattle.answers.specs.Answers.{numbered}

@@ -40,8 +40,7 @@ use Rattle.lent.specs.Lent.{rowsOctets, tableOctets, rowsOf, same, Lent, Held, 
 use Rattle.lent.proofs.OneForm.{one-form}
 use Rattle.replies.specs.declared.Reply.the-variants as reply
 use Rattle.replies.specs.Replies.{listOnly, bodyOf, withIdentity, replied}
-use Rattle.judge.specs.declared.Judged.{Judged}
-use Rattle.judge.specs.Judge.{noFrame, judgedBy, judgedOf}
+use Rattle.judge.specs.Judge.{Judged, noFrame, judgedBy, judgedOf}
 use Rattle.carry.specs.declared.Answer.{Answer}
 use Rattle.carry.specs.declared.Answer.the-variants as answer
 use Rattle.carry.specs.Carry.{Decided, keeps, changes, started, stopped, decided}

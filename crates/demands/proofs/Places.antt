@@ -17,8 +17,7 @@ use Rattle.table.proofs.Rules.{changing-places}
 use Rattle.lent.specs.Lent.{Held, readTable, tableOctets, Good}
 use Rattle.lent.proofs.OneForm.{one-form}
 use Rattle.replies.specs.declared.Reply.the-variants as reply
-use Rattle.judge.specs.declared.Judged.{Judged}
-use Rattle.judge.specs.Judge.{judgedOf}
+use Rattle.judge.specs.Judge.{Judged, judgedOf}
 use Rattle.carry.specs.Carry.{Decided, changes, decided}
 use Rattle.unit.specs.Unit.{Call, call}
 use Rattle.demands.specs.Words.{PartialReset, Asked, start, stop, run}

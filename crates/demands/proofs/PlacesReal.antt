@@ -32,8 +32,7 @@ use Rattle.table.proofs.Rules.{resets, always}
 use Rattle.lent.specs.Lent.{Held, readTable, valueOf, rowOctets, InRange, Good}
 use Rattle.lent.proofs.OneForm.{one-form}
 use Rattle.replies.specs.declared.Reply.the-variants as reply
-use Rattle.judge.specs.declared.Judged.{Judged}
-use Rattle.judge.specs.Judge.{judgedOf}
+use Rattle.judge.specs.Judge.{Judged, judgedOf}
 use Rattle.carry.specs.Carry.{changes, started, stopped, decided}
 use Rattle.unit.specs.Unit.{Call, call}
 use Rattle.demands.specs.Words.{Lent, start, stop, someNamed, Accepted}

@@ -31,14 +31,14 @@ use Rattle.table.specs.Table.{State, standing}
 use Rattle.lent.specs.Lent.{Lent, Held, NoTable, readTable}
 use Rattle.replies.specs.declared.Reply.the-variants as reply
 use Rattle.replies.specs.Replies.{bodyOf, replied}
-use Rattle.judge.specs.declared.Judged.{Judged}
-use Rattle.judge.specs.Judge.{judgedOf}
+use Rattle.judge.specs.Judge.{Judged, judgedOf}
 use Rattle.carry.specs.declared.Answer.{Answer}
 use Rattle.carry.specs.declared.Answer.the-variants as answer
-use Rattle.carry.specs.declared.Request.{Request}
-use Rattle.carry.specs.declared.Request.the-variants as request
+use Rattle.requests.specs.declared.Request.{Request}
+use Rattle.requests.specs.declared.Request.the-variants as request
+use Rattle.requests.specs.Requests.{requestOf}
 use Rattle.carry.specs.declared.Decision.{Decision}
-use Rattle.carry.specs.Carry.{Decided, keeps, changes, started, stopped, carriedOut, decision, requestOf, asked, applied, decided}
+use Rattle.carry.specs.Carry.{Decided, keeps, changes, started, stopped, carriedOut, decision, asked, applied, decided}
 use Rattle.answers.specs.Answers.{numbered}
 use Rattle.unit.specs.Unit.{Call, Back, replyOctets, replyOf, answerOf, settledIf, fits, settled, onTable, call}
 use Rattle.demands.specs.Answered.{isAmong, numbers, silentNumbers, Answered}

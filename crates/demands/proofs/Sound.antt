@@ -52,11 +52,10 @@ use Rattle.messages.specs.declared.Verdict.{Verdict}
 use Rattle.messages.specs.Frame.{kindAt, frameAt, countAt}
 use Rattle.messages.specs.Verdict.{without, verdictOf, orStopped, insideOf}
 use Rattle.ties.proofs.Each.{each-append}
-use Rattle.judge.specs.declared.Judged.{Judged}
-use Rattle.judge.specs.Judge.{asks, noFrame, verdictBy, judgedIn, judgedOf}
-use Rattle.carry.specs.declared.Request.{Request}
-use Rattle.carry.specs.declared.Request.the-variants as request
-use Rattle.carry.specs.Carry.{requestOf}
+use Rattle.judge.specs.Judge.{Judged, noFrame, verdictBy, judgedIn, judgedOf}
+use Rattle.requests.specs.declared.Request.{Request}
+use Rattle.requests.specs.declared.Request.the-variants as request
+use Rattle.requests.specs.Requests.{asks, requestOf}
 use Rattle.ties.proofs.Placed.{Fits, table-lawful}
 use Rattle.demands.proofs.Written.{GoodEntries, GoodFrame, GoodMme, GoodMce, GoodList}
 

@@ -29,8 +29,8 @@ use Rattle.messages.specs.declared.Outcome.the-variants as outcome
 use Rattle.messages.specs.declared.Verdict.{Verdict}
 use Rattle.messages.specs.Frame.{frameAt, countAt}
 use Rattle.messages.specs.Verdict.{without, verdictOf, orStopped, insideOf, ofEight, framed, readOf}
-use Rattle.judge.specs.declared.Judged.{Judged}
-use Rattle.judge.specs.Judge.{asks, noFrame, judgedBy, verdictBy, judgedIn, judgedOf}
+use Rattle.requests.specs.Requests.{asks}
+use Rattle.judge.specs.Judge.{Judged, noFrame, judgedBy, verdictBy, judgedIn, judgedOf}
 use Rattle.said.specs.Said.{messageOf}
 
 module _ (P : Verdict → Type 0) (s : List ℕ) (none : (x : Outcome) → P (without x)) where

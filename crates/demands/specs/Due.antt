@@ -26,7 +26,8 @@ use Rattle.messages.specs.declared.Verdict.{Verdict}
 use Rattle.messages.specs.Frame.{frameAt}
 use Rattle.table.specs.Table.{State, full, holdsMme, holdsMce, holdsPair}
 use Rattle.lent.specs.Lent.{Lent, Held, NoTable, readTable}
-use Rattle.judge.specs.Judge.{asks, judgedOf}
+use Rattle.requests.specs.Requests.{asks}
+use Rattle.judge.specs.Judge.{judgedOf}
 use Rattle.carry.specs.Carry.{decided}
 use Rattle.answers.specs.Answers.{numbered}
 use Rattle.unit.specs.Unit.{Call, fits, call}

@@ -24,15 +24,15 @@ use Rattle.octets.specs.declared.Span.{Span}
 
 -- one more is listed
 abbrev noting : Entry → Noted → Noted
-noting e n = record { rows = set (n .rows) (n .count) e; count = n .count + 1; reject = n .reject || eqb (e .crit) 0 }
+noting e n = record { list = record { rows = set (n .list .rows) (n .list .count) e; count = n .list .count + 1 }; reject = n .reject || eqb (e .crit) 0 }
 
 abbrev passing : Entry → Noted → Noted
-passing e n = record { rows = n .rows; count = n .count; reject = n .reject || eqb (e .crit) 0 }
+passing e n = record { list = n .list; reject = n .reject || eqb (e .crit) 0 }
 
 reject-more : (es : List Entry) (e : Entry) → (some (λ (x : Entry). eqb (x .crit) 0) es || eqb (e .crit) 0) ≡ some (λ (x : Entry). eqb (x .crit) 0) (es ++ e ∷ [])
 reject-more es e = sym (some-append (λ (x : Entry). eqb (x .crit) 0) es (e ∷ []) ∙ ap (λ (b : Bool). some (λ (x : Entry). eqb (x .crit) 0) es || b) (or-false (eqb (e .crit) 0)))
 
-room : (es : List Entry) (e : Entry) → noted es .count < 256 → noting e (noted es) ≡ noted (es ++ e ∷ [])
+room : (es : List Entry) (e : Entry) → noted es .list .count < 256 → noting e (noted es) ≡ noted (es ++ e ∷ [])
 unfolding noted
 room es e h =
     let l = length-take 256 es in
@@ -40,7 +40,7 @@ room es e h =
     let g : length (es ++ e ∷ []) ≤ 256 = rw (length-append es (e ∷ [])) (omega arith) in
     rw (take-all 256 es (omega arith), take-all 256 (es ++ e ∷ []) g, fill-more emptyEntry 256 es e (length es) refl k, length-append es (e ∷ []), reject-more es e)
 
-full : (es : List Entry) (e : Entry) → 256 ≤ noted es .count → passing e (noted es) ≡ noted (es ++ e ∷ [])
+full : (es : List Entry) (e : Entry) → 256 ≤ noted es .list .count → passing e (noted es) ≡ noted (es ++ e ∷ [])
 unfolding noted
 full es e h =
     let l = length-take 256 es in
@@ -49,12 +49,12 @@ full es e h =
 
 module _ (n : Noted) (es : List Entry) (q : n ≡ noted es) (e : Entry) {b : Bool} (r : b ≡ (n .reject || eqb (e .crit) 0)) where
   -- there is room for it
-  pub noted-room : n .count < 256 → record { rows = set (n .rows) (n .count) e; count = n .count + 1; reject = b } ≡ noted (es ++ e ∷ [])
-  noted-room h = rw r (subst⁻¹ (λ (m : Noted). m .count < 256 → noting e m ≡ noted (es ++ e ∷ [])) q (room es e) h)
+  pub noted-room : n .list .count < 256 → record { list = record { rows = set (n .list .rows) (n .list .count) e; count = n .list .count + 1 }; reject = b } ≡ noted (es ++ e ∷ [])
+  noted-room h = rw r (subst⁻¹ (λ (m : Noted). m .list .count < 256 → noting e m ≡ noted (es ++ e ∷ [])) q (room es e) h)
 
   -- or none
-  pub noted-full : 256 ≤ n .count → record { rows = n .rows; count = n .count; reject = b } ≡ noted (es ++ e ∷ [])
-  noted-full h = rw r (subst⁻¹ (λ (m : Noted). 256 ≤ m .count → passing e m ≡ noted (es ++ e ∷ [])) q (full es e) h)
+  pub noted-full : 256 ≤ n .list .count → record { list = n .list; reject = b } ≡ noted (es ++ e ∷ [])
+  noted-full h = rw r (subst⁻¹ (λ (m : Noted). 256 ≤ m .list .count → passing e m ≡ noted (es ++ e ∷ [])) q (full es e) h)
 
 -- ---- the rows that have no value
 
@@ -90,9 +90,9 @@ module _ (t : Rows) (l : List Span) (es : List Entry) (k : ℕ) (h : k < length 
 
   module _ (e : missingEntry (getD (t .rows) k noRow) (getD l k noSpan) ≡ record { crit = getD (t .rows) k noRow .crit; id = getD (t .rows) k noRow .id; error = 1 } ∷ [])
       {b : Bool} (r : b ≡ (n .reject || eqb (getD (t .rows) k noRow .crit) 0)) where
-    pub listed-full : 256 ≤ n .count → Listed t l es (k + 1) (record { rows = n .rows; count = n .count; reject = b })
+    pub listed-full : 256 ≤ n .list .count → Listed t l es (k + 1) (record { list = n .list; reject = b })
     listed-full f = more _ (rw e (noted-full n _ q _ r f))
 
-    pub listed-room : n .count < 256
-        → Listed t l es (k + 1) (record { rows = set (n .rows) (n .count) (record { crit = getD (t .rows) k noRow .crit; id = getD (t .rows) k noRow .id; error = 1 }); count = n .count + 1; reject = b })
+    pub listed-room : n .list .count < 256
+        → Listed t l es (k + 1) (record { list = record { rows = set (n .list .rows) (n .list .count) (record { crit = getD (t .rows) k noRow .crit; id = getD (t .rows) k noRow .id; error = 1 }); count = n .list .count + 1 }; reject = b })
     listed-room f = more _ (rw e (noted-room n _ q _ r f))

@@ -9,7 +9,7 @@ use Rattle.octets.specs.Read.{Read, got, stop, _>>=_, _>>_}
 use Rattle.octets.specs.declared.Gate.the-variants as gate
 use Rattle.octets.specs.declared.Span.{Span}
 use Rattle.entries.specs.declared.Entry.{Entry}
-use Rattle.entries.specs.Entries.{emptyEntry}
+use Rattle.entries.specs.Entries.{entriesOf}
 use Rattle.envelopes.specs.declared.Row.{Row}
 use Rattle.envelopes.specs.declared.Head.{Head}
 use Rattle.elements.specs.declared.Noted.{Noted}
@@ -63,7 +63,7 @@ missingOf (r ∷ t) (v ∷ l) = missingEntry r v ++ missingOf t l
 
 -- the first 256 are listed; criticality reject anywhere rejects
 unfoldable pub noted : List Entry → Noted
-noted es = record { rows = fill emptyEntry 256 (take 256 es); count = length (take 256 es); reject = some (λ (e : Entry). eqb (e .crit) 0) es }
+noted es = record { list = entriesOf (take 256 es); reject = some (λ (e : Entry). eqb (e .crit) 0) es }
 
 -- what the judging finds
 pub record Found : Type 0 where

@@ -1,12 +1,12 @@
 // The elements of a message, over any table of rows: faults anywhere first, then the judging.
 ghost use mathlib.Core.Path.{_≡_};
 ghost use mathlib.Core.Bool.{_||_};
-ghost use mathlib.Core.List.{[]};
 ghost use lib.Dec.{eqb};
 ghost use Rattle.octets.specs.Read.{stop};
 ghost use Rattle.envelopes.specs.Table.{rowsIn};
-ghost use Rattle.elements.specs.Judge.{noted, judgedBy, elementsAt};
+ghost use Rattle.elements.specs.Judge.{judgedBy, elementsAt};
 ghost use Rattle.elements.specs.Steps.{WalkedTo, MissingIn};
+use entries::Entries;
 use entries::Entry;
 use envelopes::Envelope;
 use envelopes::Rows;
@@ -14,10 +14,9 @@ use octets::Gate;
 use octets::Span;
 use octets::Stop;
 
-// What is listed, in the first count rows, and whether any of it, beyond the first 256 too, is a reason to reject.
+// What is listed, and whether any of it, beyond the first 256 too, is a reason to reject.
 pub struct Noted {
-    pub rows: [Entry; 256],
-    pub count: usize,
+    pub list: Entries,
     pub reject: bool,
 }
 
@@ -39,21 +38,6 @@ struct Walked {
     noted: Noted,
 }
 
-fn no_notes() -> Noted
-    ensures { λ r. ⌜ r ≡ noted [] ⌝ }
-{
-    let none = Entry {
-        crit: 0,
-        id: 0,
-        error: 0,
-    };
-    Noted {
-        rows: [none; 256],
-        count: 0,
-        reject: false,
-    }
-}
-
 // Criticality reject rejects.
 fn also(reject: bool, crit: u8) -> bool
     ensures { λ r. ⌜ r ≡ (reject || eqb crit 0) ⌝ }
@@ -71,7 +55,8 @@ fn walk(t: Rows, s: &[u8], n: usize, from: usize) -> Walked
     let rows = envelopes::row_count(t);
     let none = Span { from: 0, to: 0 };
     let mut spans = [none; 12];
-    let mut noted = no_notes();
+    let mut list = entries::no_entries();
+    let mut reject = false;
     let mut left = n;
     let mut at = from;
     let mut row: usize = 0;
@@ -118,17 +103,17 @@ fn walk(t: Rows, s: &[u8], n: usize, from: usize) -> Walked
                 if crit == 1 {
                     continue 'walk;
                 }
-                noted.reject = also(noted.reject, crit);
-                let e = noted.count;
+                reject = also(reject, crit);
+                let e = list.count;
                 if 256 <= e {
                     continue 'walk;
                 }
-                noted.rows[e] = Entry {
+                list.rows[e] = Entry {
                     crit: crit,
                     id: id,
                     error: 0,
                 };
-                noted.count = e + 1;
+                list.count = e + 1;
             }
         }
     };
@@ -137,7 +122,10 @@ fn walk(t: Rows, s: &[u8], n: usize, from: usize) -> Walked
         left: left,
         place: place,
         spans: spans,
-        noted: noted,
+        noted: Noted {
+            list: list,
+            reject: reject,
+        },
     }
 }
 
@@ -146,7 +134,8 @@ fn with_missing(t: Rows, spans: [Span; 12], seen: Noted) -> Noted
     ensures { λ r. ⌜ MissingIn (rowsIn t) spans seen r ⌝ }
 {
     let rows = envelopes::row_count(t);
-    let mut noted = seen;
+    let mut list = seen.list;
+    let mut reject = seen.reject;
     let mut k: usize = 0;
     while k < rows {
         let r = t.rows[k];
@@ -162,19 +151,22 @@ fn with_missing(t: Rows, spans: [Span; 12], seen: Noted) -> Noted
         if own == 1 {
             continue;
         }
-        noted.reject = also(noted.reject, own);
-        let e = noted.count;
+        reject = also(reject, own);
+        let e = list.count;
         if 256 <= e {
             continue;
         }
-        noted.rows[e] = Entry {
+        list.rows[e] = Entry {
             crit: own,
             id: r.id,
             error: 1,
         };
-        noted.count = e + 1;
+        list.count = e + 1;
     }
-    noted
+    Noted {
+        list: list,
+        reject: reject,
+    }
 }
 
 fn not_judged(x: Stop) -> Judged
@@ -185,7 +177,10 @@ fn not_judged(x: Stop) -> Judged
         gate: Gate::Stop(x),
         place: 0,
         spans: [none; 12],
-        noted: no_notes(),
+        noted: Noted {
+            list: entries::no_entries(),
+            reject: false,
+        },
     }
 }
 

@@ -9,16 +9,16 @@ use octets::Octet;
 use octets::Stop;
 use octets::Two;
 
-// A listed element: its criticality, its id, and the type of error (0 not understood, 1 missing).
+// A listed element: its id, its criticality, and the type of error (0 not understood, 1 missing). In this order it is four octets, so that a list is cleared at once.
 pub struct Entry {
-    pub crit: u8,
     pub id: u16,
+    pub crit: u8,
     pub error: u8,
 }
 
 const NO_ENTRY: Entry = Entry {
-    crit: 0,
     id: 0,
+    crit: 0,
     error: 0,
 };
 

@@ -3,6 +3,8 @@ ghost use mathlib.Core.Path.{_≡_};
 ghost use Prim.Native.Nat.{_+_, _<_};
 ghost use Rattle.octets.specs.Read.{stop};
 ghost use mathlib.Core.Bool.{true, false};
+ghost use mathlib.Core.List.{[]};
+ghost use Rattle.identity.specs.Items.{itemsOf};
 ghost use Rattle.items.specs.Items.{itemsAt, resetBy, resetAt};
 ghost use Rattle.items.specs.Found.{itemsRead, wholeRead, resetRead};
 use identity::Item;
@@ -33,19 +35,28 @@ pub struct ResetRead {
     pub items: Items,
 }
 
-fn no_items(x: Stop) -> ItemsRead
+// A constant, so that a list is cleared many octets at a time.
+const NO_ITEM: Item = Item {
+    mme: Mme::Absent,
+    mce: Mce::Absent,
+};
+
+// The empty list.
+pub fn no_items() -> Items
+    ensures { λ r. ⌜ r ≡ itemsOf [] ⌝ }
+{
+    Items {
+        rows: [NO_ITEM; 256],
+        count: 0,
+    }
+}
+
+fn not_read(x: Stop) -> ItemsRead
     ensures { λ r. ⌜ r ≡ itemsRead (stop x) ⌝ }
 {
-    let empty = Item {
-        mme: Mme::Absent,
-        mce: Mce::Absent,
-    };
     ItemsRead {
         gate: Gate::Stop(x),
-        items: Items {
-            rows: [empty; 256],
-            count: 0,
-        },
+        items: no_items(),
     }
 }
 
@@ -56,15 +67,11 @@ pub fn items_at(s: &[u8], at: usize) -> ItemsRead
     let less = match octets::octet_at(s, at) {
         Octet::Is(v) => v,
         Octet::Stop(x) => {
-            return no_items(x);
+            return not_read(x);
         }
     };
     let count = less as usize + 1;
-    let empty = Item {
-        mme: Mme::Absent,
-        mce: Mce::Absent,
-    };
-    let mut rows = [empty; 256];
+    let mut rows = [NO_ITEM; 256];
     let mut i: usize = 0;
     let mut next = at + 1;
     while i < count {
@@ -74,7 +81,7 @@ pub fn items_at(s: &[u8], at: usize) -> ItemsRead
                 next = to;
             }
             ElementRead::Stop(x) => {
-                return no_items(x);
+                return not_read(x);
             }
         }
         i += 1;
@@ -87,7 +94,7 @@ pub fn items_at(s: &[u8], at: usize) -> ItemsRead
                 count: i,
             },
         },
-        Gate::Stop(x) => no_items(x),
+        Gate::Stop(x) => not_read(x),
     }
 }
 
@@ -95,17 +102,10 @@ pub fn items_at(s: &[u8], at: usize) -> ItemsRead
 fn no_part(gate: Gate) -> ResetRead
     ensures { λ r. ⌜ r ≡ wholeRead gate ⌝ }
 {
-    let empty = Item {
-        mme: Mme::Absent,
-        mce: Mce::Absent,
-    };
     ResetRead {
         gate: gate,
         reset: Reset::Whole,
-        items: Items {
-            rows: [empty; 256],
-            count: 0,
-        },
+        items: no_items(),
     }
 }
 

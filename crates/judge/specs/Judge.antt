@@ -1,13 +1,10 @@
 -- Judging octets as a request: the frame, one of the four that ask for something, what is inside.
 use Prim.Native.Nat.{ℕ}
-use mathlib.Core.Bool.{Bool, true, false}
 use mathlib.Core.List.{List}
 use lib.Dec.{ltb}
 use lib.ListN.{length}
 use Rattle.lists.specs.Lists.{pick}
 use Rattle.octets.specs.Read.{Read, got, stop}
-use Rattle.tables.specs.declared.Message.{Message}
-use Rattle.tables.specs.declared.Message.the-variants as message
 use Rattle.tables.specs.declared.Named.{Named}
 use Rattle.tables.specs.declared.Named.the-variants as named
 use Rattle.tables.specs.Tables.{namedBy}
@@ -16,18 +13,13 @@ use Rattle.messages.specs.declared.Outcome.the-variants.{TooLong, Stopped, NotA
 use Rattle.messages.specs.declared.Verdict.{Verdict}
 use Rattle.messages.specs.Frame.{frameAt}
 use Rattle.messages.specs.Verdict.{without, insideOf}
-use Rattle.judge.specs.declared.Judged.{Judged}
+use Rattle.requests.specs.Requests.{asks, requestOf}
+use Rattle.judge.specs.declared.Asked.{Asked}
 
--- a response, a failure and an acknowledgement ask for nothing
-abbrev pub asks : Message → Bool
-asks message.StartRequest = true
-asks message.StopRequest = true
-asks message.Reset = true
-asks message.ErrorIndication = true
-asks message.StartResponse = false
-asks message.StartFailure = false
-asks message.StopResponse = false
-asks message.ResetAcknowledge = false
+-- the frame and the verdict; where there is no frame, it is all 0
+pub record Judged : Type 0 where
+  pub frame : Frame
+  pub verdict : Verdict
 
 abbrev pub noFrame : Frame
 noFrame = record { kind = 0; code = 0; crit = 0; from = 0 }
@@ -46,3 +38,9 @@ judgedIn s (stop x) = judgedBy noFrame (without (Stopped x))
 -- over 8,192 octets; the frame; a request; what is inside
 unfoldable pub judgedOf : List ℕ → Judged
 judgedOf s = pick (ltb 8192 (length s)) (judgedBy noFrame (without TooLong)) (judgedIn s (frameAt s))
+
+-- as the code answers: of the record, what is asked for and the items
+abbrev pub askedBy : Judged → Asked
+askedBy j =
+    let v = j .verdict in
+    record { frame = j .frame; outcome = v .outcome; request = requestOf (v .message .body); items = v .message .items; noted = v .noted }

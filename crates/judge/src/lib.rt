@@ -1,34 +1,26 @@
 // Judging octets as a request: the frame, one of the four that ask for something, what is inside.
 ghost use mathlib.Core.Path.{_≡_};
-ghost use Rattle.judge.specs.Judge.{asks, noFrame, judgedBy, verdictBy, judgedOf};
+ghost use mathlib.Core.Bool.{true};
+ghost use Rattle.messages.specs.Verdict.{without, insideOf};
+ghost use Rattle.requests.specs.Requests.{asks};
+ghost use Rattle.judge.specs.Judge.{noFrame, judgedBy, verdictBy, judgedOf, askedBy};
+use entries::Entries;
+use identity::Items;
 use messages::Frame;
 use messages::FrameRead;
 use messages::Outcome;
-use messages::Verdict;
-use octets::Stop;
+use octets::Gate;
+use requests::Request;
 use tables::Message;
 use tables::Named;
 
-// The frame and the verdict. Where there is no frame, it is all 0.
-pub struct Judged {
+// The frame, the outcome, what is asked for with its items, and the list of diagnostics. Where there is no frame, it is all 0.
+pub struct Asked {
     pub frame: Frame,
-    pub verdict: Verdict,
-}
-
-// A response, a failure and an acknowledgement ask for nothing.
-fn asks(m: Message) -> bool
-    ensures { λ r. ⌜ r ≡ asks m ⌝ }
-{
-    match m {
-        Message::StartRequest => true,
-        Message::StopRequest => true,
-        Message::Reset => true,
-        Message::ErrorIndication => true,
-        Message::StartResponse => false,
-        Message::StartFailure => false,
-        Message::StopResponse => false,
-        Message::ResetAcknowledge => false,
-    }
+    pub outcome: Outcome,
+    pub request: Request,
+    pub items: Items,
+    pub noted: Entries,
 }
 
 fn no_frame() -> Frame
@@ -42,38 +34,70 @@ fn no_frame() -> Frame
     }
 }
 
-fn verdict_by(s: &[u8], f: Frame, named: Named) -> Verdict
-    ensures { λ r. ⌜ r ≡ verdictBy (now (s .entry)) f named ⌝ }
+// Answers 1 to 4: nothing is asked for.
+fn nothing_asked(f: Frame, outcome: Outcome) -> Asked
+    ensures { λ r. ⌜ r ≡ askedBy (judgedBy f (without outcome)) ⌝ }
+{
+    Asked {
+        frame: f,
+        outcome: outcome,
+        request: Request::None,
+        items: items::no_items(),
+        noted: entries::no_entries(),
+    }
+}
+
+// What is inside the frame of a request.
+fn asked_in(m: Message, s: &[u8], f: Frame) -> Asked
+    requires { ⌜ asks m ≡ true ⌝ }
+    ensures { λ r. ⌜ r ≡ askedBy (judgedBy f (insideOf m (now (s .entry)) (f .from) (f .crit))) ⌝ }
+{
+    let o = messages::opened_at(m, s, f.from);
+    let gate = o.gate;
+    match gate {
+        Gate::Pass => {}
+        Gate::Stop(x) => {
+            return nothing_asked(f, Outcome::Stopped(x));
+        }
+    }
+    let outcome = o.outcome;
+    let spans = o.spans;
+    let noted = o.noted;
+    let w = requests::wanted_in(m, s, spans);
+    let request = w.request;
+    let items = w.items;
+    Asked {
+        frame: f,
+        outcome: outcome,
+        request: request,
+        items: items,
+        noted: noted,
+    }
+}
+
+fn asked_by(s: &[u8], f: Frame, named: Named) -> Asked
+    ensures { λ r. ⌜ r ≡ askedBy (judgedBy f (verdictBy (now (s .entry)) f named)) ⌝ }
 {
     match named {
         Named::Is(m) => {
-            if asks(m) {
-                return messages::inside(m, s, f.from, f.crit);
+            if requests::asks(m) {
+                return asked_in(m, s, f);
             }
-            messages::bare(Outcome::NotAmong)
+            nothing_asked(f, Outcome::NotAmong)
         }
-        Named::Other => messages::bare(Outcome::NotAmong),
+        Named::Other => nothing_asked(f, Outcome::NotAmong),
     }
 }
 
 // Over 8,192 octets; the frame; a request; what is inside.
-pub fn judge(s: &[u8]) -> Judged
-    ensures { λ r. ⌜ r ≡ judgedOf (now (s .entry)) ⌝ }
+pub fn judge(s: &[u8]) -> Asked
+    ensures { λ r. ⌜ r ≡ askedBy (judgedOf (now (s .entry))) ⌝ }
 {
     if 8192 < s.len() {
-        return Judged {
-            frame: no_frame(),
-            verdict: messages::bare(Outcome::TooLong),
-        };
+        return nothing_asked(no_frame(), Outcome::TooLong);
     }
     match messages::frame_at(s) {
-        FrameRead::Is(f) => Judged {
-            frame: f,
-            verdict: verdict_by(s, f, tables::message_of(f.kind, f.code)),
-        },
-        FrameRead::Stop(x) => Judged {
-            frame: no_frame(),
-            verdict: messages::bare(Outcome::Stopped(x)),
-        },
+        FrameRead::Is(f) => asked_by(s, f, tables::message_of(f.kind, f.code)),
+        FrameRead::Stop(x) => nothing_asked(no_frame(), Outcome::Stopped(x)),
     }
 }

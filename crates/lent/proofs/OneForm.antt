@@ -1,27 +1,18 @@
 -- A lent table has one form: what is said comes first, and why below.
-use mathlib.Core.Path.{_≡_, refl, ap, sym, _∙_}
-use mathlib.Core.Bool.{true}
+use mathlib.Core.Path.{_≡_, ap, sym, _∙_}
 use mathlib.Core.List.{List, [], _++_}
-use Prim.Native.Nat.{ℕ, _-_, _≤_}
+use Prim.Native.Nat.{ℕ, min, _-_, _≤_}
 use native.Mathlib.Nat.{mod-eq-of-lt}
 use native.Mathlib.Omega.{arith}
-use lib.ListN.{length, replicate}
-use Rattle.lists.specs.Lists.{fill}
+use borrow.Author.Tests.{eq-eqb}
+use lib.ListN.{length, drop, replicate}
 use Rattle.octets.specs.Field.{valueAt}
 use Rattle.octets.specs.Write.{numberOctets}
 use Rattle.octets.specs.Stands.{StaysDifferent}
-use Rattle.table.specs.Table.{State, emptyAssociation, held, tableOf, distinctHeld}
-use Rattle.table.specs.declared.Table.{Table}
-use Rattle.table.proofs.Rows.{held-of}
-use Rattle.lent.specs.Lent.{rowsOctets, tableOctets, rowsOf, said, Lent, Held, NoTable, readTable, tableIn, Good}
-use Rattle.lent.proofs.Rows.{value-back, rows-back, rows-range}
-use Rattle.lent.proofs.Reading.{is-table, held-table, length-table}
-
--- a table by value that holds what it says, and nothing behind it
-pub record IsTable (t : Table) : Type 0 where
-  pub few : t .count ≤ 256
-  pub apart : distinctHeld (held t) ≡ true
-  pub empty : t .rows ≡ fill emptyAssociation 256 (held t)
+use Rattle.table.specs.Table.{State}
+use Rattle.lent.specs.Lent.{rowsOctets, tableOctets, rowsOf, said, Held, NoTable, readTable, firstRows, Good}
+use Rattle.lent.proofs.Rows.{length-rows, value-back, rows-back, rows-range}
+use Rattle.lent.proofs.Reading.{is-table, held-table, length-table, table-long}
 
 pub record OneForm : Type 0 where
   pub size : (l : State) → length l ≤ 256 → length (tableOctets l) ≡ 3074
@@ -37,8 +28,8 @@ pub record OneForm : Type 0 where
   pub different : StaysDifferent Good tableOctets
   -- and octets that are the same table are the same
   pub one : (s t : List ℕ) (l : State) → readTable s ≡ Held l → readTable t ≡ Held l → s ≡ t
-  -- whatever the octets are, the table handed on is one
-  pub value : (s : List ℕ) → IsTable (tableIn (readTable s) .table)
+  -- the rows of a table, taken by their count, are what it holds
+  pub rows : (s : List ℕ) (l : State) → readTable s ≡ Held l → firstRows (length l) s ≡ l
 
 -- ==== why
 
@@ -75,16 +66,12 @@ table-is s l q =
 same-held : {l m : State} → Held l ≡ Held m → l ≡ m
 same-held q = cc
 
-table-of : (l : State) → length l ≤ 256 → distinctHeld l ≡ true → IsTable (tableOf l)
-table-of l h d = record { few = h; apart = rw (held-of l) d; empty = rw (held-of l) }
-
-value-is : (s : List ℕ) → IsTable (tableIn (readTable s) .table)
-unfolding distinctHeld
-value-is s = by (readTable s) refl
-  where
-    by : (x : Lent) → readTable s ≡ x → IsTable (tableIn x .table)
-    by (Held l) q = let g = table-is s l q in table-of l (g .few) (g .apart)
-    by NoTable q = table-of [] (omega arith) refl
+rows-are : (s : List ℕ) (l : State) → readTable s ≡ Held l → firstRows (length l) s ≡ l
+rows-are s l q =
+    let t = held-table s q in
+    let n : length l ≡ valueAt 2 s 0 = ap length (sym (t .1)) ∙ length-rows (valueAt 2 s 0) (drop 2 s) in
+    let k : min (length l) 256 ≡ valueAt 2 s 0 = omega (arith, table-is s l q .few) in
+    rw (eq-eqb (length s) 3074 (table-long s (t .0)), k) (t .1)
 
 pub one-form : OneForm
 one-form = record {
@@ -95,5 +82,5 @@ one-form = record {
   none = λ s l q g e. let z : Held l ≡ NoTable = sym (back-is l g) ∙ (ap readTable e ∙ q) in let o : _≡_ {A = ℕ} 0 1 = cc in omega arith;
   different = λ v w a b e. same-held (sym (back-is v a) ∙ (ap readTable e ∙ back-is w b));
   one = λ s t l p q. sym (again-is s l p) ∙ again-is t l q;
-  value = value-is;
+  rows = rows-are;
 }

@@ -1,24 +1,23 @@
--- When octets are a table: what the reader's tests say of them, and the rows read one by one.
+-- When octets are a table: what the reader's tests say of them.
 use mathlib.Core.Path.{_≡_, refl, ap, sym, _∙_}
 use mathlib.Core.Bool.{Bool, true, false, _&&_}
-use mathlib.Core.List.{List, [], _∷_, _++_, append-assoc, append-nil}
-use Prim.Native.Nat.{ℕ, suc, _+_, _-_, _*_, _≤_, _<_}
+use mathlib.Core.List.{List, [], _∷_, _++_}
+use Prim.Native.Nat.{ℕ, _+_, _-_, _*_, _≤_, _<_}
 use native.Mathlib.Omega.{arith}
 use borrow.Author.Tests.{eqb-true, eq-eqb, leb-true, le-leb}
 use lib.Dec.{eqb, leb}
-use lib.ListN.{length, getD, take, drop, set, replicate, length-append, length-drop, length-set}
+use lib.ListN.{length, getD, take, drop, replicate, length-append, length-drop}
 use lib.Seq.{drop-cons, drop-drop, getD-drop, drop-at, take-all}
-use Rattle.lists.specs.Lists.{pick, fill}
+use Rattle.lists.specs.Lists.{pick}
 use Rattle.lists.proofs.Tests.{and-left, and-right}
-use Rattle.lists.proofs.Fill.{length-fill, take-fill, fill-more}
+use Rattle.lists.proofs.Fill.{length-fill}
 use Rattle.octets.specs.Field.{valueAt}
 use Rattle.octets.specs.Write.{numberOctets}
 use Rattle.octets.specs.Stands.{Octets}
 use Rattle.octets.proofs.Back.{length-number}
-use Rattle.table.specs.Table.{State, emptyAssociation, held, distinctHeld}
-use Rattle.table.specs.declared.Association.{Association}
-use Rattle.lent.specs.Lent.{rowsOctets, tableOctets, rowOf, rowsOf, said, same, Held, NoTable, readTable, tableIn}
-use Rattle.lent.specs.Tests.{sessionGood, rowsGood, rowsRead, zeros}
+use Rattle.table.specs.Table.{State, distinctHeld}
+use Rattle.lent.specs.Lent.{rowsOctets, tableOctets, rowsOf, said, same, Held, NoTable, readTable}
+use Rattle.lent.specs.Tests.{rowsGood, rowsRight, zeros}
 use Rattle.lent.proofs.Zeros.{zeros-are, are-zeros}
 use Rattle.lent.proofs.Rows.{length-rows, length-octets, value-again, rows-again, good-back}
 
@@ -133,102 +132,19 @@ module _ (s : List ℕ) where
     pub not-zeros : zeros (drop (2 + 12 * n) s) ≡ false → readTable s ≡ NoTable
     not-zeros f = clash (λ t. rw e (table-zeros s t)) f
 
-    pub not-good : rowsGood n (drop 2 s) ≡ false → readTable s ≡ NoTable
-    not-good f = clash (λ t. rw e (table-good s t)) f
+    pub not-right : rowsRight n (drop 2 s) ≡ false → readTable s ≡ NoTable
+    not-right f = clash (λ t. rw (e, table-good s t, t .apart)) f
 
-    pub not-apart : distinctHeld (rowsOf n (drop 2 s)) ≡ false → readTable s ≡ NoTable
-    not-apart f = clash (λ t. rw e (t .apart)) f
-
-    pub all-pass : Octets s → length s ≡ 3074 → n ≤ 256 → zeros (drop (2 + 12 * n) s) ≡ true → rowsGood n (drop 2 s) ≡ true → distinctHeld (rowsOf n (drop 2 s)) ≡ true →
-        readTable s ≡ Held (rowsOf n (drop 2 s))
-    all-pass o w h z g a =
+    pub all-pass : Octets s → length s ≡ 3074 → n ≤ 256 → zeros (drop (2 + 12 * n) s) ≡ true → rowsRight n (drop 2 s) ≡ true → readTable s ≡ Held (rowsOf n (drop 2 s))
+    all-pass o w h z r =
+        let g = and-left (rowsGood n (drop 2 s)) (distinctHeld (rowsOf n (drop 2 s))) r in
+        let a = and-right (rowsGood n (drop 2 s)) (distinctHeld (rowsOf n (drop 2 s))) r in
         rw e (is-table s
         (record { few = rw (length-rows (valueAt 2 s 0) (drop 2 s), ← e) h; apart = rw e at a; octets = tests-pass s o w (rw (← e) h) (rw e at z) (rw e at g) }))
 
   pub not-long : (length s ≡ 3074 → ⊥) → readTable s ≡ NoTable
   not-long h = no-table s (λ t. h (table-long s t))
 
-  -- the others pass: the octets are a table where the rows are good and apart
-  pub rest-pass : {n : ℕ} → n ≡ valueAt 2 s 0 → Octets s → length s ≡ 3074 → n ≤ 256 → zeros (drop (2 + 12 * n) s) ≡ true → rowsRead n (drop 2 s) ≡ readTable s
-  rest-pass {n} e o w h z = by (rowsGood n (drop 2 s)) (distinctHeld (rowsOf n (drop 2 s))) refl refl
-    where
-      by : (b d : Bool) → rowsGood n (drop 2 s) ≡ b → distinctHeld (rowsOf n (drop 2 s)) ≡ d → rowsRead n (drop 2 s) ≡ readTable s
-      by false d g a = rw g (sym (not-good e g))
-      by true false g a = rw (g, a) (sym (not-apart e a))
-      by true true g a = rw (g, a) (sym (all-pass e o w h z g a))
-
--- ---- the loop: i of n rows are read, and the next begins at a place
-pub record ReadTo (s : List ℕ) (n : ℕ) (rows : State) (i at : ℕ) : Type 0 where
-  pub done : State
-  pub size : length done ≡ i
-  pub within : i ≤ n
-  pub place : at ≡ 2 + 12 * i
-  pub long : length rows ≡ 256
-  pub array : rows ≡ fill emptyAssociation 256 done
-  pub rest : done ++ rowsOf (n - i) (drop at s) ≡ rowsOf n (drop 2 s)
-  pub good : rowsGood (n - i) (drop at s) ≡ rowsGood n (drop 2 s)
-
 -- a part with no end is the rest of the octets
 pub tail-part : (s : List ℕ) (at : ℕ) → take (length s - at) (drop at s) ≡ drop at s
 tail-part s at = take-all (length s - at) (drop at s) (simp length-drop (omega arith))
-
-pub read-none : (s : List ℕ) (n : ℕ) {rows : State} → rows ≡ fill emptyAssociation 256 [] → ReadTo s n rows 0 2
-read-none s n e =
-    let z : n - 0 ≡ n = omega arith in
-    record { done = []; size = refl; within = omega arith; place = refl; long = rw e; array = e; rest = rw z; good = rw z }
-
-module _ {s : List ℕ} {n : ℕ} {rows : State} {i at : ℕ} (g : ReadTo s n rows i at) where
-  module _ (h : i < n) where
-    less : n - i ≡ suc (n - (i + 1))
-    less = omega arith
-
-    good-next : rowsGood (n - i) (drop at s) ≡ (sessionGood (getD (drop at s) 10 0) (getD (drop at s) 11 0) && rowsGood (n - (i + 1)) (drop (at + 12) s))
-    unfolding rowsGood
-    good-next = rw (less, drop-drop 12 at s)
-
-    rows-next : rowsOf (n - i) (drop at s) ≡ rowOf (drop at s) ∷ rowsOf (n - (i + 1)) (drop (at + 12) s)
-    unfolding rowsOf
-    rows-next = rw (less, drop-drop 12 at s)
-
-    pub read-stop : sessionGood (getD (take (length s - at) (drop at s)) 10 0) (getD (take (length s - at) (drop at s)) 11 0) ≡ false → rowsGood n (drop 2 s) ≡ false
-    read-stop e = sym (g .good) ∙ good-next ∙ rw (rw tail-part at e)
-
-    pub read-more : n ≤ 256 → sessionGood (getD (take (length s - at) (drop at s)) 10 0) (getD (take (length s - at) (drop at s)) 11 0) ≡ true →
-        (a : Association) → a ≡ rowOf (take (length s - at) (drop at s)) → ReadTo s n (set rows i a) (i + 1) (at + 12)
-    read-more b e a q = record {
-      done = g .done ++ (a ∷ []);
-      size = rw (length-append, g .size);
-      within = omega arith;
-      place = omega (arith, g .place);
-      long = length-set rows i a ∙ g .long;
-      array = rw (g .array) (fill-more emptyAssociation 256 (g .done) a i (sym (g .size)) (omega arith));
-      rest = rw (append-assoc, q, tail-part, ← rows-next) (g .rest);
-      good = sym (good-next ∙ rw (rw tail-part at e)) ∙ g .good;
-    }
-
-  module _ (h : n ≤ i) where
-    none : n - i ≡ 0
-    none = omega arith
-
-    good-all : rowsGood n (drop 2 s) ≡ true
-    unfolding rowsGood
-    good-all = sym (g .good) ∙ rw none
-
-    rows-all : rowsOf n (drop 2 s) ≡ g .done
-    unfolding rowsOf
-    rows-all = sym (rw (none, append-nil) at (g .rest))
-
-    held-all : held (record { rows = rows; count = n }) ≡ rowsOf n (drop 2 s)
-    held-all =
-        let e : n ≡ length (g .done) = omega (arith, g .size, g .within) in
-        rw (rows-all, g .array, e) (take-fill emptyAssociation 256 (g .done))
-
-    module _ {x : Bool} (q : x ≡ distinctHeld (held (record { rows = rows; count = n }))) where
-      pub read-shared : x ≡ false → NoTable ≡ rowsRead n (drop 2 s)
-      read-shared f = let a : distinctHeld (rowsOf n (drop 2 s)) ≡ false = ap distinctHeld (sym held-all) ∙ (sym q ∙ f) in rw (good-all, a)
-
-      pub read-all : x ≡ true → record { ok = true; table = record { rows = rows; count = n } } ≡ tableIn (rowsRead n (drop 2 s))
-      read-all f =
-          let a : distinctHeld (rowsOf n (drop 2 s)) ≡ true = ap distinctHeld (sym held-all) ∙ (sym q ∙ f) in
-          let e : n ≡ length (g .done) = omega (arith, g .size, g .within) in
-          rw (good-all, a, rows-all, g .array, ← e)

@@ -2,7 +2,7 @@
 use mathlib.Core.Path.{_≡_}
 use mathlib.Core.Bool.{Bool, true, false, _&&_}
 use mathlib.Core.List.{List, [], _∷_, _++_, List·Memᴰ}
-use Prim.Native.Nat.{ℕ, zero, suc, _+_, _*_, _≤_, _<_}
+use Prim.Native.Nat.{ℕ, zero, suc, min, _+_, _*_, _≤_, _<_}
 use lib.Dec.{eqb, leb, ltb}
 use lib.ListN.{length, getD, drop}
 use lib.Seq.{sets}
@@ -11,9 +11,11 @@ use Rattle.octets.specs.Field.{valueAt}
 use Rattle.octets.specs.Write.{numberOctets}
 use Rattle.identity.specs.declared.Session.{Session}
 use Rattle.identity.specs.declared.Session.the-variants as session
-use Rattle.table.specs.Table.{State, tableOf, distinctHeld}
+use Rattle.identity.specs.declared.Item.{Item}
+use Rattle.table.specs.Table.{State, emptyAssociation, standing, distinctHeld}
 use Rattle.table.specs.declared.Association.{Association}
-use Rattle.lent.specs.declared.TableIn.{TableIn}
+use Rattle.lent.specs.declared.Looked.{Looked}
+use Rattle.lent.specs.declared.Looked.the-variants as looked
 
 -- 1 and the Session Identity, or 0 and 0
 abbrev pub flagOf : Session → ℕ
@@ -57,6 +59,10 @@ rowOf s = record {
   session = sessionOf (getD s 10 0) (getD s 11 0);
 }
 
+-- fewer octets say none
+abbrev pub rowIn : List ℕ → Association
+rowIn s = pick (leb 12 (length s)) (rowOf s) emptyAssociation
+
 unfoldable pub rowsOf : ℕ → List ℕ → State
 rowsOf zero s = []
 rowsOf (suc n) s = rowOf s ∷ rowsOf n (drop 12 s)
@@ -80,14 +86,19 @@ pub data Lent : Type 0 where
 unfoldable pub readTable : List ℕ → Lent
 readTable s = pick (leb (length (said s)) 256 && distinctHeld (said s) && same (tableOctets (said s)) s) (Held (said s)) NoTable
 
--- ---- as values of the code: where there is no table, the empty one
-abbrev pub tableIn : Lent → TableIn
-tableIn (Held l) = record { ok = true; table = tableOf l }
-tableIn NoTable = record { ok = false; table = tableOf [] }
+-- ---- as values of the code
+-- what is held of an item's identities, and how many are held
+abbrev pub lookedUp : Item → Lent → Looked
+lookedUp i (Held l) = looked.Is (standing i l) (length l)
+lookedUp i NoTable = looked.NoTable
 
 -- the octets lent are as many as a table has
 abbrev pub room : List ℕ → Bool
 room d = eqb (length d) 3074
+
+-- the first n rows of so many octets, whether or not they are a table
+abbrev pub firstRows : ℕ → List ℕ → State
+firstRows n s = pick (room s) (rowsOf (min n 256) (drop 2 s)) []
 
 -- the octets lent, when a table was to be written there
 abbrev pub tableOut : State → List ℕ → List ℕ

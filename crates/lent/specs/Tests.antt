@@ -4,9 +4,8 @@ use mathlib.Core.List.{List, [], _∷_}
 use Prim.Native.Nat.{ℕ, zero, suc}
 use lib.Dec.{eqb}
 use lib.ListN.{getD, drop}
-use Rattle.lists.specs.Lists.{pick}
 use Rattle.table.specs.Table.{distinctHeld}
-use Rattle.lent.specs.Lent.{Lent, Held, NoTable, rowsOf}
+use Rattle.lent.specs.Lent.{rowsOf}
 
 -- 1 and any octet, or 0 and 0
 abbrev pub sessionGood : ℕ → ℕ → Bool
@@ -17,9 +16,9 @@ unfoldable pub rowsGood : ℕ → List ℕ → Bool
 rowsGood zero s = true
 rowsGood (suc n) s = sessionGood (getD s 10 0) (getD s 11 0) && rowsGood n (drop 12 s)
 
--- the n rows, if their octets are good, and their identities apart
-abbrev pub rowsRead : ℕ → List ℕ → Lent
-rowsRead n s = pick (rowsGood n s && distinctHeld (rowsOf n s)) (Held (rowsOf n s)) NoTable
+-- n rows have good octets, and their identities are apart
+abbrev pub rowsRight : ℕ → List ℕ → Bool
+rowsRight n s = rowsGood n s && distinctHeld (rowsOf n s)
 
 unfoldable pub zeros : List ℕ → Bool
 zeros [] = true

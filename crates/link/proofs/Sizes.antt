@@ -43,12 +43,12 @@ use Rattle.said.specs.Written.{octets, none, elementsGood, isWritten, encodedAs
 use Rattle.table.specs.declared.Standing.{Standing}
 use Rattle.table.specs.Table.{State, standing}
 use Rattle.lent.specs.Lent.{Lent, Held, NoTable, readTable}
-use Rattle.judge.specs.declared.Judged.{Judged}
-use Rattle.judge.specs.Judge.{asks, noFrame, judgedBy, verdictBy, judgedIn, judgedOf}
-use Rattle.carry.specs.declared.Request.{Request}
-use Rattle.carry.specs.declared.Request.the-variants as request
+use Rattle.judge.specs.Judge.{Judged, noFrame, judgedBy, verdictBy, judgedIn, judgedOf}
+use Rattle.requests.specs.declared.Request.{Request}
+use Rattle.requests.specs.declared.Request.the-variants as request
+use Rattle.requests.specs.Requests.{asks, requestOf}
 use Rattle.carry.specs.declared.Decision.{Decision}
-use Rattle.carry.specs.Carry.{Decided, keeps, changes, started, stopped, carriedOut, decision, requestOf, asked, applied, decided}
+use Rattle.carry.specs.Carry.{Decided, keeps, changes, started, stopped, carriedOut, decision, asked, applied, decided}
 use Rattle.answers.specs.Answers.{numbered}
 use Rattle.unit.specs.Unit.{Call, octetsIn, replyOctets, answerOf, settledIf, fits, settled, onTable, call, Called}
 use Rattle.unit.specs.declared.Back as unit

@@ -10,12 +10,10 @@ use Rattle.messages.specs.declared.FrameRead.the-variants as frame
 use Rattle.messages.specs.Frame.{foundFrame}
 use Rattle.messages.proofs.frame_at.Kinds as frame-at'
 use Rattle.messages.proofs.frame_at.Reads as frame-at
-use Rattle.messages.proofs.inside.Kinds as inside'
-use Rattle.messages.proofs.inside.Reads as inside
+use Rattle.messages.proofs.opened_at.Kinds as opened-at'
+use Rattle.messages.proofs.opened_at.Reads as opened-at
 use Rattle.messages.proofs.read.Kinds as read'
 use Rattle.messages.proofs.read.Reads as read
-use Rattle.messages.proofs.bare.Kinds as bare'
-use Rattle.messages.proofs.bare.Reads as bare
 
 one-frame : {x y : FrameRead} → foundFrame x ≡ foundFrame y → x ≡ y
 one-frame = one-found foundFrame back undo
@@ -31,11 +29,8 @@ one-frame = one-found foundFrame back undo
 pub frame-at-is : Determined frame-at'.ps frame-at'.r frame-at.Asked frame-at.Learnt
 frame-at-is κs a p x y e f = one-frame (e same f) & refl
 
-pub inside-is : Determined inside'.ps inside'.r inside.Asked inside.Learnt
-inside-is κs a p x y e f = (e same f) & refl
+pub opened-at-is : Determined opened-at'.ps opened-at'.r opened-at.Asked opened-at.Learnt
+opened-at-is κs a p x y e f = (e same f) & refl
 
 pub read-is : Determined read'.ps read'.r read.Asked read.Learnt
 read-is κs a p x y e f = (e same f) & refl
-
-pub bare-is : Determined bare'.ps bare'.r bare.Asked bare.Learnt
-bare-is κs a p x y e f = (e same f) & refl

@@ -1,12 +1,14 @@
 // The reader of the eight messages: the frame, which message it is, what is inside, and the verdict.
 ghost use mathlib.Core.Path.{_≡_};
+ghost use Rattle.octets.specs.Read.{stop};
 ghost use Rattle.octets.specs.Found.{foundOctet, foundTwo};
 ghost use Rattle.messages.specs.Frame.{foundFrame, kindAt, frameAt, countAt};
-ghost use Rattle.messages.specs.Verdict.{without, outcomeBy, insideOf, readOf};
+ghost use Rattle.messages.specs.Verdict.{without, outcomeBy, openedAt, openedBy, insideOf, readOf};
 use entries::Entries;
 use octets::Gate;
 use octets::Octet;
 use octets::Open;
+use octets::Span;
 use octets::Stop;
 use octets::Two;
 use records::Record;
@@ -39,6 +41,15 @@ pub enum Outcome {
     Misplaced(usize),
     // 5: an unknown element of reject, or a mandatory one of reject missing
     Rejected,
+}
+
+// What is inside the frame, before any value is taken over: the outcome, where the value of each row stands, and the list of diagnostics.
+// Where octets are at fault the gate says so, and nothing else is found.
+pub struct Opened {
+    pub gate: Gate,
+    pub outcome: Outcome,
+    pub spans: [Span; 12],
+    pub noted: Entries,
 }
 
 // The outcome, the record of what was read, and the list of diagnostics.
@@ -129,7 +140,7 @@ fn count_at(s: &[u8], from: usize) -> Two
 }
 
 // Answers 1 to 4 carry no record.
-pub fn bare(outcome: Outcome) -> Verdict
+fn bare(outcome: Outcome) -> Verdict
     ensures { λ r. ⌜ r ≡ without outcome ⌝ }
 {
     Verdict {
@@ -152,14 +163,26 @@ fn outcome_of(n: usize, place: usize, reject: bool) -> Outcome
     Outcome::Accepted
 }
 
+fn not_opened(x: Stop) -> Opened
+    ensures { λ r. ⌜ r ≡ openedBy (stop x) ⌝ }
+{
+    let none = Span { from: 0, to: 0 };
+    Opened {
+        gate: Gate::Stop(x),
+        outcome: Outcome::Stopped(x),
+        spans: [none; 12],
+        noted: entries::no_entries(),
+    }
+}
+
 // What is inside the frame, from a place on.
-pub fn inside(m: Message, s: &[u8], from: usize, crit: u8) -> Verdict
-    ensures { λ r. ⌜ r ≡ insideOf m (now (s .entry)) from crit ⌝ }
+pub fn opened_at(m: Message, s: &[u8], from: usize) -> Opened
+    ensures { λ r. ⌜ r ≡ openedBy (openedAt m (now (s .entry)) from) ⌝ }
 {
     let n = match count_at(s, from) {
         Two::Is(v) => numbers::wide16(v),
         Two::Stop(x) => {
-            return bare(Outcome::Stopped(x));
+            return not_opened(x);
         }
     };
     let j = elements::elements_at(tables::rows_of(m), s, n, from + 3);
@@ -167,19 +190,39 @@ pub fn inside(m: Message, s: &[u8], from: usize, crit: u8) -> Verdict
     match gate {
         Gate::Pass => {}
         Gate::Stop(x) => {
-            return bare(Outcome::Stopped(x));
+            return not_opened(x);
         }
     }
     let spans = j.spans;
     let noted = j.noted;
-    let rows = noted.rows;
-    Verdict {
+    let list = noted.list;
+    Opened {
+        gate: Gate::Pass,
         outcome: outcome_of(n, j.place, noted.reject),
+        spans: spans,
+        noted: list,
+    }
+}
+
+// What is inside the frame, its values taken over.
+fn inside(m: Message, s: &[u8], from: usize, crit: u8) -> Verdict
+    ensures { λ r. ⌜ r ≡ insideOf m (now (s .entry)) from crit ⌝ }
+{
+    let o = opened_at(m, s, from);
+    let gate = o.gate;
+    match gate {
+        Gate::Pass => {}
+        Gate::Stop(x) => {
+            return bare(Outcome::Stopped(x));
+        }
+    }
+    let outcome = o.outcome;
+    let spans = o.spans;
+    let noted = o.noted;
+    Verdict {
+        outcome: outcome,
         message: records::record_of(m, s, spans, crit),
-        noted: Entries {
-            rows: rows,
-            count: noted.count,
-        },
+        noted: noted,
     }
 }
 

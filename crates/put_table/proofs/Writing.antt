@@ -31,7 +31,7 @@ twelve d a₀ a₁ a₂ a₃ a₄ a₅ a₆ a₇ a₈ a₉ b₀ b₁ e = whole d
 pub part-long : (d : List ℕ) (at : ℕ) → at + 12 ≤ length d → length (take (at + 12 - at) (drop at d)) ≡ 12
 part-long d at h = let k : at + 12 - at ≡ 12 = omega arith in rw k (length-take-le 12 (drop at d) (simp length-drop (omega arith)))
 
-part-wrote : (d : List ℕ) (at : ℕ) (ys : List ℕ) → length ys ≡ 12 → at + 12 ≤ length d → Wrote d at ys (take at d ++ (ys ++ drop (at + 12 - at) (drop at d))) (at + 12)
+pub part-wrote : (d : List ℕ) (at : ℕ) (ys : List ℕ) → length ys ≡ 12 → at + 12 ≤ length d → Wrote d at ys (take at d ++ (ys ++ drop (at + 12 - at) (drop at d))) (at + 12)
 part-wrote d at ys e h =
     let k : at + 12 - at ≡ 12 = omega arith in
     record {
@@ -91,7 +91,7 @@ row-wrote a n d {d′} {ys} h w x e =
     part-wrote d′ (2 + 12 * n) ys v (omega arith) .octets ∙ rw (e, x .octets)
 
 -- octets over as many
-over : (p q r vs : List ℕ) (i : ℕ) → length p ≡ i → length vs ≡ length q → sets (p ++ (q ++ r)) i vs ≡ p ++ (vs ++ r)
+pub over : (p q r vs : List ℕ) (i : ℕ) → length p ≡ i → length vs ≡ length q → sets (p ++ (q ++ r)) i vs ≡ p ++ (vs ++ r)
 over p q r vs i e f =
     let h : length (p ++ q) ≡ i + length vs = rw (length-append, e, f) in
     let k : length (p ++ (q ++ r)) ≡ i + length vs + length r = rw (length-append, length-append, e, f) (omega arith) in

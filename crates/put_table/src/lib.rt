@@ -1,9 +1,14 @@
 // The table put into the octets that the link process lends.
 ghost use mathlib.Core.Path.{_≡_};
-ghost use Prim.Native.Nat.{_+_, _*_, _-_, _/_, _%_, _≤_};
+ghost use Prim.Native.Nat.{_/_, _%_};
 ghost use lib.ListN.{length};
-ghost use Rattle.table.specs.Table.{held};
-ghost use Rattle.lent.specs.Lent.{flagOf, valueOf, rowOctets, room, tableOut, rowOut};
+ghost use Rattle.table.specs.Table.{held, stopping};
+ghost use Rattle.lent.specs.Lent.{flagOf, valueOf, rowOctets, room, firstRows, tableOut, rowOut};
+use identity::Item;
+use identity::Mce;
+use identity::MceId;
+use identity::Mme;
+use identity::MmeId;
 use identity::Session;
 use table::Association;
 use table::Table;
@@ -93,4 +98,32 @@ pub fn row_out(a: Association, n: usize, d: &mut [u8])
     let at = 2 + 12 * n;
     let e = at + 12;
     put_row(&mut d[at..e], a);
+}
+
+// The rows without what has both identities, the count, and zeros behind, into what is lent, if that is as long as a table.
+pub fn stop_out(m: MmeId, c: MceId, n: usize, d: &mut [u8])
+    ensures { λ _. ⌜ now (d .exit) ≡ tableOut (stopping m c (firstRows n (now (d .entry)))) (now (d .entry)) ⌝ }
+{
+    if d.len() != 3074 {
+        return;
+    }
+    let named = Item {
+        mme: Mme::Is(m),
+        mce: Mce::Is(c),
+    };
+    let rows = numbers::lesser(n, 256);
+    let mut k = 0;
+    let mut i = 0;
+    while i < rows {
+        let a = lent::row_of(&d[2 + 12 * i..]);
+        i += 1;
+        if !table::names(named, a) {
+            let to = 2 + 12 * k;
+            put_row(&mut d[to..to + 12], a);
+            k += 1;
+        }
+    }
+    let end = 2 + 12 * k;
+    octets::put_zeros(d, end, 3074 - end);
+    octets::put_two(d, 0, k as u16);
 }

@@ -8,7 +8,6 @@ ghost use Rattle.entries.specs.Entries.{noEntries};
 use diagnostics::Head;
 use entries::Entries;
 use entries::Entry;
-use identity::Item;
 use identity::Items;
 use identity::Mce;
 use identity::Mme;
@@ -148,7 +147,7 @@ pub struct Listed {
     pub items: Items,
 }
 
-fn mme_in(s: &[u8], v: Span) -> Mme
+pub fn mme_in(s: &[u8], v: Span) -> Mme
     ensures { λ r. ⌜ r ≡ mmeIn (now (s .entry)) v ⌝ }
 {
     let to = numbers::lesser(v.to, s.len());
@@ -158,7 +157,7 @@ fn mme_in(s: &[u8], v: Span) -> Mme
     }
 }
 
-fn mce_in(s: &[u8], v: Span) -> Mce
+pub fn mce_in(s: &[u8], v: Span) -> Mce
     ensures { λ r. ⌜ r ≡ mceIn (now (s .entry)) v ⌝ }
 {
     let to = numbers::lesser(v.to, s.len());
@@ -168,7 +167,7 @@ fn mce_in(s: &[u8], v: Span) -> Mce
     }
 }
 
-fn tmgi_in(s: &[u8], v: Span) -> MaybeTmgi
+pub fn tmgi_in(s: &[u8], v: Span) -> MaybeTmgi
     ensures { λ r. ⌜ r ≡ tmgiIn (now (s .entry)) v ⌝ }
 {
     let to = numbers::lesser(v.to, s.len());
@@ -178,7 +177,7 @@ fn tmgi_in(s: &[u8], v: Span) -> MaybeTmgi
     }
 }
 
-fn session_in(s: &[u8], v: Span) -> Session
+pub fn session_in(s: &[u8], v: Span) -> Session
     ensures { λ r. ⌜ r ≡ sessionIn (now (s .entry)) v ⌝ }
 {
     let to = numbers::lesser(v.to, s.len());
@@ -227,7 +226,7 @@ fn diagnostics_in(s: &[u8], v: Span) -> Diagnosed
     }
 }
 
-fn reset_in(s: &[u8], v: Span) -> ResetBy
+pub fn reset_in(s: &[u8], v: Span) -> ResetBy
     ensures { λ r. ⌜ r ≡ resetIn (now (s .entry)) v ⌝ }
 {
     let to = numbers::lesser(v.to, s.len());
@@ -272,19 +271,6 @@ fn list_in(s: &[u8], v: Span) -> Listed
     }
 }
 
-pub fn no_items() -> Items
-    ensures { λ r. ⌜ r ≡ noItems ⌝ }
-{
-    let none = Item {
-        mme: Mme::Absent,
-        mce: Mce::Absent,
-    };
-    Items {
-        rows: [none; 256],
-        count: 0,
-    }
-}
-
 // The record of no message.
 pub fn no_record() -> Record
     ensures { λ r. ⌜ r ≡ noRecord ⌝ }
@@ -292,7 +278,7 @@ pub fn no_record() -> Record
     Record {
         body: Body::None,
         crit: 0,
-        items: no_items(),
+        items: items::no_items(),
         entries: entries::no_entries(),
     }
 }
@@ -324,7 +310,7 @@ fn start_request(s: &[u8], rows: [Span; 12], crit: u8) -> Record
             carried: start_carried(rows),
         }),
         crit: crit,
-        items: no_items(),
+        items: items::no_items(),
         entries: entries::no_entries(),
     }
 }
@@ -342,7 +328,7 @@ fn start_response(s: &[u8], rows: [Span; 12], crit: u8) -> Record
             diagnostics: diagnostics,
         }),
         crit: crit,
-        items: no_items(),
+        items: items::no_items(),
         entries: entries,
     }
 }
@@ -360,7 +346,7 @@ fn start_failure(s: &[u8], rows: [Span; 12], crit: u8) -> Record
             diagnostics: diagnostics,
         }),
         crit: crit,
-        items: no_items(),
+        items: items::no_items(),
         entries: entries,
     }
 }
@@ -375,7 +361,7 @@ fn stop_request(s: &[u8], rows: [Span; 12], crit: u8) -> Record
             time: carried_in(rows[2]),
         }),
         crit: crit,
-        items: no_items(),
+        items: items::no_items(),
         entries: entries::no_entries(),
     }
 }
@@ -393,7 +379,7 @@ fn stop_response(s: &[u8], rows: [Span; 12], crit: u8) -> Record
             diagnostics: diagnostics,
         }),
         crit: crit,
-        items: no_items(),
+        items: items::no_items(),
         entries: entries,
     }
 }
@@ -449,7 +435,7 @@ fn error_indication(s: &[u8], rows: [Span; 12], crit: u8) -> Record
             diagnostics: diagnostics,
         }),
         crit: crit,
-        items: no_items(),
+        items: items::no_items(),
         entries: entries,
     }
 }

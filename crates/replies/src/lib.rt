@@ -157,7 +157,7 @@ pub fn with_identity(items: Items) -> Items
     ensures { λ r. ⌜ r ≡ withIdentity items ⌝ }
 {
     let n = numbers::lesser(items.count, 256);
-    let mut out = records::no_items();
+    let mut out = items::no_items();
     let mut k = 0;
     let mut i = 0;
     while i < n {

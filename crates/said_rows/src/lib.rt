@@ -77,7 +77,7 @@ fn items_in(s: &[u8]) -> Items
 {
     let count = two_at(s, 98) as usize;
     let n = numbers::lesser(count, 256);
-    let mut is = records::no_items();
+    let mut is = items::no_items();
     let mut i = 0;
     let mut at = 100;
     while i < n {
@@ -113,7 +113,7 @@ pub fn items(s: &[u8]) -> Items
     ensures { λ r. ⌜ r ≡ itemsSaid (now (s .entry)) ⌝ }
 {
     if s.len() != 2662 {
-        return records::no_items();
+        return items::no_items();
     }
     items_in(s)
 }

@@ -137,14 +137,16 @@ fn diagnostics_value(x: MaybeDiagnostics) -> Value
     }
 }
 
+// A constant, so that slots are cleared at once.
+const NO_SLOT: Slot = Slot {
+    value: Value::Absent,
+};
+
 // The tables but START REQUEST's have at most four rows.
 fn four(a: Value, b: Value, c: Value, d: Value) -> Slots
     ensures { λ r. ⌜ r ≡ slotsWith (a ∷ b ∷ c ∷ d ∷ []) ⌝ }
 {
-    let none = Slot {
-        value: Value::Absent,
-    };
-    let mut rows = [none; 12];
+    let mut rows = [NO_SLOT; 12];
     rows[0] = Slot { value: a };
     rows[1] = Slot { value: b };
     rows[2] = Slot { value: c };
@@ -238,9 +240,6 @@ fn indication(b: Indication) -> Slots
 fn twelve(mme: Value, tmgi: Value, session: Value, c: StartCarried) -> Slots
     ensures { λ r. ⌜ r ≡ slotsWith (mme ∷ tmgi ∷ session ∷ carriedValues c) ⌝ }
 {
-    let none = Slot {
-        value: Value::Absent,
-    };
     let qos = c.qos;
     let duration = c.duration;
     let area = c.area;
@@ -250,7 +249,7 @@ fn twelve(mme: Value, tmgi: Value, session: Value, c: StartCarried) -> Slots
     let reestablishment = c.reestablishment;
     let alternative = c.alternative;
     let cells = c.cells;
-    let mut rows = [none; 12];
+    let mut rows = [NO_SLOT; 12];
     rows[0] = Slot { value: mme };
     rows[1] = Slot { value: tmgi };
     rows[2] = Slot { value: session };

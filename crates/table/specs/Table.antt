@@ -57,10 +57,6 @@ namesBy mme.Absent mce.Absent a = false
 abbrev pub names : Item → Association → Bool
 names i a = namesBy (i .mme) (i .mce) a
 
--- what the item does not name
-abbrev pub unnamed : Item → State → State
-unnamed i l = keep (λ (a : Association). not (names i a)) l
-
 -- some item names the association
 unfoldable pub named : List Item → Association → Bool
 named is a = some (λ (i : Item). names i a) is

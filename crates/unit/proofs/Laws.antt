@@ -21,10 +21,12 @@ use Rattle.said.specs.Written.{Encoded, octets, none, encoded}
 use Rattle.table.specs.declared.Association.{Association}
 use Rattle.table.specs.declared.Table.{Table}
 use Rattle.table.specs.declared.Standing.{Standing}
-use Rattle.table.specs.Table.{State, held, tableOf, starting, standing}
+use Rattle.table.specs.Table.{State, held, tableOf, starting}
+use Rattle.table.specs.Table as table
 use Rattle.table.proofs.Rows.{held-of}
-use Rattle.lent.specs.declared.TableIn.{TableIn}
-use Rattle.lent.specs.Lent.{Lent, Held, NoTable, readTable, tableOctets, tableIn, tableOut, rowOut}
+use Rattle.lent.specs.declared.Looked.{Looked}
+use Rattle.lent.specs.declared.Looked.the-variants as looked
+use Rattle.lent.specs.Lent.{Lent, Held, NoTable, readTable, lookedUp, firstRows, tableOctets, tableOut, rowOut}
 use Rattle.put_table.proofs.Writing.{row-starts}
 use Rattle.lent.proofs.OneForm.{one-form}
 use Rattle.writer.specs.declared.Written.{Written}
@@ -32,16 +34,15 @@ use Rattle.writer.specs.declared.Written.the-variants.{Done, NoRoom, NotWritten
 use Rattle.writer.specs.Written.{Writing, writtenIn, Writes}
 use Rattle.carry.specs.declared.Answer.{Answer}
 use Rattle.carry.specs.declared.Answer.the-variants as answer
-use Rattle.judge.specs.declared.Judged.{Judged}
-use Rattle.judge.specs.Judge.{judgedOf}
+use Rattle.judge.specs.declared.Asked.{Asked}
+use Rattle.judge.specs.Judge.{judgedOf, askedBy}
 use Rattle.replies.specs.declared.Reply.{Reply}
 use Rattle.replies.specs.declared.Reply.the-variants as reply
 use Rattle.replies.specs.Replies.{bodyOf, withIdentity, replied}
 use Rattle.carry.specs.declared.Change.{Change}
 use Rattle.carry.specs.declared.Change.the-variants as change
 use Rattle.carry.specs.declared.Decision.{Decision}
-use Rattle.carry.specs.declared.Request.{Request}
-use Rattle.carry.specs.Carry.{Decided, requestOf, asked, decision, changed, applied, decided}
+use Rattle.carry.specs.Carry.{Decided, asked, decision, changed, applied, decided}
 use Rattle.unit.specs.declared.Back as back
 use Rattle.unit.specs.Unit.{Call, octetsIn, replyOctets, replyOf, answerOf, tableAfter, settled, call, Called}
 
@@ -94,13 +95,20 @@ module _ (t d : List ℕ) (x : Decided) where
       let f : leb (length (replyOf x)) (length d) ≡ true = rw e (le-leb 0 (length d) (omega arith)) in
       rw (f, e) (record { answer = p; octets = refl; table = q; room = refl })
 
--- a table that is written over another; and one that gets one row more
+-- a table that is written over another, by its rows or by value; and one that gets one row more
 module _ (l : State) (t : List ℕ) {t′ : List ℕ} where
+  pub put-rows : length t ≡ 3074 → t′ ≡ tableOut l t → t′ ≡ tableOctets l
+  put-rows n q = q ∙ rw (eq-eqb (length t) 3074 n)
+
   pub put-out : {u : Table} → length t ≡ 3074 → u ≡ tableOf l → t′ ≡ tableOut (held u) t → t′ ≡ tableOctets l
-  put-out n e q = q ∙ rw (e, held-of l, eq-eqb (length t) 3074 n)
+  put-out n e q = put-rows n (q ∙ rw (e, held-of l))
 
   pub put-more : (a : Association) {n : ℕ} → readTable t ≡ Held l → n ≡ length l → t′ ≡ rowOut a n t → t′ ≡ tableOctets (starting a l)
   put-more a e k q = q ∙ rw (k, ← one-form .again t l e) (row-starts l a (one-form .table t l e .few))
+
+-- the rows by value, and what a reset leaves of them
+pub reset-rows : (l : State) (is : List Item) {t u : Table} → t ≡ tableOf l → u ≡ tableOf (table.without is (held t)) → u ≡ tableOf (table.without is l)
+reset-rows l is e q = q ∙ rw (e, held-of l)
 
 -- the reply of a decision, whatever becomes of the table
 pub reply-of : (l : State) (is : Items) (r : Record) (x : Change) → replyOctets r ≡ replyOf (changed l is r x)
@@ -111,36 +119,48 @@ reply-of l is r change.Empties = refl
 reply-of l is r change.Resets = refl
 
 -- what the code has found, step by step, is what is decided
-module _ (l : State) (c : MceId) (s : List ℕ) {t : Table} {j : Judged} {q : Request} {i : Item} {k : Standing} {d : Decision} where
-  pub decided-by : t ≡ tableOf l → j ≡ judgedOf s → let v = j .verdict in q ≡ requestOf (v .message .body) → i ≡ asked c q → k ≡ standing i (held t) → d ≡ decision k c q (v .outcome)
-      → applied (held t) (j .frame) (v .message .items) (v .noted) d ≡ decided l c (judgedOf s)
+module _ (l : State) (c : MceId) (s : List ℕ) {j : Asked} {i : Item} {k : Standing} {d : Decision} where
+  pub decided-by : j ≡ askedBy (judgedOf s) → i ≡ asked c (j .request) → k ≡ table.standing i l → d ≡ decision k c (j .request) (j .outcome)
+      → applied l (j .frame) (j .items) (j .noted) d ≡ decided l c (judgedOf s)
   unfolding decided
-  decided-by e f g a b h = rw (← f, h, b, a, g, e, held-of l)
+  decided-by f a b h = rw (h, b, a, f)
 
--- what was read of a table
-module _ (s : List ℕ) (t : TableIn) (e : t ≡ tableIn (readTable s)) where
-  -- it is a table, and the code has it
-  pub record Found : Type 0 where
-    pub state : State
-    pub held : readTable s ≡ Held state
-    pub table : t .table ≡ tableOf state
+-- what was looked up: the rows are those of a table, and what is held of the identities stands in them
+pub record Found (s : List ℕ) (i : Item) (k : Standing) (n : ℕ) : Type 0 where
+  pub held : readTable s ≡ Held (firstRows n s)
+  pub count : n ≡ length (firstRows n s)
+  pub standing : k ≡ table.standing i (firstRows n s)
 
-  pub found : t .ok ≡ true → Found
-  found h = by (readTable s) refl
+abbrev rowsSaid : ℕ → Looked → ℕ
+rowsSaid n (looked.Is k m) = m
+rowsSaid n looked.NoTable = n
+
+abbrev standingSaid : Standing → Looked → Standing
+standingSaid k (looked.Is x m) = x
+standingSaid k looked.NoTable = k
+
+abbrev isTable : Looked → Bool
+isTable (looked.Is k m) = true
+isTable looked.NoTable = false
+
+module _ (s : List ℕ) (i : Item) where
+  pub found : {k : Standing} {n : ℕ} → looked.Is k n ≡ lookedUp i (readTable s) → Found s i k n
+  found {k} {n} e = by (readTable s) refl
     where
-      by : (r : Lent) → readTable s ≡ r → Found
-      by (Held l) q = record { state = l; held = q; table = ap (λ (x : TableIn). x .table) e ∙ ap (λ (r : Lent). tableIn r .table) q }
-      by NoTable q = let z : true ≡ false = sym h ∙ (ap (λ (x : TableIn). x .ok) e ∙ ap (λ (r : Lent). tableIn r .ok) q) in absurd (true≢false z)
+      by : (r : Lent) → readTable s ≡ r → Found s i k n
+      by (Held l) q =
+          let z : looked.Is k n ≡ looked.Is (table.standing i l) (length l) = e ∙ ap (lookedUp i) q in
+          let m : n ≡ length l = ap (rowsSaid n) z in
+          let f : firstRows n s ≡ l = ap (λ (x : ℕ). firstRows x s) m ∙ one-form .rows s l q in
+          record { held = q ∙ ap Held (sym f); count = m ∙ ap length (sym f); standing = ap (standingSaid k) z ∙ ap (table.standing i) (sym f) }
+      by NoTable q = absurd (true≢false (ap isTable (e ∙ ap (lookedUp i) q)))
 
-  pub found-held : Found → (readTable s ≡ Held (held (t .table))) × (t .table .count ≡ length (held (t .table)))
-  found-held h = rw (h .table, held-of (h .state)) (h .held, refl)
-
-  pub no-table : t .ok ≡ false → readTable s ≡ NoTable
-  no-table h = by (readTable s) refl
+  pub no-table : looked.NoTable ≡ lookedUp i (readTable s) → readTable s ≡ NoTable
+  no-table e = by (readTable s) refl
     where
       by : (r : Lent) → readTable s ≡ r → readTable s ≡ NoTable
       by NoTable q = q
-      by (Held l) q = let z : false ≡ true = sym h ∙ (ap (λ (x : TableIn). x .ok) e ∙ ap (λ (r : Lent). tableIn r .ok) q) in absurd (true≢false (sym z))
+      by (Held l) q = absurd (true≢false (sym (ap isTable (e ∙ ap (lookedUp i) q))))
 
 pub table-size : (s : List ℕ) (l : State) → readTable s ≡ Held l → length s ≡ 3074
 table-size s l q = ap length (sym (one-form .again s l q)) ∙ one-form .size l (one-form .table s l q .few)

@@ -1,8 +1,7 @@
 // The table call: a table, a message, an offered identity and room for a reply in; one numbered answer out.
 ghost use mathlib.Core.Path.{_≡_};
 ghost use lib.ListN.{length};
-ghost use Rattle.table.specs.Table.{held};
-ghost use Rattle.lent.specs.Lent.{Held, readTable};
+ghost use Rattle.lent.specs.Lent.{Held, readTable, firstRows};
 ghost use Rattle.records.specs.declared.Record.{Record};
 ghost use Rattle.carry.specs.Carry.{changed};
 ghost use Rattle.unit.specs.Unit.{Finished, Called, call};
@@ -10,7 +9,7 @@ use carry::Answer;
 use carry::Change;
 use identity::Items;
 use identity::MceId;
-use table::Table;
+use lent::Looked;
 use writer::Written;
 
 // The answer, and how many octets the reply has: 0 where there is none.
@@ -28,19 +27,19 @@ fn hand_back(answer: Answer, octets: usize) -> Back
     }
 }
 
-// The answer stands, and the table is the new one, if it changes.
-fn finish(change: Change, t: Table, items: Items, table: &mut [u8], octets: usize) -> Back
-    requires { ⌜ (readTable (now table) ≡ Held (held t)) × (t .count ≡ length (held t)) ⌝ }
-    ensures { λ r. ⌜ ((w : Record) → Finished (changed (held t) items w change) (now (table .entry)) octets r (now (table .exit))) ⌝ }
+// The answer stands, and the table of n rows is the new one, if it changes.
+fn finish(change: Change, n: usize, items: Items, table: &mut [u8], octets: usize) -> Back
+    requires { ⌜ (readTable (now table) ≡ Held (firstRows n (now table))) × (n ≡ length (firstRows n (now table))) ⌝ }
+    ensures { λ r. ⌜ ((w : Record) → Finished (changed (firstRows n (now (table .entry))) items w change) (now (table .entry)) octets r (now (table .exit))) ⌝ }
 {
     match change {
         Change::Stays(a) => hand_back(a, octets),
         Change::Starts(a) => {
-            put_table::row_out(a, t.count, table);
+            put_table::row_out(a, n, table);
             hand_back(Answer::CarriedOut, octets)
         }
         Change::Stops(m, c) => {
-            put_table::table_out(table::stop(t, m, c), table);
+            put_table::stop_out(m, c, n, table);
             hand_back(Answer::CarriedOut, octets)
         }
         Change::Empties => {
@@ -48,6 +47,7 @@ fn finish(change: Change, t: Table, items: Items, table: &mut [u8], octets: usiz
             hand_back(Answer::CarriedOut, octets)
         }
         Change::Resets => {
+            let t = lent::rows_in(table, n);
             put_table::table_out(reset::reset(t, items), table);
             hand_back(Answer::CarriedOut, octets)
         }
@@ -58,25 +58,22 @@ fn finish(change: Change, t: Table, items: Items, table: &mut [u8], octets: usiz
 pub fn call(table: &mut [u8], message: &[u8], offered: MceId, room: &mut [u8]) -> Back
     ensures { λ r. ⌜ Called (call (now (table .entry)) (record { message = now (message .entry); offered = offered; room = now (room .entry) })) r (now (table .exit)) (now (room .exit)) ⌝ }
 {
-    let t = lent::table_in(table);
-    if !t.ok {
-        return hand_back(Answer::NoTable, 0);
-    }
     let j = judge::judge(message);
-    let v = j.verdict;
-    let o = v.outcome;
-    let r = v.message;
-    let body = r.body;
-    let q = carry::request_of(body);
-    let k = table::look_up(t.table, carry::asked(offered, q));
-    let d = carry::decide(k, offered, q, o);
-    let change = d.change;
-    let reply = d.reply;
-    let kept = replies::with_identity(r.items);
-    let written = replies::body_of(j.frame, kept.count, v.noted.count, reply);
-    match writer::write_body(written, kept, v.noted, &message[0..0], room) {
-        Written::Done(n) => finish(change, t.table, r.items, table, n),
-        Written::NoRoom => hand_back(Answer::NoRoom, 0),
-        Written::NotWritten => finish(change, t.table, r.items, table, 0),
+    let q = j.request;
+    let o = j.outcome;
+    match lent::look_up(table, carry::asked(offered, q)) {
+        Looked::NoTable => hand_back(Answer::NoTable, 0),
+        Looked::Is(k, n) => {
+            let d = carry::decide(k, offered, q, o);
+            let change = d.change;
+            let reply = d.reply;
+            let kept = replies::with_identity(j.items);
+            let written = replies::body_of(j.frame, kept.count, j.noted.count, reply);
+            match writer::write_body(written, kept, j.noted, &message[0..0], room) {
+                Written::Done(octets) => finish(change, n, j.items, table, octets),
+                Written::NoRoom => hand_back(Answer::NoRoom, 0),
+                Written::NotWritten => finish(change, n, j.items, table, 0),
+            }
+        }
     }
 }

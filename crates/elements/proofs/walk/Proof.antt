@@ -23,25 +23,26 @@ use Rattle.elements.proofs.walk.Statement.{statement}
 use Rattle.elements.proofs.walk.Tie as tie
 
 abbrev Inv-loop : tie.InvT-loop
-Inv-loop s n from t rows spans₀ noted left₀ at₀ row₀ i₀ h id value to k₀ spans left at row i k = (k ≤ length (rowsIn t)) × (left ≡ 0 → ⊥) × (got h ≡ envelopeAt s at) × Step (rowsIn t) s n from row i left at spans noted × (k + find id (drop k (rowsIn t)) ≡ find id (rowsIn t)) × (left ≡ left₀)
+Inv-loop s n from t rows spans₀ list reject left₀ at₀ row₀ i₀ h id value to k₀ spans left at row i k = (k ≤ length (rowsIn t)) × (left ≡ 0 → ⊥) × (got h ≡ envelopeAt s at) × Step (rowsIn t) s n from row i left at spans (record { list = list; reject = reject }) × (k + find id (drop k (rowsIn t)) ≡ find id (rowsIn t)) × (left ≡ left₀)
 
 abbrev μ-loop : tie.MeasureT-loop
-μ-loop s n from t rows spans₀ noted left₀ at₀ row₀ i₀ h id value to k₀ spans left at row i k = length (rowsIn t) - k
+μ-loop s n from t rows spans₀ list reject left₀ at₀ row₀ i₀ h id value to k₀ spans left at row i k = length (rowsIn t) - k
 
 abbrev Inv-walk : tie.InvT-walk
-Inv-walk s n from t rows spans₀ noted₀ left₀ at₀ row₀ i₀ spans noted left at row i = Step (rowsIn t) s n from row i left at spans noted
+Inv-walk s n from t rows spans₀ list₀ reject₀ left₀ at₀ row₀ i₀ spans list reject left at row i = Step (rowsIn t) s n from row i left at spans (record { list = list; reject = reject })
 
 abbrev μ-walk : tie.MeasureT-walk
-μ-walk s n from t rows spans₀ noted₀ left₀ at₀ row₀ i₀ spans noted left at row i = left
+μ-walk s n from t rows spans₀ list₀ reject₀ left₀ at₀ row₀ i₀ spans list reject left at row i = left
 
 row-count-requires : tie.Need-row-count-requires Inv-loop μ-loop Inv-walk μ-walk
 row-count-requires c κs = search needs
 
-no-notes-requires : tie.Need-no-notes-requires Inv-loop μ-loop Inv-walk μ-walk
-no-notes-requires c κs = search needs
+no-entries-requires : tie.Need-no-entries-requires Inv-loop μ-loop Inv-walk μ-walk
+no-entries-requires c κs = search needs
 
 walk-holds : tie.Need-walk-holds Inv-loop μ-loop Inv-walk μ-walk
-walk-holds c = let a = c .before .before .before .args in rw (c .no-notes .ensures) (step-start (rowsIn (a .t1)) (now (a .s)) (a .n) (a .from) (omega arith))
+unfolding judge.noted
+walk-holds c = let a = c .before .before .before .args in rw (c .no-entries .ensures) (step-start (rowsIn (a .t1)) (now (a .s)) (a .n) (a .from) (omega arith))
 
 envelope-at-requires : tie.Need-envelope-at-requires Inv-loop μ-loop Inv-walk μ-walk
 envelope-at-requires c κs = search needs
@@ -130,11 +131,11 @@ walk-again-3 c = let a = c .before .before .before .before .before .before .befo
 mul-t44 : tie.Need-mul-t44 Inv-loop μ-loop Inv-walk μ-walk
 mul-t44 c = search needs
 
-element-set-from-noted : tie.Need-element-set-from-noted Inv-loop μ-loop Inv-walk μ-walk
-element-set-from-noted c = search needs
+element-set-from-list : tie.Need-element-set-from-list Inv-loop μ-loop Inv-walk μ-walk
+element-set-from-list c = search needs
 
-add-noted : tie.Need-add-noted Inv-loop μ-loop Inv-walk μ-walk
-add-noted c = search needs
+add-list : tie.Need-add-list Inv-loop μ-loop Inv-walk μ-walk
+add-list c = search needs
 
 walk-less-4 : tie.Need-walk-less-4 Inv-loop μ-loop Inv-walk μ-walk
 walk-less-4 c = omega (arith, c .before .before .before .before .loop .inv .1, c .before .before .before .before .loop .inv .5)
@@ -164,7 +165,7 @@ walk-spec =
     Inv-walk
     μ-walk
     row-count-requires
-    no-notes-requires
+    no-entries-requires
     walk-holds
     envelope-at-requires
     enum-told
@@ -194,8 +195,8 @@ walk-spec =
     walk-less-3
     walk-again-3
     mul-t44
-    element-set-from-noted
-    add-noted
+    element-set-from-list
+    add-list
     walk-less-4
     walk-again-4
     returns

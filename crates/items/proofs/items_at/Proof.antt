@@ -40,12 +40,12 @@ enum-known-v c = search needs
 enum-known-x : tie.Need-enum-known-x Inv-loop μ-loop
 enum-known-x c = search needs
 
-no-items-requires : tie.Need-no-items-requires Inv-loop μ-loop
-no-items-requires c κs = search needs
+not-read-requires : tie.Need-not-read-requires Inv-loop μ-loop
+not-read-requires c κs = search needs
 
 returns : tie.Need-returns Inv-loop μ-loop
 unfolding itemsAt
-returns c = c .no-items .ensures ∙ ap itemsRead (halt _ (told foundOctet (c .before .before .x .given .1) (c .before .before .before .before .octet-at .ensures)))
+returns c = c .not-read .ensures ∙ ap itemsRead (halt _ (told foundOctet (c .before .before .x .given .1) (c .before .before .before .before .octet-at .ensures)))
 
 cast-count : tie.Need-cast-count Inv-loop μ-loop
 cast-count c = search needs
@@ -74,12 +74,12 @@ array-set-from-rows c = search needs
 enum-known-x-2 : tie.Need-enum-known-x-2 Inv-loop μ-loop
 enum-known-x-2 c = search needs
 
-no-items-requires-2 : tie.Need-no-items-requires-2 Inv-loop μ-loop
-no-items-requires-2 c κs = search needs
+not-read-requires-2 : tie.Need-not-read-requires-2 Inv-loop μ-loop
+not-read-requires-2 c κs = search needs
 
 returns-2 : tie.Need-returns-2 Inv-loop μ-loop
 unfolding itemsAt
-returns-2 c = c .no-items2 .ensures ∙ ap itemsRead (past _ _ (told foundOctet (c .before .before .before .before .before .before .before .before .v .given .1) (c .before .before .before .before .before .before .before .before .before .before .octet-at .ensures)) (halt _ (gathered-stop (c .before .before .before .before .before .before .loop .inv) _ (c .before .before .before .before .before .loop-test .taken) (told foundElement (c .before .before .x2 .given .1) (c .before .before .before .before .item-element-at .ensures)))))
+returns-2 c = c .not-read2 .ensures ∙ ap itemsRead (past _ _ (told foundOctet (c .before .before .before .before .before .before .before .before .v .given .1) (c .before .before .before .before .before .before .before .before .before .before .octet-at .ensures)) (halt _ (gathered-stop (c .before .before .before .before .before .before .loop .inv) _ (c .before .before .before .before .before .loop-test .taken) (told foundElement (c .before .before .x2 .given .1) (c .before .before .before .before .item-element-at .ensures)))))
 
 add-i : tie.Need-add-i Inv-loop μ-loop
 add-i c = search needs
@@ -99,8 +99,8 @@ enum-told c = search needs
 enum-known-x-3 : tie.Need-enum-known-x-3 Inv-loop μ-loop
 enum-known-x-3 c = search needs
 
-no-items-requires-3 : tie.Need-no-items-requires-3 Inv-loop μ-loop
-no-items-requires-3 c κs = search needs
+not-read-requires-3 : tie.Need-not-read-requires-3 Inv-loop μ-loop
+not-read-requires-3 c κs = search needs
 
 returns-3 : tie.Need-returns-3 Inv-loop μ-loop
 unfolding itemsAt
@@ -108,7 +108,7 @@ returns-3 c = all (c .before .before .before .before .loop .inv .list) (c .befor
 
 returns-4 : tie.Need-returns-4 Inv-loop μ-loop
 unfolding itemsAt
-returns-4 c = c .no-items3 .ensures ∙ ap itemsRead (past _ _ (told foundOctet (c .before .before .before .before .before .before .before .before .v .given .1) (c .before .before .before .before .before .before .before .before .before .before .octet-at .ensures)) (past _ _ (gathered-all (c .before .before .before .before .before .before .loop .inv) (c .before .before .before .before .before .loop-test .left)) (halt _ (told foundGate (c .before .before .x3 .given .1) (c .before .before .before .before .ends-at .ensures)))))
+returns-4 c = c .not-read3 .ensures ∙ ap itemsRead (past _ _ (told foundOctet (c .before .before .before .before .before .before .before .before .v .given .1) (c .before .before .before .before .before .before .before .before .before .before .octet-at .ensures)) (past _ _ (gathered-all (c .before .before .before .before .before .before .loop .inv) (c .before .before .before .before .before .loop-test .left)) (halt _ (told foundGate (c .before .before .x3 .given .1) (c .before .before .before .before .ends-at .ensures)))))
 
 pub items-at-spec : {M : Type 1} → statement M
 items-at-spec =
@@ -119,7 +119,7 @@ items-at-spec =
     octet-at-requires
     enum-known-v
     enum-known-x
-    no-items-requires
+    not-read-requires
     returns
     cast-count
     add-count
@@ -130,7 +130,7 @@ items-at-spec =
     mul-rows
     array-set-from-rows
     enum-known-x-2
-    no-items-requires-2
+    not-read-requires-2
     returns-2
     add-i
     loop-less
@@ -138,6 +138,6 @@ items-at-spec =
     ends-at-requires
     enum-told
     enum-known-x-3
-    no-items-requires-3
+    not-read-requires-3
     returns-3
     returns-4)

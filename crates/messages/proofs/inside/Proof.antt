@@ -1,54 +1,13 @@
--- `messages::inside` meets its contract. The elements were judged by the message's table; by the gate of that, the verdict is without a record or made of what was found. Assumes nothing.
-use mathlib.Core.Path.{_≡_, _∙_, refl, ap, sym}
-use Rattle.octets.specs.Found.{foundTwo}
-use Rattle.octets.proofs.Chain.{past, halt, told}
+-- `messages::inside` meets its contract. By the gate of what was opened, the verdict is without a record or has its values. Assumes nothing.
+use mathlib.Core.Path.{_∙_}
 use denote.Ref.{now}
-use native.Mathlib.Omega.{arith}
-use Prim.Native.Nat.{ℕ, _+_}
-use mathlib.Core.List.{List}
-use Rattle.envelopes.specs.declared.Row.{Row}
-use Rattle.envelopes.specs.Table.{rowsIn}
-use Rattle.elements.specs.Judge.{judgedBy, elementsAt}
-use Rattle.tables.specs.Tables.{tableOf}
-use Rattle.messages.specs.Verdict.{orStopped, insideOf}
-use Rattle.messages.proofs.InsideLaws.{count-in, rows-in, judged-stop, judged-pass, verdict-is}
+use Rattle.messages.proofs.InsideLaws.{inside-stop, inside-pass}
 use borrow.Author.Needs.{needs}
 use Rattle.messages.proofs.inside.Statement.{statement}
 use Rattle.messages.proofs.inside.Tie as tie
 
--- the elements were judged by the message's table
-judged : (c : tie.After-elements-at) → let a = c .before .before .before .before .before .before .before .before .args in c .elements-at .result ≡ judgedBy (elementsAt (tableOf (a .m)) (now (a .s)) (c .before .before .before .before .v .given .0 .0) (a .from + 3))
-judged c = let a = c .before .before .before .before .before .before .before .before .args in
-    c .elements-at .ensures ∙ (ap (λ (n : ℕ). judgedBy (elementsAt (rowsIn (c .before .rows-of .result)) (now (a .s)) n (a .from + 3))) (c .before .before .wide16 .ensures)
-    ∙ ap (λ (t : List Row). judgedBy (elementsAt t (now (a .s)) (c .before .before .before .before .v .given .0 .0) (a .from + 3))) (ap rowsIn (c .before .rows-of .ensures) ∙ rows-in (a .m)))
-
-count-at-requires : tie.Need-count-at-requires
-count-at-requires c κs = search needs
-
-enum-known-v : tie.Need-enum-known-v
-enum-known-v c = search needs
-
-wide16-requires : tie.Need-wide16-requires
-wide16-requires c κs = search needs
-
-enum-known-x : tie.Need-enum-known-x
-enum-known-x c = search needs
-
-bare-requires : tie.Need-bare-requires
-bare-requires c κs = search needs
-
-returns : tie.Need-returns
-unfolding insideOf
-returns c = c .bare .ensures ∙ ap orStopped (halt _ (told foundTwo (c .before .before .x .given .1) (c .before .before .before .before .count-at .ensures)))
-
-rows-of-requires : tie.Need-rows-of-requires
-rows-of-requires c κs = search needs
-
-add-elements-at : tie.Need-add-elements-at
-add-elements-at c = let a = c .before .before .before .before .before .before .before .args in omega (arith, count-in (now (a .s)) (a .from) (told foundTwo (c .before .before .before .v .given .1) (c .before .before .before .before .before .count-at .ensures)))
-
-elements-at-requires : tie.Need-elements-at-requires
-elements-at-requires c κs = search needs
+opened-at-requires : tie.Need-opened-at-requires
+opened-at-requires c κs = search needs
 
 enum-told : tie.Need-enum-told
 enum-told c = search needs
@@ -56,42 +15,26 @@ enum-told c = search needs
 enum-known-gate : tie.Need-enum-known-gate
 enum-known-gate c = search needs
 
-bare-requires-2 : tie.Need-bare-requires-2
-bare-requires-2 c κs = search needs
+bare-requires : tie.Need-bare-requires
+bare-requires c κs = search needs
 
-returns-2 : tie.Need-returns-2
-unfolding insideOf
-returns-2 c = c .bare2 .ensures ∙ ap orStopped (past _ _ (told foundTwo (c .before .before .before .before .before .before .before .before .v .given .1) (c .before .before .before .before .before .before .before .before .before .before .count-at .ensures)) (halt _ (judged-stop (c .before .before .before .before .elements-at .result) _ (judged (c .before .before .before .before)) (c .before .before .gate .given .1))))
-
-outcome-of-requires : tie.Need-outcome-of-requires
-outcome-of-requires c κs = search needs
+returns : tie.Need-returns
+returns c = let a = c .before .before .before .before .before .before .args in c .bare .ensures ∙ inside-stop (a .m) (now (a .s)) (a .from) (a .crit) _ (c .before .before .before .before .opened-at .ensures) (c .before .before .gate .given .1)
 
 record-of-requires : tie.Need-record-of-requires
 record-of-requires c κs = search needs
 
-returns-3 : tie.Need-returns-3
-unfolding insideOf
-returns-3 c = let a = c .before .before .before .before .before .before .before .before .before .before .before .before .before .before .before .args in let p = judged-pass (c .before .before .before .before .before .before .before .elements-at .result) _ (judged (c .before .before .before .before .before .before .before)) (c .before .before .before .before .before .enum-told .given .1) in
-    verdict-is (a .m) (now (a .s)) (a .crit) (c .before .before .before .before .before .before .before .before .before .before .before .v .given .0 .0) (c .before .before .before .before .before .before .before .elements-at .result) (p .0) (judged (c .before .before .before .before .before .before .before) ∙ ap judgedBy (sym (p .1))) _ (rw (c .before .before .before .before .before .before .before .before .before .wide16 .ensures) at (c .before .outcome-of .ensures)) _ (c .record-of .ensures)
-    ∙ ap orStopped (past _ _ (told foundTwo (c .before .before .before .before .before .before .before .before .before .before .before .v .given .1) (c .before .before .before .before .before .before .before .before .before .before .before .before .before .count-at .ensures)) (past _ _ (p .1) refl))
+returns-2 : tie.Need-returns-2
+returns-2 c = let a = c .before .before .before .before .before .before .before .args in rw (c .record-of .ensures) (inside-pass (a .m) (now (a .s)) (a .from) (a .crit) _ (c .before .before .before .before .before .opened-at .ensures) (c .before .before .before .enum-told .given .1))
 
 pub inside-spec : {M : Type 1} → statement M
 inside-spec =
     tie.close
     (tie.spec
-    count-at-requires
-    enum-known-v
-    wide16-requires
-    enum-known-x
-    bare-requires
-    returns
-    rows-of-requires
-    add-elements-at
-    elements-at-requires
+    opened-at-requires
     enum-told
     enum-known-gate
-    bare-requires-2
-    returns-2
-    outcome-of-requires
+    bare-requires
+    returns
     record-of-requires
-    returns-3)
+    returns-2)

@@ -2,8 +2,9 @@
 use denote.Ref.{now}
 use mathlib.Core.Path.{refl}
 use mathlib.Core.List.{[]}
-use Rattle.table.specs.Table.{held, without, stopping}
-use Rattle.unit.proofs.Laws.{put-out, put-more, table-size}
+use Rattle.table.specs.Table.{without, stopping}
+use Rattle.lent.specs.Lent.{firstRows}
+use Rattle.unit.proofs.Laws.{put-rows, put-out, put-more, reset-rows, table-size}
 use borrow.Author.Needs.{needs}
 use Rattle.unit.proofs.finish.Statement.{statement}
 use Rattle.unit.proofs.finish.Tie as tie
@@ -26,11 +27,8 @@ hand-back-requires-2 c κs = search needs
 enum-known-change-3 : tie.Need-enum-known-change-3
 enum-known-change-3 c = search needs
 
-stop-requires : tie.Need-stop-requires
-stop-requires c κs = search needs
-
-table-out-requires : tie.Need-table-out-requires
-table-out-requires c κs = search needs
+stop-out-requires : tie.Need-stop-out-requires
+stop-out-requires c κs = search needs
 
 hand-back-requires-3 : tie.Need-hand-back-requires-3
 hand-back-requires-3 c κs = search needs
@@ -41,8 +39,8 @@ enum-told c = search needs
 empty-requires : tie.Need-empty-requires
 empty-requires c κs = search needs
 
-table-out-requires-2 : tie.Need-table-out-requires-2
-table-out-requires-2 c κs = search needs
+table-out-requires : tie.Need-table-out-requires
+table-out-requires c κs = search needs
 
 hand-back-requires-4 : tie.Need-hand-back-requires-4
 hand-back-requires-4 c κs = search needs
@@ -50,11 +48,14 @@ hand-back-requires-4 c κs = search needs
 enum-told-2 : tie.Need-enum-told-2
 enum-told-2 c = search needs
 
+rows-in-requires : tie.Need-rows-in-requires
+rows-in-requires c κs = search needs
+
 reset-requires : tie.Need-reset-requires
 reset-requires c κs = search needs
 
-table-out-requires-3 : tie.Need-table-out-requires-3
-table-out-requires-3 c κs = search needs
+table-out-requires-2 : tie.Need-table-out-requires-2
+table-out-requires-2 c κs = search needs
 
 hand-back-requires-5 : tie.Need-hand-back-requires-5
 hand-back-requires-5 c κs = search needs
@@ -66,25 +67,25 @@ same-length : tie.Need-same-length
 same-length c = search needs
 
 returns-2 : tie.Need-returns-2
-returns-2 c = let s = c .before .before .before .before .before .before .before .before .before in λ w. rw (c .before .before .before .before .before .before .change2 .given .1) (record { back = c .hand-back2 .ensures; table = put-more (held (s .args .t)) (now (s .args .table)) _ (s .pre .0) (s .pre .1) (c .before .before .before .row-out .ensures) })
+returns-2 c = let s = c .before .before .before .before .before .before .before .before .before in λ w. rw (c .before .before .before .before .before .before .change2 .given .1) (record { back = c .hand-back2 .ensures; table = put-more (firstRows (s .args .n) (now (s .args .table))) (now (s .args .table)) _ (s .pre .0) (s .pre .1) (c .before .before .before .row-out .ensures) })
 
 same-length-2 : tie.Need-same-length-2
 same-length-2 c = search needs
 
 returns-3 : tie.Need-returns-3
-returns-3 c = λ w. rw (c .before .before .before .before .before .before .before .change3 .given .1) (record { back = c .hand-back3 .ensures; table = put-out (stopping _ _ _) (now (c .before .before .before .before .before .before .before .before .before .before .args .table)) (table-size (now (c .before .before .before .before .before .before .before .before .before .before .args .table)) _ (c .before .before .before .before .before .before .before .before .before .before .pre .0)) (c .before .before .before .before .before .stop .ensures) (c .before .before .before .table-out .ensures .1) })
+returns-3 c = let s = c .before .before .before .before .before .before .before .before .before in λ w. rw (c .before .before .before .before .before .before .change3 .given .1) (record { back = c .hand-back3 .ensures; table = put-rows (stopping _ _ _) (now (s .args .table)) (table-size (now (s .args .table)) _ (s .pre .0)) (c .before .before .before .stop-out .ensures) })
 
 same-length-3 : tie.Need-same-length-3
 same-length-3 c = search needs
 
 returns-4 : tie.Need-returns-4
-returns-4 c = λ w. rw (c .before .before .before .before .before .before .enum-told .given .1) (record { back = c .hand-back4 .ensures; table = put-out [] (now (c .before .before .before .before .before .before .before .before .before .args .table)) (table-size (now (c .before .before .before .before .before .before .before .before .before .args .table)) _ (c .before .before .before .before .before .before .before .before .before .pre .0)) (c .before .before .before .before .before .empty .ensures) (c .before .before .before .table-out2 .ensures .1) })
+returns-4 c = let s = c .before .before .before .before .before .before .before .before .before in λ w. rw (c .before .before .before .before .before .before .enum-told .given .1) (record { back = c .hand-back4 .ensures; table = put-out [] (now (s .args .table)) (table-size (now (s .args .table)) _ (s .pre .0)) (c .before .before .before .before .before .empty .ensures) (c .before .before .before .table-out .ensures .1) })
 
 same-length-4 : tie.Need-same-length-4
 same-length-4 c = search needs
 
 returns-5 : tie.Need-returns-5
-returns-5 c = λ w. rw (c .before .before .before .before .before .before .enum-told2 .given .1) (record { back = c .hand-back5 .ensures; table = put-out (without _ _) (now (c .before .before .before .before .before .before .before .before .before .args .table)) (table-size (now (c .before .before .before .before .before .before .before .before .before .args .table)) _ (c .before .before .before .before .before .before .before .before .before .pre .0)) (c .before .before .before .before .before .reset .ensures) (c .before .before .before .table-out3 .ensures .1) })
+returns-5 c = let s = c .before .before .before .before .before .before .before .before .before .before .before in λ w. rw (c .before .before .before .before .before .before .before .before .enum-told2 .given .1) (record { back = c .hand-back5 .ensures; table = put-out (without _ _) (now (s .args .table)) (table-size (now (s .args .table)) _ (s .pre .0)) (reset-rows _ _ (c .before .before .before .before .before .before .rows-in .ensures) (c .before .before .before .before .before .reset .ensures)) (c .before .before .before .table-out2 .ensures .1) })
 
 pub finish-spec : {M : Type 1} → statement M
 finish-spec =
@@ -96,16 +97,16 @@ finish-spec =
     row-out-requires
     hand-back-requires-2
     enum-known-change-3
-    stop-requires
-    table-out-requires
+    stop-out-requires
     hand-back-requires-3
     enum-told
     empty-requires
-    table-out-requires-2
+    table-out-requires
     hand-back-requires-4
     enum-told-2
+    rows-in-requires
     reset-requires
-    table-out-requires-3
+    table-out-requires-2
     hand-back-requires-5
     returns
     same-length

@@ -1,4 +1,4 @@
--- `vectors::main` is safe and ends. The parts lent are as long as they are said to be. Assumes nothing.
+-- `vectors::main` is safe and ends. The table is as long as it is said to be. Assumes nothing.
 use lib.ListN.{length}
 use mathlib.Core.Path.{_≡_}
 use borrow.Author.Needs.{needs}
@@ -6,25 +6,16 @@ use Rattle.vectors.proofs.main.Statement.{statement}
 use Rattle.vectors.proofs.main.Tie as tie
 
 abbrev Inv-loop : tie.InvT-loop
-Inv-loop space₀ room₀ table₀ turns₀ space room table turns = (65536 ≡ length space) × (8192 ≡ length room) × (3074 ≡ length table)
+Inv-loop table₀ turns₀ table turns = 3074 ≡ length table
 
 abbrev μ-loop : tie.MeasureT-loop
-μ-loop space₀ room₀ table₀ turns₀ space room table turns = turns
-
-large-buffer-requires : tie.Need-large-buffer-requires Inv-loop μ-loop
-large-buffer-requires c κs = search needs
+μ-loop table₀ turns₀ table turns = turns
 
 loop-holds : tie.Need-loop-holds Inv-loop μ-loop
 loop-holds c = search needs
 
 slice-aggregate-turn : tie.Need-slice-aggregate-turn Inv-loop μ-loop
 slice-aggregate-turn c = search needs
-
-slice-aggregate-turn-2 : tie.Need-slice-aggregate-turn-2 Inv-loop μ-loop
-slice-aggregate-turn-2 c = search needs
-
-slice-aggregate-turn-3 : tie.Need-slice-aggregate-turn-3 Inv-loop μ-loop
-slice-aggregate-turn-3 c = search needs
 
 turn-requires : tie.Need-turn-requires Inv-loop μ-loop
 turn-requires c κs = search needs
@@ -50,11 +41,8 @@ main-spec =
     (tie.spec
     Inv-loop
     μ-loop
-    large-buffer-requires
     loop-holds
     slice-aggregate-turn
-    slice-aggregate-turn-2
-    slice-aggregate-turn-3
     turn-requires
     returns
     sub-turns
