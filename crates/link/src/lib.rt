@@ -93,11 +93,10 @@ pub extern "C" fn m3ap_read(message: &[u8], room: &mut [u8]) -> Answer
 {
     let v = messages::read(message);
     let o = v.outcome;
-    let what = v.message;
     match o {
-        Outcome::Accepted => with_record(0, what, room),
-        Outcome::Misplaced(_) => with_record(5, what, room),
-        Outcome::Rejected => with_record(5, what, room),
+        Outcome::Accepted => with_record(0, v.message, room),
+        Outcome::Misplaced(_) => with_record(5, v.message, room),
+        Outcome::Rejected => with_record(5, v.message, room),
         Outcome::TooLong => plain(1),
         Outcome::NotAmong => plain(4),
         Outcome::Stopped(x) => stopped(x),
@@ -113,8 +112,7 @@ pub extern "C" fn m3ap_write(said: &[u8], values: &[u8], room: &mut [u8]) -> Ans
     if !r.ok {
         return plain(11);
     }
-    let what = r.what;
-    match writer::write(what, values, room) {
+    match writer::write(r.what, values, room) {
         Written::Done(n) => Answer {
             answer: 0,
             place: 0,

@@ -1,9 +1,6 @@
 -- Tests joined, and a case by a test.
 use mathlib.Core.Path.{_≡_, refl, sym}
 use mathlib.Core.Bool.{Bool, true, false, not, _&&_, _||_}
-use Prim.Native.Nat.{ℕ}
-use borrow.Author.Tests.{eqb-true, eq-eqb}
-use lib.Dec.{eqb}
 use Rattle.lists.specs.Lists.{pick}
 
 -- what holds of both cases holds of the one that is picked
@@ -45,9 +42,3 @@ or-or true b c d = refl
 or-or false true true d = refl
 or-or false true false d = refl
 or-or false false c d = refl
-
-pub eqb-sym : (a b : ℕ) → eqb a b ≡ eqb b a
-eqb-sym a b = both-ways (eqb a b) (eqb b a) (turn a b) (turn b a)
-  where
-    turn : (x y : ℕ) → eqb x y ≡ true → eqb y x ≡ true
-    turn x y e = eq-eqb y x (sym (eqb-true x y e))

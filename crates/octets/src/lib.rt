@@ -102,12 +102,6 @@ fn extended_here(at: usize) -> Stop
     Stop::Extension(Place { octet: at })
 }
 
-fn wide16(x: u8) -> u16
-    ensures { λ r. ⌜ r ≡ x ⌝ }
-{
-    x as u16
-}
-
 // A bit that says yes or no.
 pub fn flag_at(s: &[u8], at: usize, b: u8) -> Flag
     ensures { λ r. ⌜ foundFlag r ≡ flagAt (now (s .entry)) at b ⌝ }
@@ -181,7 +175,7 @@ pub fn two_at(s: &[u8], at: usize) -> Two
     if s.len() - at < 2 {
         return Two::Stop(cut_short(at));
     }
-    Two::Is((wide16(s[at]) << 8) | wide16(s[at + 1]))
+    Two::Is(numbers::two(s[at], s[at + 1]))
 }
 
 // Three octets as they are.

@@ -171,13 +171,11 @@ fn put_record(room: &mut [u8], what: Record) -> usize
     ensures { λ r. ⌜ Wrote (now (room .entry)) 0 (recordOctets what) (now (room .exit)) r ⌝ }
 {
     let body = what.body;
-    let items = what.items;
-    let entries = what.entries;
     let message = message_number(slots::message_in(body));
     let rows = put_pair(room, 0, message, what.crit);
     let list = put_slots(room, rows, body);
-    let more = record_rows::put_items(room, list, items);
-    record_rows::put_entries(room, more, entries)
+    let more = record_rows::put_items(room, list, what.items);
+    record_rows::put_entries(room, more, what.entries)
 }
 
 // The record's octets into the front of what is lent, if that is long enough; it says whether it is.

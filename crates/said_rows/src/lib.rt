@@ -21,9 +21,9 @@ pub fn two_at(s: &[u8], at: usize) -> u16
         return 0;
     }
     if s.len() - at < 2 {
-        return (s[at] as u16) * 256;
+        return numbers::two(s[at], 0);
     }
-    (s[at] as u16) * 256 + (s[at + 1] as u16)
+    numbers::two(s[at], s[at + 1])
 }
 
 pub fn mme_at(s: &[u8], at: usize) -> Mme

@@ -232,7 +232,5 @@ pub fn write(what: Record, values: &[u8], room: &mut [u8]) -> Written
     ensures { λ r. ⌜ Writes (writtenIn (now (room .entry)) (encoded (saidBy what (now (values .entry))))) r (now (room .exit)) ⌝ }
 {
     let body = what.body;
-    let items = what.items;
-    let entries = what.entries;
-    write_body(body, items, entries, values, room)
+    write_body(body, what.items, what.entries, values, room)
 }

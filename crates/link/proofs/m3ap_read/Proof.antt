@@ -42,34 +42,34 @@ enum-known-o : tie.Need-enum-known-o
 enum-known-o c = search needs
 
 stopped-requires : tie.Need-stopped-requires
-stopped-requires c κs = stop-small (now (c .before .before .before .before .before .before .before .args .message)) (c .before .before .before .before .read .ensures) _ (c .before .o .given .1)
+stopped-requires c κs = stop-small (now (c .before .before .before .before .before .before .args .message)) (c .before .before .before .read .ensures) _ (c .before .o .given .1)
 
 same-length : tie.Need-same-length
 same-length c = search needs
 
 returns : tie.Need-returns
-returns c = let a = c .before .before .before .before .before .before .before .before .before .before .args in read-is (now (a .message)) (now (a .room)) (c .before .before .before .before .before .before .before .read .ensures) (c .before .before .before .before .enum-told .given .1) (c .before .before .with-record .ensures)
+returns c = let a = c .before .before .before .before .before .before .before .before .before .args in read-is (now (a .message)) (now (a .room)) (c .before .before .before .before .before .before .read .ensures) (c .before .before .before .before .enum-told .given .1) (c .before .before .with-record .ensures)
 
 same-length-2 : tie.Need-same-length-2
 same-length-2 c = search needs
 
 returns-2 : tie.Need-returns-2
-returns-2 c = let a = c .before .before .before .before .before .before .before .before .before .before .args in read-is (now (a .message)) (now (a .room)) (c .before .before .before .before .before .before .before .read .ensures) (c .before .before .before .before .enum-told2 .given .1) (c .before .before .with-record2 .ensures)
+returns-2 c = let a = c .before .before .before .before .before .before .before .before .before .args in read-is (now (a .message)) (now (a .room)) (c .before .before .before .before .before .before .read .ensures) (c .before .before .before .before .enum-told2 .given .1) (c .before .before .with-record2 .ensures)
 
 same-length-3 : tie.Need-same-length-3
 same-length-3 c = search needs
 
 returns-3 : tie.Need-returns-3
-returns-3 c = let a = c .before .before .before .before .before .before .before .before .before .before .args in read-is (now (a .message)) (now (a .room)) (c .before .before .before .before .before .before .before .read .ensures) (c .before .before .before .before .enum-told3 .given .1) (c .before .before .with-record3 .ensures)
+returns-3 c = let a = c .before .before .before .before .before .before .before .before .before .args in read-is (now (a .message)) (now (a .room)) (c .before .before .before .before .before .before .read .ensures) (c .before .before .before .before .enum-told3 .given .1) (c .before .before .with-record3 .ensures)
 
 returns-4 : tie.Need-returns-4
-returns-4 c = let a = c .before .before .before .before .before .before .before .args in read-is (now (a .message)) (now (a .room)) (c .before .before .before .before .read .ensures) (c .before .enum-told4 .given .1) (put-none 1 0 (now (a .room)) (c .plain .ensures))
+returns-4 c = let a = c .before .before .before .before .before .before .args in read-is (now (a .message)) (now (a .room)) (c .before .before .before .read .ensures) (c .before .enum-told4 .given .1) (put-none 1 0 (now (a .room)) (c .plain .ensures))
 
 returns-5 : tie.Need-returns-5
-returns-5 c = let a = c .before .before .before .before .before .before .before .args in read-is (now (a .message)) (now (a .room)) (c .before .before .before .before .read .ensures) (c .before .enum-told5 .given .1) (put-none 4 0 (now (a .room)) (c .plain2 .ensures))
+returns-5 c = let a = c .before .before .before .before .before .before .args in read-is (now (a .message)) (now (a .room)) (c .before .before .before .read .ensures) (c .before .enum-told5 .given .1) (put-none 4 0 (now (a .room)) (c .plain2 .ensures))
 
 returns-6 : tie.Need-returns-6
-returns-6 c = let a = c .before .before .before .before .before .before .before .before .args in read-is (now (a .message)) (now (a .room)) (c .before .before .before .before .before .read .ensures) (c .before .before .o .given .1) (put-none _ _ (now (a .room)) (c .stopped .ensures))
+returns-6 c = let a = c .before .before .before .before .before .before .before .args in read-is (now (a .message)) (now (a .room)) (c .before .before .before .before .read .ensures) (c .before .before .o .given .1) (put-none _ _ (now (a .room)) (c .stopped .ensures))
 
 pub m3ap-read-spec : {M : Type 1} → statement M
 m3ap-read-spec =

@@ -22,8 +22,8 @@ write-requires c κs = search needs
 enum-known-n : tie.Need-enum-known-n
 enum-known-n c = search needs
 
-cast-t12 : tie.Need-cast-t12
-cast-t12 c = let a = c .before .before .before .before .before .before .before .before .before .before .before .before .before .before .args in record { fits = octets-small (c .before .before .before .before .before .before .before .before .before .before .record-in .result .what) (now (a .values)) (now (a .room)) (c .before .before .before .before .before .write .ensures) _ (c .before .n .given .1) }
+cast-t11 : tie.Need-cast-t11
+cast-t11 c = let a = c .before .before .before .before .before .before .before .before .before .before .before .before .before .args in record { fits = octets-small (c .before .before .before .before .before .before .before .before .before .record-in .result .what) (now (a .values)) (now (a .room)) (c .before .before .before .before .before .write .ensures) _ (c .before .n .given .1) }
 
 enum-told : tie.Need-enum-told
 enum-told c = search needs
@@ -41,19 +41,19 @@ same-length : tie.Need-same-length
 same-length c = search needs
 
 returns-2 : tie.Need-returns-2
-returns-2 c = let a = c .before .before .before .before .before .before .before .before .before .before .before .before .before .before .args in write-is (now (a .said)) (now (a .values)) (now (a .room)) (c .before .before .before .before .before .before .before .before .before .before .record-in .result .what) (c .before .before .before .before .before .before .before .before .before .before .record-in .ensures) (not-false _ (c .before .before .before .before .before .before .before .before .if1 .left)) refl (put-written (c .before .before .before .before .before .before .before .before .before .before .record-in .result .what) (now (a .values)) (now (a .room)) (c .before .before .before .before .before .write .ensures) (c .before .n .given .1) refl)
+returns-2 c = let a = c .before .before .before .before .before .before .before .before .before .before .before .before .before .args in write-is (now (a .said)) (now (a .values)) (now (a .room)) (c .before .before .before .before .before .before .before .before .before .record-in .result .what) (c .before .before .before .before .before .before .before .before .before .record-in .ensures) (not-false _ (c .before .before .before .before .before .before .before .if1 .left)) refl (put-written (c .before .before .before .before .before .before .before .before .before .record-in .result .what) (now (a .values)) (now (a .room)) (c .before .before .before .before .before .write .ensures) (c .before .n .given .1) refl)
 
 same-length-2 : tie.Need-same-length-2
 same-length-2 c = search needs
 
 returns-3 : tie.Need-returns-3
-returns-3 c = let a = c .before .before .before .before .before .before .before .before .before .before .before .before .before .before .args in write-is (now (a .said)) (now (a .values)) (now (a .room)) (c .before .before .before .before .before .before .before .before .before .before .record-in .result .what) (c .before .before .before .before .before .before .before .before .before .before .record-in .ensures) (not-false _ (c .before .before .before .before .before .before .before .before .if1 .left)) refl (put-written (c .before .before .before .before .before .before .before .before .before .before .record-in .result .what) (now (a .values)) (now (a .room)) (c .before .before .before .before .before .write .ensures) (c .before .enum-told .given .1) (c .plain2 .ensures))
+returns-3 c = let a = c .before .before .before .before .before .before .before .before .before .before .before .before .before .args in write-is (now (a .said)) (now (a .values)) (now (a .room)) (c .before .before .before .before .before .before .before .before .before .record-in .result .what) (c .before .before .before .before .before .before .before .before .before .record-in .ensures) (not-false _ (c .before .before .before .before .before .before .before .if1 .left)) refl (put-written (c .before .before .before .before .before .before .before .before .before .record-in .result .what) (now (a .values)) (now (a .room)) (c .before .before .before .before .before .write .ensures) (c .before .enum-told .given .1) (c .plain2 .ensures))
 
 same-length-3 : tie.Need-same-length-3
 same-length-3 c = search needs
 
 returns-4 : tie.Need-returns-4
-returns-4 c = let a = c .before .before .before .before .before .before .before .before .before .before .before .before .before .before .args in write-is (now (a .said)) (now (a .values)) (now (a .room)) (c .before .before .before .before .before .before .before .before .before .before .record-in .result .what) (c .before .before .before .before .before .before .before .before .before .before .record-in .ensures) (not-false _ (c .before .before .before .before .before .before .before .before .if1 .left)) refl (put-written (c .before .before .before .before .before .before .before .before .before .before .record-in .result .what) (now (a .values)) (now (a .room)) (c .before .before .before .before .before .write .ensures) (c .before .enum-told2 .given .1) (c .plain3 .ensures))
+returns-4 c = let a = c .before .before .before .before .before .before .before .before .before .before .before .before .before .args in write-is (now (a .said)) (now (a .values)) (now (a .room)) (c .before .before .before .before .before .before .before .before .before .record-in .result .what) (c .before .before .before .before .before .before .before .before .before .record-in .ensures) (not-false _ (c .before .before .before .before .before .before .before .if1 .left)) refl (put-written (c .before .before .before .before .before .before .before .before .before .record-in .result .what) (now (a .values)) (now (a .room)) (c .before .before .before .before .before .write .ensures) (c .before .enum-told2 .given .1) (c .plain3 .ensures))
 
 pub m3ap-write-spec : {M : Type 1} → statement M
 m3ap-write-spec =
@@ -64,7 +64,7 @@ m3ap-write-spec =
     returns
     write-requires
     enum-known-n
-    cast-t12
+    cast-t11
     enum-told
     plain-requires-2
     enum-told-2

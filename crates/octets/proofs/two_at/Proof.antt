@@ -1,13 +1,12 @@
 -- `octets::two_at` meets its contract. Each return is the case of the definition that the tests on the way single out. Assumes nothing.
-use lib.ListN.{getD, length}
+use lib.ListN.{length}
 use borrow.Author.Tests.{lt-ltb, le-ltb}
 use native.Mathlib.Omega.{arith}
 use Prim.Native.Nat.{_+_, ℕ}
 use denote.Ref.{now}
-use mathlib.Core.Path.{ap, _∙_}
+use mathlib.Core.Path.{ap}
 use Rattle.octets.specs.Read.{got}
 use Rattle.octets.specs.Field.{numberAt}
-use Rattle.packed.proofs.Packed.{two-octets}
 use borrow.Author.Needs.{needs}
 use Rattle.octets.proofs.two_at.Statement.{statement}
 use Rattle.octets.proofs.two_at.Tie as tie
@@ -29,26 +28,22 @@ returns-2 : tie.Need-returns-2
 unfolding numberAt
 returns-2 c = let a = c .before .before .before .before .args in simp (lt-ltb (length (now (a .s))) (a .at + 2) (omega arith), c .cut-short2 .ensures)
 
-shared-slice-read-wide16 : tie.Need-shared-slice-read-wide16
-shared-slice-read-wide16 c = search needs
+shared-slice-read-two : tie.Need-shared-slice-read-two
+shared-slice-read-two c = search needs
 
-wide16-requires : tie.Need-wide16-requires
-wide16-requires c κs = search needs
+add-two : tie.Need-add-two
+add-two c = search needs
 
-add-wide16 : tie.Need-add-wide16
-add-wide16 c = search needs
+shared-slice-read-two-2 : tie.Need-shared-slice-read-two-2
+shared-slice-read-two-2 c = search needs
 
-shared-slice-read-wide16-2 : tie.Need-shared-slice-read-wide16-2
-shared-slice-read-wide16-2 c = search needs
-
-wide16-requires-2 : tie.Need-wide16-requires-2
-wide16-requires-2 c κs = search needs
+two-requires : tie.Need-two-requires
+two-requires c κs = search needs
 
 returns-3 : tie.Need-returns-3
 unfolding numberAt
-returns-3 c = let a = c .before .before .before .before .before .before .before .args in
-    rw (le-ltb (length (now (a .s))) (a .at + 2) (omega arith), c .before .before .wide16 .ensures, c .wide162 .ensures)
-    (ap (λ (n : ℕ). got n) (two-octets 16 (getD (now (a .s)) (a .at) 0) (getD (now (a .s)) (a .at + 1) 0) (omega (arith, c .before .before .before .shared-slice-known2 .given (a .at) .fits)) (c .before .shared-slice-known3 .given (a .at + 1) .fits) ∙ omega arith))
+returns-3 c = let a = c .before .before .before .before .before .before .args in
+    rw (le-ltb (length (now (a .s))) (a .at + 2) (omega arith), c .two .ensures) (ap (λ (n : ℕ). got n) (omega arith))
 
 pub two-at-spec : {M : Type 1} → statement M
 two-at-spec =
@@ -59,9 +54,8 @@ two-at-spec =
     sub-if2
     cut-short-requires-2
     returns-2
-    shared-slice-read-wide16
-    wide16-requires
-    add-wide16
-    shared-slice-read-wide16-2
-    wide16-requires-2
+    shared-slice-read-two
+    add-two
+    shared-slice-read-two-2
+    two-requires
     returns-3)

@@ -1,5 +1,5 @@
--- Two octets, one, or none; an octet is under 256, so that the two fit.
-use Prim.Native.Nat.{_+_}
+-- Two octets, one, or none.
+use mathlib.Core.Path.{_∙_}
 use native.Mathlib.Omega.{arith}
 use Rattle.said_rows.proofs.Reading.{two-missing, one-missing}
 use borrow.Author.Needs.{needs}
@@ -7,46 +7,34 @@ use Rattle.said_rows.proofs.two_at.Statement.{statement}
 use Rattle.said_rows.proofs.two_at.Tie as tie
 
 returns : tie.Need-returns
-returns c = two-missing (c .before .args .s .now) (c .before .args .at) (c .if1 .taken)
+returns c = two-missing (c .before .before .args .s .now) (c .before .before .args .at) (c .if1 .taken)
 
 sub-if2 : tie.Need-sub-if2
 sub-if2 c = search needs
 
-shared-slice-read-result : tie.Need-shared-slice-read-result
-shared-slice-read-result c = search needs
+shared-slice-read-two : tie.Need-shared-slice-read-two
+shared-slice-read-two c = search needs
 
-cast-result : tie.Need-cast-result
-cast-result c = omega (arith, c .shared-slice-known .given (c .before .before .before .args .at))
-
-mul-result : tie.Need-mul-result
-mul-result c = omega (arith, c .shared-slice-known .given (c .before .before .before .args .at))
+two-requires : tie.Need-two-requires
+two-requires c κs = search needs
 
 returns-2 : tie.Need-returns-2
-returns-2 c = one-missing (c .before .before .before .args .s .now) (c .before .before .before .args .at) (omega arith)
+returns-2 c = let a = c .before .before .before .before .before .args in c .two .ensures ∙ (omega arith ∙ one-missing (a .s .now) (a .at) (omega arith))
 
-shared-slice-read-result-2 : tie.Need-shared-slice-read-result-2
-shared-slice-read-result-2 c = search needs
+shared-slice-read-two-2 : tie.Need-shared-slice-read-two-2
+shared-slice-read-two-2 c = search needs
 
-cast-result-2 : tie.Need-cast-result-2
-cast-result-2 c = omega (arith, c .shared-slice-known2 .given (c .before .before .before .args .at))
+add-two : tie.Need-add-two
+add-two c = search needs
 
-mul-result-2 : tie.Need-mul-result-2
-mul-result-2 c = omega (arith, c .shared-slice-known2 .given (c .before .before .before .args .at))
+shared-slice-read-two-3 : tie.Need-shared-slice-read-two-3
+shared-slice-read-two-3 c = search needs
 
-add-result : tie.Need-add-result
-add-result c = search needs
-
-shared-slice-read-result-3 : tie.Need-shared-slice-read-result-3
-shared-slice-read-result-3 c = search needs
-
-cast-result-3 : tie.Need-cast-result-3
-cast-result-3 c = omega (arith, c .shared-slice-known3 .given (c .before .before .before .before .args .at + 1))
-
-add-result-2 : tie.Need-add-result-2
-add-result-2 c = omega (arith, c .before .shared-slice-known2 .given (c .before .before .before .before .args .at), c .shared-slice-known3 .given (c .before .before .before .before .args .at + 1))
+two-requires-2 : tie.Need-two-requires-2
+two-requires-2 c κs = search needs
 
 returns-3 : tie.Need-returns-3
-returns-3 c = search needs
+returns-3 c = c .two2 .ensures ∙ omega arith
 
 pub two-at-spec : {M : Type 1} → statement M
 two-at-spec =
@@ -54,15 +42,11 @@ two-at-spec =
     (tie.spec
     returns
     sub-if2
-    shared-slice-read-result
-    cast-result
-    mul-result
+    shared-slice-read-two
+    two-requires
     returns-2
-    shared-slice-read-result-2
-    cast-result-2
-    mul-result-2
-    add-result
-    shared-slice-read-result-3
-    cast-result-3
-    add-result-2
+    shared-slice-read-two-2
+    add-two
+    shared-slice-read-two-3
+    two-requires-2
     returns-3)
