@@ -1,5 +1,4 @@
--- What is decided about a judged message: 01's rules on the table, and the replies.
-use mathlib.Core.List.{[]}
+-- 01's rules: what is decided about what a message asks for, by what is held of its identities.
 use Rattle.lists.specs.Lists.{pick}
 use Rattle.identity.specs.declared.MmeId.{MmeId}
 use Rattle.identity.specs.declared.MceId.{MceId}
@@ -8,25 +7,18 @@ use Rattle.identity.specs.declared.Mce.the-variants as mce
 use Rattle.identity.specs.declared.Session.{Session}
 use Rattle.identity.specs.declared.Tmgi.{Tmgi}
 use Rattle.identity.specs.declared.Item.{Item}
-use Rattle.identity.specs.declared.Items.{Items}
-use Rattle.identity.specs.Items.{emptyItem, listed}
+use Rattle.identity.specs.Items.{emptyItem}
 use Rattle.values.specs.declared.Cause.{Cause}
-use Rattle.entries.specs.declared.Entries.{Entries}
-use Rattle.records.specs.declared.MaybeTmgi.the-variants as tmgi
-use Rattle.records.specs.declared.MaybeReset.the-variants as reset
-use Rattle.records.specs.declared.Record.{Record}
-use Rattle.messages.specs.declared.Frame.{Frame}
-use Rattle.messages.specs.declared.Outcome.{Outcome}
-use Rattle.messages.specs.declared.Outcome.the-variants as outcome
+use Rattle.row_values.specs.declared.MaybeTmgi.the-variants as tmgi
+use Rattle.row_values.specs.declared.MaybeReset.the-variants as reset
+use Rattle.opened.specs.declared.Outcome.{Outcome}
+use Rattle.opened.specs.declared.Outcome.the-variants as outcome
 use Rattle.table.specs.declared.Standing.{Standing}
-use Rattle.table.specs.Table.{State, without, starting, stopping, standing}
 use Rattle.replies.specs.declared.Reply.{Reply}
 use Rattle.replies.specs.declared.Reply.the-variants as reply
-use Rattle.replies.specs.Replies.{mmeTaken, noResources, abstractSyntax, falselyConstructed, replied}
+use Rattle.replies.specs.Replies.{mmeTaken, noResources, abstractSyntax, falselyConstructed}
 use Rattle.requests.specs.declared.Request.{Request}
 use Rattle.requests.specs.declared.Request.the-variants as request
-use Rattle.requests.specs.Requests.{requestOf}
-use Rattle.judge.specs.Judge.{Judged}
 use Rattle.carry.specs.declared.Answer.{Answer}
 use Rattle.carry.specs.declared.Answer.the-variants as answer
 use Rattle.carry.specs.declared.Change.{Change}
@@ -40,8 +32,6 @@ asked c (request.Stop x y) = record { mme = x; mce = y }
 asked c (request.Reset x) = emptyItem
 asked c request.Indication = emptyItem
 asked c request.None = emptyItem
-
--- ---- the rules: what becomes of the table, and the reply
 
 abbrev deciding : Change → Reply → Decision
 deciding x r = record { change = x; reply = r }
@@ -100,28 +90,3 @@ module _ (k : Standing) where
     decision q outcome.NotAmong = stays answer.NoRequest reply.None
     decision q (outcome.Misplaced p) = rejected q falselyConstructed
     decision q outcome.Rejected = rejected q abstractSyntax
-
--- ---- what a decision means, on what is held
-
--- the table stays: the answer, and the reply; or it changes: what it then holds, and the reply. A reply of no record is none
-pub data Decided : Type 0 where
-  keeps : Answer → Record → Decided
-  changes : State → Record → Decided
-
--- with the items received
-abbrev pub changed : State → Items → Record → Change → Decided
-changed l items r (change.Stays a) = keeps a r
-changed l items r (change.Starts a) = changes (starting a l) r
-changed l items r (change.Stops m c) = changes (stopping m c l) r
-changed l items r change.Empties = changes [] r
-changed l items r change.Resets = changes (without (listed items) l) r
-
--- with the frame and the list of diagnostics
-abbrev pub applied : State → Frame → Items → Entries → Decision → Decided
-applied l f items noted d = changed l items (replied f items noted (d .reply)) (d .change)
-
-unfoldable pub decided : State → MceId → Judged → Decided
-decided l c j =
-    let v = j .verdict in
-    let q = requestOf (v .message .body) in
-    applied l (j .frame) (v .message .items) (v .noted) (decision (standing (asked c q) l) c q (v .outcome))

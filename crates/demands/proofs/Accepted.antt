@@ -14,6 +14,7 @@ use Rattle.lists.proofs.Tests.{on-pick, or-left, or-right}
 use Rattle.lists.proofs.Some.{some-append}
 use Rattle.octets.specs.Read.{Read, got, stop}
 use Rattle.octets.specs.declared.Span.{Span}
+use Rattle.octets.specs.Span.{noSpan, present}
 use Rattle.octets.proofs.Chain.{then-got, got-stop}
 use Rattle.octets.specs.Many.{Each}
 use Rattle.identity.specs.declared.MmeId.{MmeId}
@@ -26,30 +27,31 @@ use Rattle.identity.specs.declared.Mce.the-variants as mce
 use Rattle.values.specs.Values.{mmeAt, mceAt, tmgiAt}
 use Rattle.items.specs.Items.{ResetType, whole, part, resetAt}
 use Rattle.entries.specs.declared.Entry.{Entry}
-use Rattle.kinds.specs.declared.Kind.the-variants as kind
+use Rattle.rows.specs.declared.Kind.the-variants as kind
 use Rattle.kinds.specs.Kinds.{valueAt}
-use Rattle.envelopes.specs.declared.Row.{Row}
+use Rattle.rows.specs.declared.Row.{Row}
 use Rattle.envelopes.specs.declared.Head.{Head}
-use Rattle.envelopes.specs.Table.{find, known, kindOf, noRow}
+use Rattle.rows.specs.Table.{find, known, kindOf, noRow}
 use Rattle.envelopes.specs.Envelope.{scanAt, headsAt}
 use Rattle.elements.specs.Judge as elements
-use Rattle.elements.specs.Judge.{front, readInto, noSpan, present, ignored, unknownOf, missingEntry, missingOf}
+use Rattle.elements.specs.Judge.{front, readInto, ignored, unknownOf, missingEntry, missingOf}
 use Rattle.elements.proofs.WalkLaws.{read-rows}
 use Rattle.tables.specs.declared.Message.{Message}
 use Rattle.tables.specs.declared.Message.the-variants as message
 use Rattle.tables.specs.Tables.{tableOf}
-use Rattle.records.specs.declared.MaybeTmgi.{MaybeTmgi}
-use Rattle.records.specs.declared.MaybeTmgi.the-variants as tmgi
-use Rattle.records.specs.declared.MaybeReset.{MaybeReset}
-use Rattle.records.specs.declared.MaybeReset.the-variants as reset
+use Rattle.row_values.specs.declared.MaybeTmgi.{MaybeTmgi}
+use Rattle.row_values.specs.declared.MaybeTmgi.the-variants as tmgi
+use Rattle.row_values.specs.declared.MaybeReset.{MaybeReset}
+use Rattle.row_values.specs.declared.MaybeReset.the-variants as reset
 use Rattle.records.specs.declared.Body.{Body}
 use Rattle.records.specs.declared.Body.the-variants as body
-use Rattle.records.specs.Values.{orElse, within, mmeIn, mceIn, tmgiIn, resetOf, resetIn}
+use Rattle.row_values.specs.Values.{orElse, within, mmeIn, mceIn, tmgiIn, resetOf, resetIn}
 use Rattle.records.specs.Records.{rowIn, recordOf}
-use Rattle.messages.specs.declared.Outcome.{Outcome}
-use Rattle.messages.specs.declared.Outcome.the-variants as outcome
+use Rattle.opened.specs.declared.Outcome.{Outcome}
+use Rattle.opened.specs.declared.Outcome.the-variants as outcome
 use Rattle.messages.specs.declared.Verdict.{Verdict}
-use Rattle.messages.specs.Verdict.{outcomeBy, orStopped, insideOf}
+use Rattle.opened.specs.Opened.{outcomeBy}
+use Rattle.messages.specs.Verdict.{orStopped, insideOf}
 use Rattle.requests.specs.Requests.{asks}
 use Rattle.ties.proofs.Ordered.{Scanned, scanned}
 use Rattle.demands.proofs.Sound.{insideRead, inside-got, front-each}

@@ -17,7 +17,7 @@ use Rattle.identity.specs.declared.Items.{Items}
 use Rattle.identity.specs.Items.{emptyItem, listed}
 use Rattle.entries.specs.declared.Entries.{Entries}
 use Rattle.entries.specs.Entries.{entriesOf}
-use Rattle.messages.specs.declared.Frame.{Frame}
+use Rattle.frames.specs.declared.Frame.{Frame}
 use Rattle.messages.specs.Verdict.{readOf}
 use Rattle.said.specs.Said.{itemsSaid}
 use Rattle.replies.specs.declared.Reply.the-variants as reply

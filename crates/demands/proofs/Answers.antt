@@ -20,27 +20,28 @@ use Rattle.tables.specs.declared.Message.{Message}
 use Rattle.tables.specs.declared.Named.{Named}
 use Rattle.tables.specs.declared.Named.the-variants as named
 use Rattle.tables.specs.Tables.{namedBy}
-use Rattle.records.specs.declared.MaybeTmgi.{MaybeTmgi}
-use Rattle.records.specs.declared.MaybeTmgi.the-variants as tmgi
-use Rattle.records.specs.declared.MaybeReset.{MaybeReset}
-use Rattle.records.specs.declared.MaybeReset.the-variants as reset
+use Rattle.row_values.specs.declared.MaybeTmgi.{MaybeTmgi}
+use Rattle.row_values.specs.declared.MaybeTmgi.the-variants as tmgi
+use Rattle.row_values.specs.declared.MaybeReset.{MaybeReset}
+use Rattle.row_values.specs.declared.MaybeReset.the-variants as reset
 use Rattle.records.specs.declared.Start.{Start}
 use Rattle.records.specs.declared.Stopping.{Stopping}
 use Rattle.records.specs.declared.Resetting.{Resetting}
 use Rattle.records.specs.declared.Body.{Body}
 use Rattle.records.specs.declared.Body.the-variants as body
-use Rattle.messages.specs.declared.Frame.{Frame}
-use Rattle.messages.specs.declared.Outcome.{Outcome}
-use Rattle.messages.specs.declared.Outcome.the-variants as outcome
+use Rattle.frames.specs.declared.Frame.{Frame}
+use Rattle.opened.specs.declared.Outcome.{Outcome}
+use Rattle.opened.specs.declared.Outcome.the-variants as outcome
 use Rattle.messages.specs.declared.Verdict.{Verdict}
-use Rattle.messages.specs.Frame.{frameAt}
+use Rattle.frames.specs.Frame.{frameAt}
 use Rattle.messages.specs.Verdict.{without, insideOf}
 use Rattle.table.specs.Table.{State, full, holdsMme, holdsMce, holdsPair, standing}
 use Rattle.lent.specs.Lent.{Lent, Held, NoTable, readTable}
 use Rattle.requests.specs.Requests.{asks, requestOf}
 use Rattle.judge.specs.Judge.{Judged, noFrame, judgedBy, verdictBy, judgedIn, judgedOf}
 use Rattle.carry.specs.declared.Decision.{Decision}
-use Rattle.carry.specs.Carry.{Decided, started, stopped, decision, asked, applied, decided}
+use Rattle.carry.specs.Carry.{started, stopped, decision, asked}
+use Rattle.unit.specs.Decided.{Decided, applied, decided}
 use Rattle.answers.specs.Answers.{numbered}
 use Rattle.unit.specs.Unit.{answerOf, settledIf, fits, settled, onTable, call}
 use Rattle.demands.specs.Due.{firstDue, dueFor, due, fitsIn, AnswersAs}

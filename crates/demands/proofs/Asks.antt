@@ -13,18 +13,19 @@ use Rattle.identity.specs.declared.Mce.{Mce}
 use Rattle.identity.specs.declared.Mce.the-variants as mce
 use Rattle.identity.specs.declared.Tmgi.{Tmgi}
 use Rattle.identity.specs.Items.{listed}
-use Rattle.records.specs.declared.MaybeTmgi.{MaybeTmgi}
-use Rattle.records.specs.declared.MaybeTmgi.the-variants as tmgi
+use Rattle.row_values.specs.declared.MaybeTmgi.{MaybeTmgi}
+use Rattle.row_values.specs.declared.MaybeTmgi.the-variants as tmgi
 use Rattle.records.specs.declared.Start.{Start}
 use Rattle.records.specs.declared.Stopping.{Stopping}
 use Rattle.records.specs.declared.Body.the-variants as body
-use Rattle.messages.specs.declared.Outcome.{Outcome}
-use Rattle.messages.specs.declared.Outcome.the-variants as outcome
+use Rattle.opened.specs.declared.Outcome.{Outcome}
+use Rattle.opened.specs.declared.Outcome.the-variants as outcome
 use Rattle.table.specs.Table.{State, standing}
 use Rattle.lent.specs.Lent.{Lent, Held, NoTable, readTable}
 use Rattle.judge.specs.Judge.{Judged, judgedOf}
 use Rattle.requests.specs.declared.Request.the-variants as request
-use Rattle.carry.specs.Carry.{carriedOut, decided}
+use Rattle.carry.specs.Carry.{carriedOut}
+use Rattle.unit.specs.Decided.{decided}
 use Rattle.answers.specs.Answers.{numbered}
 use Rattle.unit.specs.Unit.{Call, onTable, call}
 use Rattle.demands.specs.Answered.{numberOf}

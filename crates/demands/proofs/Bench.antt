@@ -17,14 +17,14 @@ use Rattle.item.specs.Item.{marksAt, itemAt, itemElementAt}
 use Rattle.items.specs.Items.{itemsAt, resetAt}
 use Rattle.items.specs.Written.{itemOctets, itemElementOctets, itemsOctets}
 use Rattle.kinds.specs.Kinds.{valueAt}
-use Rattle.envelopes.specs.Table.{find}
+use Rattle.rows.specs.Table.{find}
 use Rattle.envelopes.specs.Envelope.{criticalityAt, envelopeAt, scanAt, headsAt}
 use Rattle.elements.specs.Judge as elements
 use Rattle.elements.specs.Judge.{front, readInto, unknownOf, missingOf, elementsAt}
 use Rattle.tables.specs.Tables.{tableOf, namedBy}
-use Rattle.records.specs.Values.{causeIn, resetIn}
+use Rattle.row_values.specs.Values.{causeIn, resetIn}
 use Rattle.records.specs.Records.{recordOf}
-use Rattle.messages.specs.Frame.{kindAt, frameAt, countAt}
+use Rattle.frames.specs.Frame.{kindAt, frameAt, countAt}
 use Rattle.messages.specs.Verdict.{insideOf}
 use Rattle.said.specs.Value.{hasOctets, octetsOf}
 use Rattle.said.specs.Said.{saidBy}
@@ -37,7 +37,7 @@ use Rattle.ties.specs.Examples.{partialReset}
 use Rattle.replies.specs.Replies.{listOnly, bodyOf, withIdentity, replied}
 use Rattle.judge.specs.Judge.{judgedOf}
 use Rattle.carry.specs.declared.Answer.the-variants as answer
-use Rattle.carry.specs.Carry.{decided}
+use Rattle.unit.specs.Decided.{decided}
 use Rattle.unit.specs.Unit.{replyOctets, replyOf, answerOf, tableAfter, fits, settled}
 use Rattle.demands.specs.Occur.{offer, pair, whole, emptyReset, Does, BenchCalls, Demand2}
 use Rattle.demands.proofs.Decisions.{none-good}

@@ -23,8 +23,8 @@ use Rattle.values.specs.Written.{tmgiOctets, GoodCause}
 use Rattle.items.specs.Items.{part}
 use Rattle.items.specs.Written.{reject, itemsOctets, resetOctets, GoodItems}
 use Rattle.put_values.proofs.Put.{list-small}
-use Rattle.kinds.specs.declared.Kind.the-variants as kind
-use Rattle.envelopes.specs.declared.Row.{Row}
+use Rattle.rows.specs.declared.Kind.the-variants as kind
+use Rattle.rows.specs.declared.Row.{Row}
 use Rattle.tables.specs.declared.Message.{Message}
 use Rattle.tables.specs.declared.Message.the-variants as message
 use Rattle.tables.specs.declared.Named.the-variants as named

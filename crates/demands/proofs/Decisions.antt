@@ -26,13 +26,13 @@ use Rattle.entries.specs.declared.Entry.{Entry}
 use Rattle.entries.specs.declared.Entries.{Entries}
 use Rattle.entries.specs.Entries.{entriesOf}
 use Rattle.tables.specs.declared.Message.{Message}
-use Rattle.records.specs.declared.MaybeTmgi.the-variants as tmgi
-use Rattle.records.specs.declared.MaybeReset.the-variants as reset
+use Rattle.row_values.specs.declared.MaybeTmgi.the-variants as tmgi
+use Rattle.row_values.specs.declared.MaybeReset.the-variants as reset
 use Rattle.records.specs.declared.Record.{Record}
 use Rattle.records.specs.Records.{noRecord}
-use Rattle.messages.specs.declared.Frame.{Frame}
-use Rattle.messages.specs.declared.Outcome.{Outcome}
-use Rattle.messages.specs.declared.Outcome.the-variants as outcome
+use Rattle.frames.specs.declared.Frame.{Frame}
+use Rattle.opened.specs.declared.Outcome.{Outcome}
+use Rattle.opened.specs.declared.Outcome.the-variants as outcome
 use Rattle.said.specs.Value.{Given}
 use Rattle.table.specs.declared.Association.{Association}
 use Rattle.table.specs.declared.Standing.{Standing}
@@ -49,7 +49,8 @@ use Rattle.requests.specs.Requests.{requestOf}
 use Rattle.carry.specs.declared.Change.{Change}
 use Rattle.carry.specs.declared.Change.the-variants as change
 use Rattle.carry.specs.declared.Decision.{Decision}
-use Rattle.carry.specs.Carry.{Decided, keeps, changes, rejection, started, stopped, carriedOut, decision, asked, changed, applied, decided}
+use Rattle.carry.specs.Carry.{rejection, started, stopped, carriedOut, decision, asked}
+use Rattle.unit.specs.Decided.{Decided, keeps, changes, changed, applied, decided}
 use Rattle.demands.proofs.Taken.{Written}
 use Rattle.demands.proofs.Written.{GoodEntries, GoodFrame, GoodMme, GoodMce, GoodList, start-response-written, stop-response-written, start-failure-written, whole-written, part-written, rejection-written, pair-not-held-written}
 use Rattle.demands.proofs.Sound.{GoodRequest, Sound}

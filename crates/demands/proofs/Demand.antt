@@ -11,7 +11,7 @@ use Rattle.ties.specs.Ties.{ReadAs}
 use Rattle.table.specs.Table.{State}
 use Rattle.lent.specs.Lent.{Lent, Held, NoTable, readTable}
 use Rattle.judge.specs.Judge.{judgedOf}
-use Rattle.carry.specs.Carry.{Decided, keeps, changes, decided}
+use Rattle.unit.specs.Decided.{Decided, keeps, changes, decided}
 use Rattle.unit.specs.Unit.{Call, replyOctets, settledIf, fits, settled, onTable, call}
 use Rattle.demands.specs.Answered.{Handed, ReadsBack, replyIn, decidedOn, Demand1}
 use Rattle.demands.proofs.Settle.{answered, none-said}

@@ -23,7 +23,8 @@ use Rattle.replies.specs.declared.Reply.the-variants as reply
 use Rattle.replies.specs.Replies.{replied}
 use Rattle.judge.specs.Judge.{Judged, judgedOf}
 use Rattle.carry.specs.declared.Decision.{Decision}
-use Rattle.carry.specs.Carry.{Decided, changes, started, stopped, applied, decided}
+use Rattle.carry.specs.Carry.{started, stopped}
+use Rattle.unit.specs.Decided.{Decided, changes, applied, decided}
 use Rattle.answers.specs.Answers.{numbered}
 use Rattle.unit.specs.Unit.{Call, Back, call, settled, settledIf, fits, replyOf, answerOf, tableAfter}
 use Rattle.demands.specs.Answered.{numberOf}

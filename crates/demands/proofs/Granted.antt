@@ -19,7 +19,7 @@ use Rattle.said.specs.Written.{elementsGood, isWritten, encoded}
 use Rattle.table.specs.Table.{State}
 use Rattle.lent.specs.Lent.{Held, readTable}
 use Rattle.judge.specs.Judge.{judgedOf}
-use Rattle.carry.specs.Carry.{Decided, keeps, changes, decided}
+use Rattle.unit.specs.Decided.{Decided, keeps, changes, decided}
 use Rattle.unit.specs.Unit.{Call, replyOctets, replyOf}
 use Rattle.demands.specs.Answered.{numberOf}
 use Rattle.demands.proofs.Done.{number, fitting}

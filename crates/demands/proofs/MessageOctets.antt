@@ -25,7 +25,7 @@ use Rattle.item.specs.declared.Maybe.{Maybe}
 use Rattle.item.specs.declared.Maybe.the-variants as maybe
 use Rattle.items.specs.Items.{part}
 use Rattle.items.specs.Written.{mmeIn, mceIn, isThere, maybeOctets, itemOctets, itemElementOctets, itemsOctets, reject, resetOctets}
-use Rattle.envelopes.specs.declared.Row.{Row}
+use Rattle.rows.specs.declared.Row.{Row}
 use Rattle.tables.specs.declared.Code.{Code}
 use Rattle.tables.specs.declared.Message.{Message}
 use Rattle.tables.specs.declared.Message.the-variants as message

@@ -19,17 +19,17 @@ use Rattle.identity.specs.declared.MceId.{MceId}
 use Rattle.values.specs.Values.{mmeAt, mceAt, tmgiAt}
 use Rattle.items.specs.Items.{resetAt}
 use Rattle.kinds.specs.Kinds.{valueAt}
-use Rattle.envelopes.specs.Table.{find}
+use Rattle.rows.specs.Table.{find}
 use Rattle.envelopes.specs.Envelope.{criticalityAt, envelopeAt, scanAt, headsAt}
 use Rattle.elements.specs.Judge as elements
 use Rattle.elements.specs.Judge.{front, readInto, unknownOf, missingOf, elementsAt}
 use Rattle.tables.specs.Tables.{tableOf, namedBy}
 use Rattle.records.specs.declared.Record.{Record}
-use Rattle.records.specs.Values.{mmeIn, mceIn, tmgiIn, resetIn}
+use Rattle.row_values.specs.Values.{mmeIn, mceIn, tmgiIn, resetIn}
 use Rattle.records.specs.Records.{noItems, recordOf}
 use Rattle.entries.specs.Entries.{noEntries}
-use Rattle.messages.specs.Frame.{kindAt, frameAt, countAt}
-use Rattle.messages.specs.declared.Outcome.the-variants as outcome
+use Rattle.frames.specs.Frame.{kindAt, frameAt, countAt}
+use Rattle.opened.specs.declared.Outcome.the-variants as outcome
 use Rattle.messages.specs.Verdict.{without, insideOf}
 use Rattle.said.specs.Said.{saidBy}
 use Rattle.said.specs.Octets.{elementsOctets, present, insideOctets, messageOctets}
@@ -43,7 +43,8 @@ use Rattle.replies.specs.Replies.{listOnly, bodyOf, withIdentity, replied}
 use Rattle.judge.specs.Judge.{Judged, noFrame, judgedBy, judgedOf}
 use Rattle.carry.specs.declared.Answer.{Answer}
 use Rattle.carry.specs.declared.Answer.the-variants as answer
-use Rattle.carry.specs.Carry.{Decided, keeps, changes, started, stopped, decided}
+use Rattle.carry.specs.Carry.{started, stopped}
+use Rattle.unit.specs.Decided.{Decided, keeps, changes, decided}
 use Rattle.answers.specs.Answers.{numbered}
 use Rattle.unit.specs.Unit.{Back, replyOctets, replyOf, answerOf, fits, settled, onTable, call}
 use Rattle.demands.specs.Occur.{offer, Gives, pair, many, start, stop, whole, error, numberOf, EveryAnswer}

@@ -8,7 +8,7 @@ use Rattle.lists.proofs.Tests.{or-left}
 use Rattle.identity.specs.declared.MceId.{MceId}
 use Rattle.identity.specs.declared.Item.{Item}
 use Rattle.identity.specs.declared.Mme.the-variants as mme
-use Rattle.records.specs.declared.MaybeTmgi.the-variants as tmgi
+use Rattle.row_values.specs.declared.MaybeTmgi.the-variants as tmgi
 use Rattle.records.specs.declared.Body.the-variants as body
 use Rattle.records.specs.declared.Record.{Record}
 use Rattle.table.specs.declared.Association.{Association}
@@ -18,7 +18,7 @@ use Rattle.lent.specs.Lent.{Held, readTable, tableOctets, Good}
 use Rattle.lent.proofs.OneForm.{one-form}
 use Rattle.replies.specs.declared.Reply.the-variants as reply
 use Rattle.judge.specs.Judge.{Judged, judgedOf}
-use Rattle.carry.specs.Carry.{Decided, changes, decided}
+use Rattle.unit.specs.Decided.{Decided, changes, decided}
 use Rattle.unit.specs.Unit.{Call, call}
 use Rattle.demands.specs.Words.{PartialReset, Asked, start, stop, run}
 use Rattle.demands.specs.Resets.{Neighbours, SameEnds, ChangingPlaces}

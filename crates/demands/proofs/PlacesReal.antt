@@ -33,7 +33,8 @@ use Rattle.lent.specs.Lent.{Held, readTable, valueOf, rowOctets, InRange, Good}
 use Rattle.lent.proofs.OneForm.{one-form}
 use Rattle.replies.specs.declared.Reply.the-variants as reply
 use Rattle.judge.specs.Judge.{Judged, judgedOf}
-use Rattle.carry.specs.Carry.{changes, started, stopped, decided}
+use Rattle.carry.specs.Carry.{started, stopped}
+use Rattle.unit.specs.Decided.{changes, decided}
 use Rattle.unit.specs.Unit.{Call, call}
 use Rattle.demands.specs.Words.{Lent, start, stop, someNamed, Accepted}
 use Rattle.demands.specs.Resets.{SomeNeighbours, ChangingPlacesIsReal}

@@ -21,11 +21,11 @@ use Rattle.items.specs.Written.{GoodItems, GoodReset}
 use Rattle.items.proofs.Good.{reset-good}
 use Rattle.tables.specs.declared.Message.{Message}
 use Rattle.tables.specs.declared.Message.the-variants as message
-use Rattle.records.specs.declared.MaybeReset.{MaybeReset}
-use Rattle.records.specs.declared.MaybeReset.the-variants as reset
+use Rattle.row_values.specs.declared.MaybeReset.{MaybeReset}
+use Rattle.row_values.specs.declared.MaybeReset.the-variants as reset
 use Rattle.records.specs.declared.Body.{Body}
 use Rattle.records.specs.declared.Body.the-variants as body
-use Rattle.records.specs.Values.{within, resetOf, resetIn}
+use Rattle.row_values.specs.Values.{within, resetOf, resetIn}
 use Rattle.records.specs.Records.{rowIn, recordOf}
 use Rattle.judge.specs.Judge.{judgedOf}
 use Rattle.table.specs.Table.{State, without}

@@ -18,12 +18,12 @@ use Rattle.identity.specs.declared.Session.{Session}
 use Rattle.identity.specs.declared.Tmgi.{Tmgi}
 use Rattle.identity.specs.declared.Items.{Items}
 use Rattle.entries.specs.declared.Entries.{Entries}
-use Rattle.records.specs.declared.MaybeTmgi.the-variants as tmgi
-use Rattle.records.specs.declared.MaybeReset.the-variants as reset
+use Rattle.row_values.specs.declared.MaybeTmgi.the-variants as tmgi
+use Rattle.row_values.specs.declared.MaybeReset.the-variants as reset
 use Rattle.records.specs.Records.{noRecord}
-use Rattle.messages.specs.declared.Frame.{Frame}
-use Rattle.messages.specs.declared.Outcome.{Outcome}
-use Rattle.messages.specs.declared.Outcome.the-variants as outcome
+use Rattle.frames.specs.declared.Frame.{Frame}
+use Rattle.opened.specs.declared.Outcome.{Outcome}
+use Rattle.opened.specs.declared.Outcome.the-variants as outcome
 use Rattle.said.specs.Said.{saidBy}
 use Rattle.said.specs.Written.{encoded}
 use Rattle.table.specs.declared.Standing.{Standing}
@@ -38,7 +38,8 @@ use Rattle.requests.specs.declared.Request.{Request}
 use Rattle.requests.specs.declared.Request.the-variants as request
 use Rattle.requests.specs.Requests.{requestOf}
 use Rattle.carry.specs.declared.Decision.{Decision}
-use Rattle.carry.specs.Carry.{Decided, keeps, changes, started, stopped, carriedOut, decision, asked, applied, decided}
+use Rattle.carry.specs.Carry.{started, stopped, carriedOut, decision, asked}
+use Rattle.unit.specs.Decided.{Decided, keeps, changes, applied, decided}
 use Rattle.answers.specs.Answers.{numbered}
 use Rattle.unit.specs.Unit.{Call, Back, replyOctets, replyOf, answerOf, settledIf, fits, settled, onTable, call}
 use Rattle.demands.specs.Answered.{isAmong, numbers, silentNumbers, Answered}

@@ -12,6 +12,7 @@ use Rattle.octets.specs.Read.{Read, got, stop, _>>=_}
 use Rattle.octets.specs.Field.{plainAt, choiceAt, padAt, numberAt, openAt, endsAt}
 use Rattle.octets.specs.Stands.{Octets}
 use Rattle.octets.specs.declared.Span.{Span}
+use Rattle.octets.specs.Span.{present}
 use Rattle.octets.proofs.Chain.{then-got, same-got}
 use Rattle.octets.proofs.Got.{number-got, choice-got}
 use Rattle.octets.proofs.Again.{value-below}
@@ -31,9 +32,9 @@ use Rattle.items.proofs.Good.{items-good, reset-good}
 use Rattle.entries.specs.declared.Entry.{Entry}
 use Rattle.entries.specs.Entries.{entriesOf}
 use Rattle.diagnostics.specs.Written.{GoodEntry}
-use Rattle.envelopes.specs.declared.Row.{Row}
+use Rattle.rows.specs.declared.Row.{Row}
 use Rattle.envelopes.specs.declared.Head.{Head}
-use Rattle.envelopes.specs.Table.{find, known}
+use Rattle.rows.specs.Table.{find, known}
 use Rattle.envelopes.specs.Envelope.{criticalityAt, envelopeAt, scanAt, onHead, headsAt}
 use Rattle.elements.specs.Judge as elements
 use Rattle.elements.specs.Judge.{Found, front, ignored, unknownEntry, unknownOf, missingEntry, missingOf, elementsAt}
@@ -43,13 +44,13 @@ use Rattle.tables.specs.declared.Named.{Named}
 use Rattle.tables.specs.declared.Named.the-variants as named
 use Rattle.tables.specs.Tables.{tableOf, namedBy}
 use Rattle.records.specs.declared.Body.{Body}
-use Rattle.records.specs.Values.{orElse, within, mmeIn, mceIn, resetOf, resetIn, listedBy, listIn}
+use Rattle.row_values.specs.Values.{orElse, within, mmeIn, mceIn, resetOf, resetIn, listedBy, listIn}
 use Rattle.records.specs.Records.{rowIn, recordOf}
-use Rattle.messages.specs.declared.Frame.{Frame}
-use Rattle.messages.specs.declared.Outcome.{Outcome}
-use Rattle.messages.specs.declared.Outcome.the-variants as outcome
+use Rattle.frames.specs.declared.Frame.{Frame}
+use Rattle.opened.specs.declared.Outcome.{Outcome}
+use Rattle.opened.specs.declared.Outcome.the-variants as outcome
 use Rattle.messages.specs.declared.Verdict.{Verdict}
-use Rattle.messages.specs.Frame.{kindAt, frameAt, countAt}
+use Rattle.frames.specs.Frame.{kindAt, frameAt, countAt}
 use Rattle.messages.specs.Verdict.{without, verdictOf, orStopped, insideOf}
 use Rattle.ties.proofs.Each.{each-append}
 use Rattle.judge.specs.Judge.{Judged, noFrame, verdictBy, judgedIn, judgedOf}
@@ -168,7 +169,7 @@ missing-good [] l g = tt
 missing-good (r ∷ t) [] g = tt
 missing-good (r ∷ t) (v ∷ l) g =
     each-append GoodEntry (missingEntry r v) (missingOf t l)
-    (on-pick (Each GoodEntry) (elements.present v) tt
+    (on-pick (Each GoodEntry) (present v) tt
     (on-pick (Each GoodEntry) (r .mandatory)
     (on-pick (Each GoodEntry) (ignored (r .crit)) tt (record { crit = g .0 .crit; id = g .0 .id; error = omega arith }, tt)) tt))
     (missing-good t l (g .1))

@@ -14,7 +14,7 @@ use Rattle.lent.specs.Lent.{Held, readTable, tableOctets}
 use Rattle.lent.proofs.Rows.{value-back}
 use Rattle.lent.proofs.OneForm.{one-form}
 use Rattle.judge.specs.Judge.{judgedOf}
-use Rattle.carry.specs.Carry.{Decided, keeps, changes, decided}
+use Rattle.unit.specs.Decided.{Decided, keeps, changes, decided}
 use Rattle.unit.specs.Unit.{Call, Back, settledIf, fits, settled, onTable, call}
 use Rattle.demands.specs.Answered.{Handed, TableOut}
 use Rattle.demands.proofs.Sound.{judged-sound}

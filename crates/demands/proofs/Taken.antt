@@ -12,7 +12,7 @@ use Rattle.lists.proofs.Tests.{on-pick}
 use Rattle.packed.specs.Packed.{_bits_, packed}
 use Rattle.octets.specs.Write.{numberOctets, lengthOctets}
 use Rattle.octets.proofs.Back.{length-number}
-use Rattle.envelopes.specs.declared.Row.{Row}
+use Rattle.rows.specs.declared.Row.{Row}
 use Rattle.tables.specs.declared.Message.{Message}
 use Rattle.tables.specs.declared.Named.the-variants as named
 use Rattle.tables.specs.Tables.{tableOf}

@@ -21,13 +21,13 @@ use Rattle.tables.specs.declared.Message.the-variants as message
 use Rattle.tables.specs.declared.Named.{Named}
 use Rattle.tables.specs.declared.Named.the-variants as named
 use Rattle.tables.specs.Tables.{tableOf, namedBy}
-use Rattle.records.specs.Values.{within, resetOf, resetIn, listedBy, listIn}
+use Rattle.row_values.specs.Values.{within, resetOf, resetIn, listedBy, listIn}
 use Rattle.records.specs.Records.{rowIn, recordOf}
-use Rattle.messages.specs.declared.Frame.{Frame}
-use Rattle.messages.specs.declared.Outcome.{Outcome}
-use Rattle.messages.specs.declared.Outcome.the-variants as outcome
+use Rattle.frames.specs.declared.Frame.{Frame}
+use Rattle.opened.specs.declared.Outcome.{Outcome}
+use Rattle.opened.specs.declared.Outcome.the-variants as outcome
 use Rattle.messages.specs.declared.Verdict.{Verdict}
-use Rattle.messages.specs.Frame.{frameAt, countAt}
+use Rattle.frames.specs.Frame.{frameAt, countAt}
 use Rattle.messages.specs.Verdict.{without, verdictOf, orStopped, insideOf, ofEight, framed, readOf}
 use Rattle.requests.specs.Requests.{asks}
 use Rattle.judge.specs.Judge.{Judged, noFrame, judgedBy, verdictBy, judgedIn, judgedOf}

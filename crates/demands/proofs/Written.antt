@@ -34,14 +34,14 @@ use Rattle.entries.specs.Entries.{emptyEntry, entriesOf}
 use Rattle.diagnostics.specs.Written.{headOctets, listOctets, diagnosticsOctets, GoodEntry, GoodHead, Good}
 use Rattle.put_values.proofs.Put.{list-small}
 use Rattle.put_diagnostics.proofs.Sizes.{head-small, list-size}
-use Rattle.kinds.specs.declared.Kind.the-variants as kind
-use Rattle.envelopes.specs.declared.Row.{Row}
+use Rattle.rows.specs.declared.Kind.the-variants as kind
+use Rattle.rows.specs.declared.Row.{Row}
 use Rattle.tables.specs.declared.Message.the-variants as message
 use Rattle.tables.specs.Tables.{tableOf}
-use Rattle.records.specs.declared.MaybeDiagnostics.{MaybeDiagnostics}
-use Rattle.records.specs.declared.MaybeDiagnostics.the-variants as diagnosed
+use Rattle.row_values.specs.declared.MaybeDiagnostics.{MaybeDiagnostics}
+use Rattle.row_values.specs.declared.MaybeDiagnostics.the-variants as diagnosed
 use Rattle.records.specs.declared.Record.{Record}
-use Rattle.messages.specs.declared.Frame.{Frame}
+use Rattle.frames.specs.declared.Frame.{Frame}
 use Rattle.said.specs.Value as value
 use Rattle.said.specs.Value.{Given, given, absent, octetsOf, hasOctets}
 use Rattle.said.specs.Said.{saidBy, entriesSaid, givenMme, givenMce, givenList, givenDiagnostics}

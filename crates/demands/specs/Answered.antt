@@ -13,12 +13,12 @@ use Rattle.lent.specs.Lent.{Held, readTable}
 use Rattle.records.specs.declared.Record.{Record}
 use Rattle.records.specs.Records.{noRecord}
 use Rattle.entries.specs.Entries.{noEntries}
-use Rattle.messages.specs.declared.Outcome.the-variants as outcome
+use Rattle.opened.specs.declared.Outcome.the-variants as outcome
 use Rattle.messages.specs.Verdict.{readOf}
 use Rattle.said.specs.Said.{saidBy}
 use Rattle.ties.specs.Ties.{ReadAs}
 use Rattle.judge.specs.Judge.{judgedOf}
-use Rattle.carry.specs.Carry.{Decided, keeps, changes, decided}
+use Rattle.unit.specs.Decided.{Decided, keeps, changes, decided}
 use Rattle.answers.specs.Answers.{numbered}
 use Rattle.unit.specs.Unit.{Call, fits, call}
 

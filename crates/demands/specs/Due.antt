@@ -19,16 +19,16 @@ use Rattle.records.specs.declared.Body.the-variants as body
 use Rattle.tables.specs.declared.Named.{Named}
 use Rattle.tables.specs.declared.Named.the-variants as named
 use Rattle.tables.specs.Tables.{namedBy}
-use Rattle.messages.specs.declared.Frame.{Frame}
-use Rattle.messages.specs.declared.Outcome.{Outcome}
-use Rattle.messages.specs.declared.Outcome.the-variants as outcome
+use Rattle.frames.specs.declared.Frame.{Frame}
+use Rattle.opened.specs.declared.Outcome.{Outcome}
+use Rattle.opened.specs.declared.Outcome.the-variants as outcome
 use Rattle.messages.specs.declared.Verdict.{Verdict}
-use Rattle.messages.specs.Frame.{frameAt}
+use Rattle.frames.specs.Frame.{frameAt}
 use Rattle.table.specs.Table.{State, full, holdsMme, holdsMce, holdsPair}
 use Rattle.lent.specs.Lent.{Lent, Held, NoTable, readTable}
 use Rattle.requests.specs.Requests.{asks}
 use Rattle.judge.specs.Judge.{judgedOf}
-use Rattle.carry.specs.Carry.{decided}
+use Rattle.unit.specs.Decided.{decided}
 use Rattle.answers.specs.Answers.{numbered}
 use Rattle.unit.specs.Unit.{Call, fits, call}
 

@@ -16,7 +16,7 @@ use Rattle.identity.specs.declared.Session.{Session}
 use Rattle.values.specs.declared.Cause.{Cause}
 use Rattle.values.specs.Written.{GoodCause}
 use Rattle.items.specs.Written.{GoodItems}
-use Rattle.records.specs.declared.MaybeReset.the-variants as reset
+use Rattle.row_values.specs.declared.MaybeReset.the-variants as reset
 use Rattle.records.specs.declared.Start.{Start}
 use Rattle.records.specs.declared.Stopping.{Stopping}
 use Rattle.records.specs.declared.Resetting.{Resetting}

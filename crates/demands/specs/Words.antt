@@ -18,14 +18,14 @@ use Rattle.items.specs.Items.{part}
 use Rattle.tables.specs.declared.Message.the-variants as message
 use Rattle.said.specs.Value as value
 use Rattle.said.specs.Octets.{messageOctets}
-use Rattle.records.specs.declared.MaybeTmgi.the-variants as tmgi
-use Rattle.records.specs.declared.MaybeCause.{MaybeCause}
-use Rattle.records.specs.declared.MaybeReset.the-variants as reset
-use Rattle.records.specs.declared.MaybeDiagnostics.{MaybeDiagnostics}
-use Rattle.records.specs.declared.Carried.{Carried}
+use Rattle.row_values.specs.declared.MaybeTmgi.the-variants as tmgi
+use Rattle.row_values.specs.declared.MaybeCause.{MaybeCause}
+use Rattle.row_values.specs.declared.MaybeReset.the-variants as reset
+use Rattle.row_values.specs.declared.MaybeDiagnostics.{MaybeDiagnostics}
+use Rattle.row_values.specs.declared.Carried.{Carried}
 use Rattle.records.specs.declared.StartCarried.{StartCarried}
 use Rattle.records.specs.declared.Body.the-variants as body
-use Rattle.messages.specs.declared.Outcome.the-variants as outcome
+use Rattle.opened.specs.declared.Outcome.the-variants as outcome
 use Rattle.messages.specs.declared.Verdict.{Verdict}
 use Rattle.messages.specs.Verdict.{readOf}
 use Rattle.judge.specs.Judge.{judgedOf}

@@ -1,40 +1,46 @@
 -- The walk, element after element, over any table.
 --     Step                       what the walk holds: the elements done, and what the definitions make of the rest
+--     Sought, sought-past        the same, with an element that was read, while its row is sought
 --     step-start                 nothing is done
---     step-known, step-unknown   an element more
+--     step-known                 an element more, of a row
+--     step-listed, step-unlisted an unknown element more
 --     walk-end, walk-misplaced   the walk stops, and found what counts
 --     walk-cut, walk-bad         it stops at what cannot be read
 --     judged-front, judged-all   what was found is the judging
 -- Assumes nothing.
 use mathlib.Core.Path.{_≡_, _∙_, refl, sym, ap, subst}
+use mathlib.Core.Bool.{true, false}
 use mathlib.Core.List.{List, [], _∷_, _++_, append-assoc, append-nil}
-use Prim.Native.Nat.{ℕ, suc, _+_, _-_, _<_, _≤_}
+use Prim.Native.Nat.{ℕ, _+_, _-_, _<_, _≤_}
 use native.Mathlib.Omega.{arith}
+use native.Mathlib.Nat.{sub-zero}
 use borrow.Author.Tests.{lt-ltb, le-ltb, eq-eqb, ne-eqb}
 use lib.Dec.{eqb}
-use lib.ListN.{length, take, set, replicate, length-append, length-set, length-replicate, replicate-append-replicate}
+use lib.ListN.{length, take, drop, set, getD, replicate, length-append, length-set, length-replicate, replicate-append-replicate}
 use lib.Seq.{set-out}
 use Rattle.lists.specs.Lists.{pick, fill}
 use Rattle.lists.proofs.Fill.{fill-set, take-fill}
-use Rattle.octets.specs.Read.{got, stop, _>>=_, _>>_}
-use Rattle.octets.specs.Field.{numberAt, openAt, endsAt}
+use Rattle.octets.specs.Read.{got, stop}
 use Rattle.octets.specs.declared.Stop.{Stop}
 use Rattle.octets.specs.declared.Span.{Span}
 use Rattle.octets.specs.declared.Gate.the-variants as gate
-use Rattle.octets.proofs.Chain.{past, halt, got-stop, then-got, same-got}
-use Rattle.octets.proofs.Got.{open-in}
+use Rattle.octets.proofs.Chain.{got-stop}
 use Rattle.kinds.specs.Kinds.{valueAt}
 use Rattle.kinds.proofs.Laws.{carried}
-use Rattle.envelopes.specs.declared.Row.{Row}
+use Rattle.entries.specs.declared.Entry.{Entry}
+use Rattle.rows.specs.declared.Row.{Row}
+use Rattle.rows.specs.declared.Rows.{Rows}
 use Rattle.envelopes.specs.declared.Head.{Head}
 use Rattle.elements.specs.declared.Noted.{Noted}
 use Rattle.elements.specs.declared.Walked.{Walked}
-use Rattle.envelopes.specs.Table.{find, kindOf}
-use Rattle.envelopes.specs.Envelope.{criticalityAt, envelopeAt, scanAt, headsAt}
-use Rattle.elements.specs.Judge.{front, readInto, readOf, noSpan, ignored, unknownEntry, unknownOf, missingOf, noted, judgedOf, judgedBy}
-use Rattle.elements.specs.Steps.{Seen, WalkedTo, MissingIn}
-use Rattle.envelopes.proofs.TableLaws.{unread}
-use Rattle.envelopes.proofs.ScanLaws.{scan-none, scan-cut, scan-bad, scan-more, heads-none, heads-one}
+use Rattle.rows.specs.Table.{rowsIn, noRow, find, kindOf}
+use Rattle.envelopes.specs.Envelope.{envelopeAt, scanAt, headsAt}
+use Rattle.octets.specs.Span.{noSpan}
+use Rattle.elements.specs.Judge.{front, readInto, readOf, ignored, unknownEntry, unknownOf, missingOf, noted, judgedOf, judgedBy}
+use Rattle.elements.specs.Steps.{listing, Seen, WalkedTo, MissingIn}
+use Rattle.elements.proofs.NoteLaws.{noting, passing, noted-more, noted-same}
+use Rattle.rows.proofs.TableLaws.{row-here, row-past, row-kind, ended, unread}
+use Rattle.envelopes.proofs.ScanLaws.{scan-cut, scan-bad, scan-more, heads-none, heads-one}
 
 -- ---- one element more
 
@@ -63,91 +69,128 @@ fill-none n h =
 
 -- ---- what the walk holds
 
-pub record Step (t : List Row) (s : List ℕ) (n from row i left at : ℕ) (spans : List Span) (listed : Noted) : Type 0 where
+pub record Step (t : List Row) (s : List ℕ) (n from row i at : ℕ) (spans : List Span) (listed : Noted) : Type 0 where
   pub done : List Head
-  pub order : done ++ front t row (headsAt s left at) ≡ front t 0 (headsAt s n from)
+  pub order : done ++ front t row (headsAt s (n - i) at) ≡ front t 0 (headsAt s n from)
   pub size : length done ≡ i
-  pub count : i + left ≡ n
+  pub count : i ≤ n
   pub read : spans ≡ fill noSpan 12 (readOf t done)
   pub list : listed ≡ noted (unknownOf t done)
-  pub faults : scanAt t s left at ≡ scanAt t s n from
+  pub faults : scanAt t s (n - i) at ≡ scanAt t s n from
 
-module _ (t : List Row) (s : List ℕ) (n from : ℕ) where
-  pub step-start : length t ≤ 12 → Step t s n from 0 0 n from (replicate 12 noSpan) (noted [])
-  unfolding readInto unknownOf
-  step-start h = record { done = []; order = refl; size = refl; count = omega arith; read = fill-none (length t) h; list = refl; faults = refl }
+-- an element was read, and its id stands in none of the first k rows
+pub record Sought (t : Rows) (s : List ℕ) (n from row i at : ℕ) (spans : List Span) (listed : Noted) (h : Head) (k : ℕ) : Type 0 where
+  pub step : Step (rowsIn t) s n from row i at spans listed
+  pub more : i < n
+  pub read : got h ≡ envelopeAt s at
+  pub rest : k + find (h .id) (drop k (rowsIn t)) ≡ find (h .id) (rowsIn t)
 
-  module _ {row i left at : ℕ} {spans : List Span} {listed : Noted} (p : Step t s n from row i left at spans listed) where
-    -- nothing more counts
-    over : front t row (headsAt s left at) ≡ [] → WalkedTo t s n from (record { at = at; left = left; place = i; spans = spans; noted = listed })
-    over e =
-        let q : p .done ≡ front t 0 (headsAt s n from) = sym (append-nil (p .done)) ∙ (ap (λ (x : List Head). p .done ++ x) (sym e) ∙ p .order) in
-        let c = p .count in
-        record {
-          within = omega arith;
-          faults = p .faults;
-          seen = λ g. subst (λ (f : List Head). Seen t f (record { at = at; left = left; place = i; spans = spans; noted = listed })) q
-              (record { place = sym (p .size); spans = p .read; listed = p .list });
-        }
+-- what an unknown element is listed as
+abbrev unknown : Head → Entry
+unknown h = record { crit = h .crit; id = h .id; error = 0 }
 
-    -- something cannot be read
-    broken : {x : Stop} → stop x ≡ scanAt t s left at → WalkedTo t s n from (record { at = at; left = left; place = i; spans = spans; noted = listed })
-    broken q = let c = p .count in record { within = omega arith; faults = p .faults; seen = λ g. got-stop (g ∙ sym q) }
+-- it stops there
+abbrev Stops : List Row → List ℕ → ℕ → ℕ → ℕ → ℕ → List Span → Noted → Type 0
+Stops t s n from i at spans listed = WalkedTo t s n from (record { at = at; place = i; spans = spans; noted = listed })
 
-    pub walk-end : left ≡ 0 → WalkedTo t s n from (record { at = at; left = left; place = i; spans = spans; noted = listed })
+pub step-start : (t : List Row) {s : List ℕ} {n from : ℕ} → length t ≤ 12 → Step t s n from 0 0 from (replicate 12 noSpan) (noted [])
+unfolding readInto unknownOf
+step-start t h = record { done = []; order = rw sub-zero; size = refl; count = omega arith; read = fill-none (length t) h; list = refl; faults = rw sub-zero }
+
+module _ {t : List Row} {s : List ℕ} {n from row i at : ℕ} {spans : List Span} {listed : Noted} (p : Step t s n from row i at spans listed) where
+  -- nothing more counts
+  over : front t row (headsAt s (n - i) at) ≡ [] → Stops t s n from i at spans listed
+  over e =
+      let q : p .done ≡ front t 0 (headsAt s n from) = sym (append-nil (p .done)) ∙ (ap (λ (x : List Head). p .done ++ x) (sym e) ∙ p .order) in
+      record {
+        within = p .count;
+        faults = p .faults;
+        seen = λ g. subst (λ (f : List Head). Seen t f (record { at = at; place = i; spans = spans; noted = listed })) q
+            (record { place = sym (p .size); spans = p .read; listed = p .list });
+      }
+
+  -- something cannot be read
+  broken : {x : Stop} → stop x ≡ scanAt t s (n - i) at → Stops t s n from i at spans listed
+  broken q = record { within = p .count; faults = p .faults; seen = λ g. got-stop (g ∙ sym q) }
+
+  pub walk-end : n ≤ i → Stops t s n from i at spans listed
+  unfolding front
+  walk-end h = over (rw (heads-none t s (n - i) at (omega arith)))
+
+  pub walk-cut : i < n → {x : Stop} → stop x ≡ envelopeAt s at → Stops t s n from i at spans listed
+  walk-cut b {x} q = broken {x = x} (scan-cut t s (n - i) at (λ e. omega arith) q)
+
+module _ {t : Rows} {s : List ℕ} {n from row i at : ℕ} {spans : List Span} {listed : Noted} {h : Head} {k : ℕ} (p : Sought t s n from row i at spans listed h k) where
+  left : n - i ≡ 0 → ⊥
+  left e = let b = p .more in omega arith
+
+  -- the element is done, and row′ is the first row that may still come
+  done-with : (row′ : ℕ) → front (rowsIn t) row (headsAt s (n - i) at) ≡ h ∷ front (rowsIn t) row′ (headsAt s (n - i - 1) (h .value .to))
+      → got tt ≡ valueAt (kindOf (rowsIn t) (h .id)) (take (h .value .to) s) (h .value .from)
+      → {spans′ : List Span} → spans′ ≡ fill noSpan 12 (readOf (rowsIn t) (p .step .done ++ h ∷ []))
+      → {after : Noted} → after ≡ noted (unknownOf (rowsIn t) (p .step .done) ++ unknownEntry (rowsIn t) h)
+      → Step (rowsIn t) s n from row′ (i + 1) (h .value .to) spans′ after
+  done-with row′ g r x l =
+      let z : n - (i + 1) ≡ n - i - 1 = omega arith in
+      let b = p .more in
+      let d = p .step .done in
+      record {
+        done = d ++ h ∷ [];
+        order = rw z (append-assoc d (h ∷ []) _ ∙ (ap (λ (x : List Head). d ++ x) (sym g) ∙ p .step .order));
+        size = length-append d (h ∷ []) ∙ ap (λ (j : ℕ). j + 1) (p .step .size);
+        count = omega arith;
+        read = x;
+        list = l ∙ ap noted (sym (unknown-snoc (rowsIn t) d h));
+        faults = rw z (scan-more (rowsIn t) s (n - i) at left h (p .read) r ∙ p .step .faults);
+      }
+
+  module _ (a : length (rowsIn t) ≤ k) where
+    step-unknown : {after : Noted} → after ≡ noted (unknownOf (rowsIn t) (p .step .done) ++ pick (ignored (h .crit)) [] (unknown h ∷ []))
+        → Step (rowsIn t) s n from row (i + 1) (h .value .to) spans after
     unfolding front
-    walk-end e = over (rw (heads-none t s left at e))
+    step-unknown l =
+        let f = ended (rowsIn t) (h .id) k a (p .rest) in
+        let z = read-rows (rowsIn t) (p .step .done) in
+        done-with row
+        (rw (heads-one (rowsIn t) s (n - i) at left h (p .read), f, le-ltb k (length (rowsIn t)) a))
+        (rw (← unread (rowsIn t) (h .id) (rw f a)) (carried _ _))
+        (p .step .read ∙ ap (fill noSpan 12) (sym (set-out (readOf (rowsIn t) (p .step .done)) (find (h .id) (rowsIn t)) (h .value) (omega arith)) ∙ read-snoc (rowsIn t) _ (p .step .done) h))
+        (rw (f, le-ltb k (length (rowsIn t)) a) l)
 
-    pub walk-cut : (left ≡ 0 → ⊥) → {x : Stop} → stop x ≡ envelopeAt s at → WalkedTo t s n from (record { at = at; left = left; place = i; spans = spans; noted = listed })
-    walk-cut e {x} q = broken {x = x} (scan-cut t s left at e q)
+    pub step-listed : listing (h .crit) (listed .list .count) ≡ true → Step (rowsIn t) s n from row (i + 1) (h .value .to) spans (noting (unknown h) listed)
+    step-listed c = step-unknown (noted-more _ _ (p .step .list) (unknown h) c)
 
-    module _ (e : left ≡ 0 → ⊥) (h : Head) (q : got h ≡ envelopeAt s at) (k : ℕ) (f : find (h .id) t ≡ k) where
-      pub walk-bad : {x : Stop} → stop x ≡ valueAt (kindOf t (h .id)) (take (h .value .to) s) (h .value .from)
-          → WalkedTo t s n from (record { at = at; left = left; place = i; spans = spans; noted = listed })
-      walk-bad {x} r = broken {x = x} (scan-bad t s left at e h q r)
+    pub step-unlisted : listing (h .crit) (listed .list .count) ≡ false → Step (rowsIn t) s n from row (i + 1) (h .value .to) spans (passing (unknown h) listed)
+    step-unlisted c = step-unknown (noted-same _ _ (p .step .list) (unknown h) c)
 
-      pub walk-misplaced : k < length t → k < row → WalkedTo t s n from (record { at = at; left = left; place = i; spans = spans; noted = listed })
+  module _ (a : k < length (rowsIn t)) where
+    pub sought-past : (getD (t .rows) k noRow .id ≡ h .id → ⊥) → Sought t s n from row i at spans listed h (k + 1)
+    sought-past e = record { step = p .step; more = p .more; read = p .read; rest = row-past t (h .id) k a (p .rest) e }
+
+    module _ (e : getD (t .rows) k noRow .id ≡ h .id) where
+      here : find (h .id) (rowsIn t) ≡ k
+      here = row-here t (h .id) k a (p .rest) e
+
+      kind : getD (t .rows) k noRow .kind ≡ kindOf (rowsIn t) (h .id)
+      kind = row-kind t (h .id) k a (p .rest) e
+
+      pub walk-bad : {x : Stop} → stop x ≡ valueAt (getD (t .rows) k noRow .kind) (take (h .value .to) s) (h .value .from) → Stops (rowsIn t) s n from i at spans listed
+      walk-bad {x} r = broken (p .step) {x = x} (scan-bad (rowsIn t) s (n - i) at left h (p .read) (rw kind at r))
+
+      pub walk-misplaced : k < row → Stops (rowsIn t) s n from i at spans listed
       unfolding front
-      walk-misplaced a b = over (rw (heads-one t s left at e h q, f, lt-ltb k (length t) a, lt-ltb k row b))
+      walk-misplaced c = over (p .step) (rw (heads-one (rowsIn t) s (n - i) at left h (p .read), here, lt-ltb k (length (rowsIn t)) a, lt-ltb k row c))
 
-      -- the element is done, and row′ is the first row that may still come
-      more : (row′ : ℕ) → front t row (headsAt s left at) ≡ h ∷ front t row′ (headsAt s (left - 1) (h .value .to))
-          → (p .done ++ h ∷ []) ++ front t row′ (headsAt s (left - 1) (h .value .to)) ≡ front t 0 (headsAt s n from)
-      more row′ g = append-assoc (p .done) (h ∷ []) _ ∙ (ap (λ (x : List Head). p .done ++ x) (sym g) ∙ p .order)
-
-      passed : got tt ≡ valueAt (kindOf t (h .id)) (take (h .value .to) s) (h .value .from) → scanAt t s (left - 1) (h .value .to) ≡ scanAt t s n from
-      passed r = scan-more t s left at e h q r ∙ p .faults
-
-      pub step-known : k < length t → row ≤ k → got tt ≡ valueAt (kindOf t (h .id)) (take (h .value .to) s) (h .value .from)
-          → Step t s n from (k + 1) (i + 1) (left - 1) (h .value .to) (set spans k (h .value)) listed
+      pub step-known : row ≤ k → got tt ≡ valueAt (getD (t .rows) k noRow .kind) (take (h .value .to) s) (h .value .from)
+          → Step (rowsIn t) s n from (k + 1) (i + 1) (h .value .to) (set spans k (h .value)) listed
       unfolding front
-      step-known a b r =
-          let c = p .count in
-          record {
-            done = p .done ++ h ∷ [];
-            order = more (k + 1) (rw (heads-one t s left at e h q, f, lt-ltb k (length t) a, le-ltb k row b));
-            size = length-append (p .done) (h ∷ []) ∙ ap (λ (j : ℕ). j + 1) (p .size);
-            count = omega arith;
-            read = rw (p .read) (fill-set noSpan 12 (readOf t (p .done)) (h .value) k (rw (read-rows t (p .done)) a) ∙ ap (fill noSpan 12) (ap (λ (j : ℕ). set (readOf t (p .done)) j (h .value)) (sym f) ∙ read-snoc t (replicate (length t) noSpan) (p .done) h));
-            list = p .list ∙ ap noted (sym (rw (unknown-snoc t (p .done) h, f, lt-ltb k (length t) a) (append-nil _)));
-            faults = passed r;
-          }
-
-      pub step-unknown : length t ≤ k → (after : Noted) → after ≡ noted (unknownOf t (p .done) ++ pick (ignored (h .crit)) [] (record { crit = h .crit; id = h .id; error = 0 } ∷ []))
-          → Step t s n from row (i + 1) (left - 1) (h .value .to) spans after
-      unfolding front
-      step-unknown a after l =
-          let c = p .count in
-          let z = read-rows t (p .done) in
-          record {
-            done = p .done ++ h ∷ [];
-            order = more row (rw (heads-one t s left at e h q, f, le-ltb k (length t) a));
-            size = length-append (p .done) (h ∷ []) ∙ ap (λ (j : ℕ). j + 1) (p .size);
-            count = omega arith;
-            read = p .read ∙ ap (fill noSpan 12) (sym (set-out (readOf t (p .done)) (find (h .id) t) (h .value) (omega arith)) ∙ read-snoc t (replicate (length t) noSpan) (p .done) h);
-            list = l ∙ ap noted (sym (rw (unknown-snoc t (p .done) h, f, le-ltb k (length t) a)));
-            faults = passed (rw (← unread t (h .id) (rw f a)) (carried _ _));
-          }
+      step-known c r =
+          let d = p .step .done in
+          done-with (k + 1)
+          (rw (heads-one (rowsIn t) s (n - i) at left h (p .read), here, lt-ltb k (length (rowsIn t)) a, le-ltb k row c))
+          (rw kind at r)
+          (rw (p .step .read) (fill-set noSpan 12 (readOf (rowsIn t) d) (h .value) k (rw (read-rows (rowsIn t) d) a) ∙ ap (fill noSpan 12) (ap (λ (j : ℕ). set (readOf (rowsIn t) d) j (h .value)) (sym here) ∙ read-snoc (rowsIn t) _ d h)))
+          (p .step .list ∙ ap noted (sym (rw (here, lt-ltb k (length (rowsIn t)) a) (append-nil _))))
 
 -- ---- the walk, and then the rows
 

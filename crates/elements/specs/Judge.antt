@@ -8,13 +8,14 @@ use Rattle.lists.specs.Lists.{pick, some, fill}
 use Rattle.octets.specs.Read.{Read, got, stop, _>>=_, _>>_}
 use Rattle.octets.specs.declared.Gate.the-variants as gate
 use Rattle.octets.specs.declared.Span.{Span}
+use Rattle.octets.specs.Span.{noSpan, present}
 use Rattle.entries.specs.declared.Entry.{Entry}
 use Rattle.entries.specs.Entries.{entriesOf}
-use Rattle.envelopes.specs.declared.Row.{Row}
+use Rattle.rows.specs.declared.Row.{Row}
 use Rattle.envelopes.specs.declared.Head.{Head}
 use Rattle.elements.specs.declared.Noted.{Noted}
 use Rattle.elements.specs.declared.Judged.{Judged}
-use Rattle.envelopes.specs.Table.{find, known}
+use Rattle.rows.specs.Table.{find, known}
 use Rattle.envelopes.specs.Envelope.{scanAt, headsAt}
 
 -- The elements before the first known one that is out of order or repeated; row is the first row that may still come.
@@ -24,9 +25,6 @@ front t row (h ∷ hs) =
     pick (known t (h .id))
     (pick (ltb (find (h .id) t) row) [] (h ∷ front t (find (h .id) t + 1) hs))
     (h ∷ front t row hs)
-
-abbrev pub noSpan : Span
-noSpan = record { from = 0; to = 0 }
 
 -- the value of each known element, at its row; an unknown one has no row, and is stored behind the last, which is nowhere
 unfoldable pub readInto : List Row → List Span → List Head → List Span
@@ -47,10 +45,6 @@ unknownEntry t h = pick (known t (h .id)) [] (pick (ignored (h .crit)) [] (recor
 unfoldable pub unknownOf : List Row → List Head → List Entry
 unknownOf t [] = []
 unknownOf t (h ∷ hs) = unknownEntry t h ++ unknownOf t hs
-
--- a value was read for the row
-abbrev pub present : Span → Bool
-present v = ltb 0 (v .to)
 
 -- a mandatory row of reject or notify without a value is listed as missing
 abbrev pub missingEntry : Row → Span → List Entry

@@ -1,18 +1,16 @@
 // The elements of a message, over any table of rows: faults anywhere first, then the judging.
 ghost use mathlib.Core.Path.{_≡_};
-ghost use mathlib.Core.Bool.{_||_};
-ghost use lib.Dec.{eqb};
 ghost use Rattle.octets.specs.Read.{stop};
-ghost use Rattle.envelopes.specs.Table.{rowsIn};
+ghost use Rattle.rows.specs.Table.{rowsIn};
 ghost use Rattle.elements.specs.Judge.{judgedBy, elementsAt};
-ghost use Rattle.elements.specs.Steps.{WalkedTo, MissingIn};
+ghost use Rattle.elements.specs.Steps.{listing, WalkedTo, MissingIn};
 use entries::Entries;
 use entries::Entry;
 use envelopes::Envelope;
-use envelopes::Rows;
 use octets::Gate;
 use octets::Span;
 use octets::Stop;
+use rows::Rows;
 
 // What is listed, and whether any of it, beyond the first 256 too, is a reason to reject.
 pub struct Noted {
@@ -29,40 +27,34 @@ pub struct Judged {
     pub noted: Noted,
 }
 
-// Where the walk stopped: at which octet, with how many elements left to look at, and what it found before.
+// Where the walk stopped, at which octet and behind how many elements, and what it found before.
 struct Walked {
     at: usize,
-    left: usize,
     place: usize,
     spans: [Span; 12],
     noted: Noted,
 }
 
-// Criticality reject rejects.
-fn also(reject: bool, crit: u8) -> bool
-    ensures { λ r. ⌜ r ≡ (reject || eqb crit 0) ⌝ }
+// Whether one more entry is listed: ignore never is, and of the others the first 256 are.
+fn is_listed(crit: u8, count: usize) -> bool
+    ensures { λ r. ⌜ r ≡ listing crit count ⌝ }
 {
-    if reject {
-        return true;
-    }
-    crit == 0
+    (crit != 1) & (count < 256)
 }
 
 // The walk over elements and rows: it stops at the first known element that is out of order or repeated, or that cannot be read.
 fn walk(t: Rows, s: &[u8], n: usize, from: usize) -> Walked
     ensures { λ r. ⌜ WalkedTo (rowsIn t) (now (s .entry)) n from r ⌝ }
 {
-    let rows = envelopes::row_count(t);
-    let none = Span { from: 0, to: 0 };
-    let mut spans = [none; 12];
+    let rows = rows::row_count(t);
+    let mut spans = [Span { from: 0, to: 0 }; 12];
     let mut list = entries::no_entries();
     let mut reject = false;
-    let mut left = n;
     let mut at = from;
     let mut row: usize = 0;
     let mut i: usize = 0;
     let place = 'walk: loop {
-        if left == 0 {
+        if n <= i {
             break 'walk i;
         }
         match envelopes::envelope_at(s, at) {
@@ -90,27 +82,22 @@ fn walk(t: Rows, s: &[u8], n: usize, from: usize) -> Walked
                         row = k + 1;
                         spans[k] = value;
                         at = to;
-                        left -= 1;
                         i += 1;
                         continue 'walk;
                     }
                     k += 1;
                 }
                 at = to;
-                left -= 1;
                 i += 1;
                 let crit = h.crit;
-                if crit == 1 {
-                    continue 'walk;
-                }
-                reject = also(reject, crit);
+                reject = reject | (crit == 0);
                 let e = list.count;
-                if 256 <= e {
+                if !is_listed(crit, e) {
                     continue 'walk;
                 }
                 list.rows[e] = Entry {
-                    crit: crit,
                     id: id,
+                    crit: crit,
                     error: 0,
                 };
                 list.count = e + 1;
@@ -119,7 +106,6 @@ fn walk(t: Rows, s: &[u8], n: usize, from: usize) -> Walked
     };
     Walked {
         at: at,
-        left: left,
         place: place,
         spans: spans,
         noted: Noted {
@@ -133,7 +119,7 @@ fn walk(t: Rows, s: &[u8], n: usize, from: usize) -> Walked
 fn with_missing(t: Rows, spans: [Span; 12], seen: Noted) -> Noted
     ensures { λ r. ⌜ MissingIn (rowsIn t) spans seen r ⌝ }
 {
-    let rows = envelopes::row_count(t);
+    let rows = rows::row_count(t);
     let mut list = seen.list;
     let mut reject = seen.reject;
     let mut k: usize = 0;
@@ -148,17 +134,14 @@ fn with_missing(t: Rows, spans: [Span; 12], seen: Noted) -> Noted
             continue;
         }
         let own = r.crit;
-        if own == 1 {
-            continue;
-        }
-        reject = also(reject, own);
+        reject = reject | (own == 0);
         let e = list.count;
-        if 256 <= e {
+        if !is_listed(own, e) {
             continue;
         }
         list.rows[e] = Entry {
-            crit: own,
             id: r.id,
+            crit: own,
             error: 1,
         };
         list.count = e + 1;
@@ -172,11 +155,10 @@ fn with_missing(t: Rows, spans: [Span; 12], seen: Noted) -> Noted
 fn not_judged(x: Stop) -> Judged
     ensures { λ r. ⌜ r ≡ judgedBy (stop x) ⌝ }
 {
-    let none = Span { from: 0, to: 0 };
     Judged {
         gate: Gate::Stop(x),
         place: 0,
-        spans: [none; 12],
+        spans: [Span { from: 0, to: 0 }; 12],
         noted: Noted {
             list: entries::no_entries(),
             reject: false,
@@ -189,13 +171,13 @@ pub fn elements_at(t: Rows, s: &[u8], n: usize, from: usize) -> Judged
     ensures { λ r. ⌜ r ≡ judgedBy (elementsAt (rowsIn t) (now (s .entry)) n from) ⌝ }
 {
     let w = walk(t, s, n, from);
-    match envelopes::scan(t, s, w.left, w.at) {
+    let place = w.place;
+    match envelopes::scan(t, s, n - place, w.at) {
         Gate::Stop(x) => {
             return not_judged(x);
         }
         Gate::Pass => {}
     }
-    let place = w.place;
     let spans = w.spans;
     let seen = w.noted;
     if place < n {

@@ -14,10 +14,6 @@ use Rattle.envelopes.proofs.envelope_at.Kinds as envelope-at'
 use Rattle.envelopes.proofs.envelope_at.Reads as envelope-at
 use Rattle.envelopes.proofs.scan.Kinds as scan'
 use Rattle.envelopes.proofs.scan.Reads as scan
-use Rattle.envelopes.proofs.kind_of.Kinds as kind-of'
-use Rattle.envelopes.proofs.kind_of.Reads as kind-of
-use Rattle.envelopes.proofs.row_count.Kinds as row-count'
-use Rattle.envelopes.proofs.row_count.Reads as row-count
 
 one-envelope : {x y : Envelope} → foundEnvelope x ≡ foundEnvelope y → x ≡ y
 one-envelope = one-found foundEnvelope back undo
@@ -35,12 +31,6 @@ criticality-at-is κs a p x y e f = one-octet (e same f) & refl
 
 pub envelope-at-is : Determined envelope-at'.ps envelope-at'.r envelope-at.Asked envelope-at.Learnt
 envelope-at-is κs a p x y e f = one-envelope (e same f) & refl
-
-pub row-count-is : Determined row-count'.ps row-count'.r row-count.Asked row-count.Learnt
-row-count-is κs a p x y e f = (e .0 same f .0) & refl
-
-pub kind-of-is : Determined kind-of'.ps kind-of'.r kind-of.Asked kind-of.Learnt
-kind-of-is κs a p x y e f = (e same f) & refl
 
 pub scan-is : Determined scan'.ps scan'.r scan.Asked scan.Learnt
 scan-is κs a p x y e f = one-gate (e same f) & refl

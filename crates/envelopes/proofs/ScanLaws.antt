@@ -15,9 +15,9 @@ use Rattle.octets.specs.declared.Stop.{Stop}
 use Rattle.octets.proofs.Chain.{past, halt, then-got, same-got}
 use Rattle.octets.proofs.Got.{open-in}
 use Rattle.kinds.specs.Kinds.{valueAt}
-use Rattle.envelopes.specs.declared.Row.{Row}
+use Rattle.rows.specs.declared.Row.{Row}
 use Rattle.envelopes.specs.declared.Head.{Head}
-use Rattle.envelopes.specs.Table.{kindOf}
+use Rattle.rows.specs.Table.{kindOf}
 use Rattle.envelopes.specs.Envelope.{criticalityAt, envelopeAt, scanAt, headsAt}
 
 -- an element's value stands inside

@@ -5,11 +5,11 @@ use lib.ListN.{take}
 use Rattle.octets.specs.Read.{Read, got, stop, _>>=_, _>>_}
 use Rattle.octets.specs.Field.{choiceAt, padAt, numberAt, openAt, endsAt}
 use Rattle.kinds.specs.Kinds.{valueAt}
-use Rattle.envelopes.specs.declared.Row.{Row}
+use Rattle.rows.specs.declared.Row.{Row}
 use Rattle.envelopes.specs.declared.Head.{Head}
 use Rattle.envelopes.specs.declared.Envelope.{Envelope}
 use Rattle.envelopes.specs.declared.Envelope.the-variants as envelope
-use Rattle.envelopes.specs.Table.{kindOf}
+use Rattle.rows.specs.Table.{kindOf}
 
 abbrev pub foundEnvelope : Envelope → Read Head
 foundEnvelope (envelope.Is h) = got h

@@ -1,31 +1,15 @@
-// Elements in their envelopes, tables of rows, and the faults in a run of elements.
+// Elements in their envelopes, and the faults in a run of elements.
 ghost use mathlib.Core.Path.{_≡_};
-ghost use Prim.Native.Nat.{_≤_};
 ghost use Rattle.octets.specs.Found.{foundGate, foundOctet};
-ghost use Rattle.envelopes.specs.Table.{rowsIn, kindOf};
+ghost use Rattle.rows.specs.Table.{rowsIn};
 ghost use Rattle.envelopes.specs.Envelope.{foundEnvelope, criticalityAt, envelopeAt, scanAt};
-ghost use lib.ListN.{length};
-use kinds::Kind;
 use octets::Gate;
 use octets::Octet;
 use octets::Open;
 use octets::Span;
 use octets::Stop;
 use octets::Two;
-
-// A row of a message's table, as 9.3.4 has it.
-pub struct Row {
-    pub id: u16,
-    pub crit: u8,
-    pub kind: Kind,
-    pub mandatory: bool,
-}
-
-// A table: its first count rows.
-pub struct Rows {
-    pub rows: [Row; 12],
-    pub count: usize,
-}
+use rows::Rows;
 
 // An element: its id and criticality, and where its value stands.
 pub struct Head {
@@ -81,33 +65,6 @@ pub fn envelope_at(s: &[u8], at: usize) -> Envelope
     }
 }
 
-// How many rows a table has.
-pub fn row_count(t: Rows) -> usize
-    ensures { λ r. ⌜ (r ≡ length (rowsIn t)) × (r ≤ 12) ⌝ }
-{
-    let n = t.count;
-    if n < 12 {
-        return n;
-    }
-    12
-}
-
-// How the value of an element is read.
-pub fn kind_of(t: Rows, id: u16) -> Kind
-    ensures { λ r. ⌜ r ≡ kindOf (rowsIn t) id ⌝ }
-{
-    let rows = row_count(t);
-    let mut k: usize = 0;
-    while k < rows {
-        let r = t.rows[k];
-        if r.id == id {
-            return r.kind;
-        }
-        k += 1;
-    }
-    Kind::Carried
-}
-
 // Faults: in every envelope, in every value that is read, and octets left over.
 pub fn scan(t: Rows, s: &[u8], n: usize, from: usize) -> Gate
     ensures { λ r. ⌜ foundGate r ≡ scanAt (rowsIn t) (now (s .entry)) n from ⌝ }
@@ -118,7 +75,7 @@ pub fn scan(t: Rows, s: &[u8], n: usize, from: usize) -> Gate
         match envelope_at(s, at) {
             Envelope::Is(h) => {
                 let to = h.value.to;
-                match kinds::value_at(kind_of(t, h.id), &s[..to], h.value.from) {
+                match kinds::value_at(rows::kind_of(t, h.id), &s[..to], h.value.from) {
                     Gate::Pass => {}
                     Gate::Stop(x) => {
                         return Gate::Stop(x);

@@ -12,7 +12,7 @@ use lib.Seq.{drop-drop}
 use Rattle.lists.specs.Lists.{pick}
 use Rattle.lent.specs.Lent.{Lent, Held, NoTable, readTable, tableOctets}
 use Rattle.judge.specs.Judge.{judgedOf}
-use Rattle.carry.specs.Carry.{Decided, decided}
+use Rattle.unit.specs.Decided.{Decided, decided}
 use Rattle.answers.specs.Answers.{numbered}
 use Rattle.unit.specs.Unit.{Back, replyOf, settledIf, fits, settled, onTable, call}
 use Rattle.evening.specs.declared.Turn.{Turn}

@@ -8,10 +8,10 @@ use Rattle.octets.specs.Read.{Read, got, stop}
 use Rattle.tables.specs.declared.Named.{Named}
 use Rattle.tables.specs.declared.Named.the-variants as named
 use Rattle.tables.specs.Tables.{namedBy}
-use Rattle.messages.specs.declared.Frame.{Frame}
-use Rattle.messages.specs.declared.Outcome.the-variants.{TooLong, Stopped, NotAmong}
+use Rattle.frames.specs.declared.Frame.{Frame}
+use Rattle.opened.specs.declared.Outcome.the-variants.{TooLong, Stopped, NotAmong}
 use Rattle.messages.specs.declared.Verdict.{Verdict}
-use Rattle.messages.specs.Frame.{frameAt}
+use Rattle.frames.specs.Frame.{frameAt}
 use Rattle.messages.specs.Verdict.{without, insideOf}
 use Rattle.requests.specs.Requests.{asks, requestOf}
 use Rattle.judge.specs.declared.Asked.{Asked}

@@ -5,11 +5,11 @@ ghost use Rattle.messages.specs.Verdict.{without, insideOf};
 ghost use Rattle.requests.specs.Requests.{asks};
 ghost use Rattle.judge.specs.Judge.{noFrame, judgedBy, verdictBy, judgedOf, askedBy};
 use entries::Entries;
+use frames::Frame;
+use frames::FrameRead;
 use identity::Items;
-use messages::Frame;
-use messages::FrameRead;
-use messages::Outcome;
 use octets::Gate;
+use opened::Outcome;
 use requests::Request;
 use tables::Message;
 use tables::Named;
@@ -52,7 +52,7 @@ fn asked_in(m: Message, s: &[u8], f: Frame) -> Asked
     requires { ⌜ asks m ≡ true ⌝ }
     ensures { λ r. ⌜ r ≡ askedBy (judgedBy f (insideOf m (now (s .entry)) (f .from) (f .crit))) ⌝ }
 {
-    let o = messages::opened_at(m, s, f.from);
+    let o = opened::opened_at(m, s, f.from);
     let gate = o.gate;
     match gate {
         Gate::Pass => {}
@@ -96,7 +96,7 @@ pub fn judge(s: &[u8]) -> Asked
     if 8192 < s.len() {
         return nothing_asked(no_frame(), Outcome::TooLong);
     }
-    match messages::frame_at(s) {
+    match frames::frame_at(s) {
         FrameRead::Is(f) => asked_by(s, f, tables::message_of(f.kind, f.code)),
         FrameRead::Stop(x) => nothing_asked(no_frame(), Outcome::Stopped(x)),
     }

@@ -10,8 +10,8 @@ use Rattle.items.specs.Items.{ResetType, whole, part}
 use Rattle.items.specs.Found.{itemsRead, resetRead}
 use Rattle.diagnostics.specs.Diagnostics.{Diagnostics}
 use Rattle.diagnostics.specs.Found.{diagnosticsRead}
-use Rattle.kinds.specs.declared.Kind.{Kind}
-use Rattle.kinds.specs.declared.Kind.the-variants.{Carried}
+use Rattle.rows.specs.declared.Kind.{Kind}
+use Rattle.rows.specs.declared.Kind.the-variants.{Carried}
 use Rattle.kinds.specs.Kinds.{valueAt}
 
 -- what is carried is not read

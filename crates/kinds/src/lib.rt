@@ -3,24 +3,12 @@ ghost use mathlib.Core.Path.{_≡_};
 ghost use Rattle.octets.specs.Found.{foundGate};
 ghost use Rattle.kinds.specs.Kinds.{valueAt};
 use octets::Gate;
+use rows::Kind;
 use values::CauseRead;
 use values::MceRead;
 use values::MmeRead;
 use values::SessionRead;
 use values::TmgiRead;
-
-// What is carried is not read.
-pub enum Kind {
-    Carried,
-    Mme,
-    Mce,
-    Tmgi,
-    Session,
-    Cause,
-    ResetType,
-    Acknowledged,
-    Diagnostics,
-}
 
 // A value of a kind can be read, or why not.
 pub fn value_at(kind: Kind, s: &[u8], at: usize) -> Gate

@@ -12,8 +12,8 @@ use lib.Seq.{take-append-seam}
 use Rattle.lists.specs.Lists.{pick}
 use Rattle.octets.specs.Stands.{Octets}
 use Rattle.records.specs.declared.Record.{Record}
-use Rattle.messages.specs.declared.Outcome.{Outcome}
-use Rattle.messages.specs.declared.Outcome.the-variants as outcome
+use Rattle.opened.specs.declared.Outcome.{Outcome}
+use Rattle.opened.specs.declared.Outcome.the-variants as outcome
 use Rattle.messages.specs.Verdict.{readOf}
 use Rattle.ties.specs.Ties.{Rewritable}
 use Rattle.ties.proofs.Again.{rewritten}

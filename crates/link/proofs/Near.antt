@@ -29,18 +29,18 @@ use Rattle.diagnostics.specs.declared.Head.{Head}
 use Rattle.diagnostics.specs.declared.Number.{Number}
 use Rattle.entries.proofs.Bounds as entry-bounds
 use Rattle.diagnostics.proofs.Bounds as bounds
-use Rattle.kinds.specs.declared.Kind.{Kind}
-use Rattle.kinds.specs.declared.Kind.the-variants as kind
+use Rattle.rows.specs.declared.Kind.{Kind}
+use Rattle.rows.specs.declared.Kind.the-variants as kind
 use Rattle.kinds.specs.Kinds.{valueAt}
-use Rattle.envelopes.specs.declared.Row.{Row}
-use Rattle.envelopes.specs.Table.{kindOf}
+use Rattle.rows.specs.declared.Row.{Row}
+use Rattle.rows.specs.Table.{kindOf}
 use Rattle.envelopes.specs.Envelope.{criticalityAt, envelopeAt, scanAt}
 use Rattle.elements.specs.Judge.{elementsAt}
 use Rattle.envelopes.proofs.ScanLaws.{envelope-in}
 use Rattle.tables.specs.declared.Message.{Message}
 use Rattle.tables.specs.Tables.{tableOf}
-use Rattle.messages.specs.declared.Frame.{Frame}
-use Rattle.messages.specs.Frame.{kindAt, frameAt, countAt}
+use Rattle.frames.specs.declared.Frame.{Frame}
+use Rattle.frames.specs.Frame.{kindAt, frameAt, countAt}
 use Rattle.demands.proofs.Sound.{insideRead}
 
 -- a reading stops at octet n or before

@@ -17,12 +17,12 @@ use Rattle.tables.specs.declared.Named.{Named}
 use Rattle.tables.specs.declared.Named.the-variants as named
 use Rattle.tables.specs.Tables.{tableOf, namedBy}
 use Rattle.records.specs.declared.Record.{Record}
-use Rattle.messages.specs.declared.Frame.{Frame}
-use Rattle.messages.specs.declared.Outcome.{Outcome}
-use Rattle.messages.specs.declared.Outcome.the-variants as outcome
+use Rattle.frames.specs.declared.Frame.{Frame}
+use Rattle.opened.specs.declared.Outcome.{Outcome}
+use Rattle.opened.specs.declared.Outcome.the-variants as outcome
 use Rattle.messages.specs.declared.Verdict.{Verdict}
 use Rattle.messages.specs.Answers.{answerOf}
-use Rattle.messages.specs.Frame.{frameAt}
+use Rattle.frames.specs.Frame.{frameAt}
 use Rattle.messages.specs.Verdict.{without, ofEight, framed, readOf}
 use Rattle.said.specs.Value.{Given}
 use Rattle.said.specs.Said.{saidBy}

@@ -27,14 +27,14 @@ use Rattle.tables.specs.declared.Message.{Message}
 use Rattle.tables.specs.declared.Named.{Named}
 use Rattle.tables.specs.declared.Named.the-variants as named
 use Rattle.tables.specs.Tables.{tableOf, namedBy}
-use Rattle.records.specs.declared.MaybeTmgi.the-variants as tmgi
-use Rattle.records.specs.declared.MaybeReset.the-variants as reset
+use Rattle.row_values.specs.declared.MaybeTmgi.the-variants as tmgi
+use Rattle.row_values.specs.declared.MaybeReset.the-variants as reset
 use Rattle.records.specs.declared.Record.{Record}
-use Rattle.messages.specs.declared.Frame.{Frame}
-use Rattle.messages.specs.declared.Outcome.{Outcome}
-use Rattle.messages.specs.declared.Outcome.the-variants as outcome
+use Rattle.frames.specs.declared.Frame.{Frame}
+use Rattle.opened.specs.declared.Outcome.{Outcome}
+use Rattle.opened.specs.declared.Outcome.the-variants as outcome
 use Rattle.messages.specs.declared.Verdict.{Verdict}
-use Rattle.messages.specs.Frame.{frameAt}
+use Rattle.frames.specs.Frame.{frameAt}
 use Rattle.messages.specs.Verdict.{verdictOf, without, orStopped, insideOf}
 use Rattle.said.specs.Said.{saidBy}
 use Rattle.said.specs.Value.{Given}
@@ -48,7 +48,8 @@ use Rattle.requests.specs.declared.Request.{Request}
 use Rattle.requests.specs.declared.Request.the-variants as request
 use Rattle.requests.specs.Requests.{asks, requestOf}
 use Rattle.carry.specs.declared.Decision.{Decision}
-use Rattle.carry.specs.Carry.{Decided, keeps, changes, started, stopped, carriedOut, decision, asked, applied, decided}
+use Rattle.carry.specs.Carry.{started, stopped, carriedOut, decision, asked}
+use Rattle.unit.specs.Decided.{Decided, keeps, changes, applied, decided}
 use Rattle.answers.specs.Answers.{numbered}
 use Rattle.unit.specs.Unit.{Call, octetsIn, replyOctets, answerOf, settledIf, fits, settled, onTable, call, Called}
 use Rattle.unit.specs.declared.Back as unit

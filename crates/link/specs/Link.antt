@@ -9,8 +9,8 @@ use Rattle.lists.specs.Lists.{pick}
 use Rattle.answers.specs.Answers.{numbered}
 use Rattle.unit.specs.Unit.{Back}
 use Rattle.records.specs.declared.Record.{Record}
-use Rattle.messages.specs.declared.Outcome.{Outcome}
-use Rattle.messages.specs.declared.Outcome.the-variants.{Accepted, TooLong, Stopped, NotAmong, Misplaced, Rejected}
+use Rattle.opened.specs.declared.Outcome.{Outcome}
+use Rattle.opened.specs.declared.Outcome.the-variants.{Accepted, TooLong, Stopped, NotAmong, Misplaced, Rejected}
 use Rattle.messages.specs.Answers as messages
 use Rattle.messages.specs.Verdict.{readOf}
 use Rattle.said.specs.Said.{saidBy}

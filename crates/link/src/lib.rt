@@ -1,13 +1,13 @@
 // The reader, the writer and the table call for a link process in C, which hands over octets and numbers. include/m3ap.h is the header.
 ghost use mathlib.Core.Path.{_≡_};
 ghost use Prim.Native.Nat.{_≤_};
-ghost use Rattle.messages.specs.declared.Outcome.the-variants as outcome;
+ghost use Rattle.opened.specs.declared.Outcome.the-variants as outcome;
 ghost use Rattle.messages.specs.Answers.{answerOf};
 ghost use Rattle.unit.specs.Unit.{call};
 ghost use Rattle.link.specs.Link.{Handed, recorded, readFor, writeFor, Put};
 use identity::MceId;
-use messages::Outcome;
 use octets::Stop;
+use opened::Outcome;
 use records::Record;
 use writer::Written;
 

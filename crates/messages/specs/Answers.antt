@@ -1,8 +1,8 @@
 -- 01's number of each outcome, with its values: the octet at fault for 2 and 3 (0 otherwise), the cause for 5.
 use Prim.Native.Nat.{ℕ}
 use Rattle.octets.specs.declared.Stop.the-variants.{Fault, Extension}
-use Rattle.messages.specs.declared.Outcome.{Outcome}
-use Rattle.messages.specs.declared.Outcome.the-variants.{Accepted, TooLong, Stopped, NotAmong, Misplaced, Rejected}
+use Rattle.opened.specs.declared.Outcome.{Outcome}
+use Rattle.opened.specs.declared.Outcome.the-variants.{Accepted, TooLong, Stopped, NotAmong, Misplaced, Rejected}
 
 pub record Answer : Type 0 where
   pub number : ℕ

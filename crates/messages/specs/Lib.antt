@@ -1,3 +1,2 @@
-pub mod Frame
 pub mod Verdict
 pub mod Answers

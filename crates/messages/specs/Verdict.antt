@@ -1,62 +1,27 @@
 -- The verdict on a message.
-use Prim.Native.Nat.{ℕ, _+_}
-use mathlib.Core.Bool.{Bool}
-use mathlib.Core.List.{List, []}
-use lib.Dec.{ltb, eqb}
-use lib.ListN.{length, take}
-use Rattle.lists.specs.Lists.{pick, some, fill}
-use Rattle.octets.specs.Read.{Read, got, stop, _>>=_}
-use Rattle.octets.specs.declared.Gate.the-variants as gate
-use Rattle.octets.specs.declared.Span.{Span}
-use Rattle.entries.specs.declared.Entry.{Entry}
-use Rattle.entries.specs.declared.Entries.{Entries}
-use Rattle.entries.specs.Entries.{entriesOf, noEntries}
-use Rattle.elements.specs.Judge.{Found, noSpan, elementsAt}
+use Prim.Native.Nat.{ℕ}
+use mathlib.Core.List.{List}
+use lib.Dec.{ltb}
+use lib.ListN.{length}
+use Rattle.lists.specs.Lists.{pick}
+use Rattle.octets.specs.Read.{Read, got, stop}
+use Rattle.entries.specs.Entries.{noEntries}
+use Rattle.elements.specs.Judge.{Found}
 use Rattle.tables.specs.declared.Message.{Message}
 use Rattle.tables.specs.declared.Named.{Named}
 use Rattle.tables.specs.declared.Named.the-variants as named
-use Rattle.tables.specs.Tables.{tableOf, namedBy}
+use Rattle.tables.specs.Tables.{namedBy}
 use Rattle.records.specs.Records.{rowIn, noRecord, recordOf}
-use Rattle.messages.specs.declared.Frame.{Frame}
-use Rattle.messages.specs.declared.Outcome.{Outcome}
-use Rattle.messages.specs.declared.Outcome.the-variants.{Accepted, TooLong, Stopped, NotAmong, Misplaced, Rejected}
-use Rattle.messages.specs.declared.Opened.{Opened}
+use Rattle.frames.specs.declared.Frame.{Frame}
+use Rattle.frames.specs.Frame.{frameAt}
+use Rattle.opened.specs.declared.Outcome.{Outcome}
+use Rattle.opened.specs.declared.Outcome.the-variants.{TooLong, Stopped, NotAmong}
+use Rattle.opened.specs.Opened.{Inside, insideBy, countedAt}
 use Rattle.messages.specs.declared.Verdict.{Verdict}
-use Rattle.messages.specs.Frame.{frameAt, countAt}
 
 -- without a record: answers 1 to 4
 abbrev pub without : Outcome → Verdict
 without o = record { outcome = o; message = noRecord; noted = noEntries }
-
--- rule 1: not all of the n elements count; else rule 2; else rule 3
-abbrev pub outcomeBy : ℕ → ℕ → Bool → Outcome
-outcomeBy n place reject = pick (ltb place n) (Misplaced place) (pick reject Rejected Accepted)
-
--- what is inside the frame, before any value is taken over
-pub record Inside : Type 0 where
-  pub outcome : Outcome
-  pub spans : List Span
-  pub noted : Entries
-
--- by what was found of n elements
-abbrev pub insideBy : ℕ → Found → Inside
-insideBy n f = record {
-  outcome = outcomeBy n (f .place) (some (λ (e : Entry). eqb (e .crit) 0) (f .listed));
-  spans = f .spans;
-  noted = entriesOf (take 256 (f .listed));
-}
-
--- the count of elements at octet from, and the elements behind it: what a says of how many they are and what was found of them
-abbrev pub countedAt : {A : Type 0} → (ℕ → Found → A) → Message → List ℕ → ℕ → Read A
-countedAt a m s from = countAt s from >>= λ n. elementsAt (tableOf m) s n (from + 3) >>= λ f. got (a n f)
-
-unfoldable pub openedAt : Message → List ℕ → ℕ → Read Inside
-openedAt = countedAt insideBy
-
--- as the code answers: spans in an array of 12
-abbrev pub openedBy : Read Inside → Opened
-openedBy (got i) = record { gate = gate.Pass; outcome = i .outcome; spans = fill noSpan 12 (i .spans); noted = i .noted }
-openedBy (stop x) = record { gate = gate.Stop x; outcome = Stopped x; spans = fill noSpan 12 []; noted = noEntries }
 
 -- with the values taken over
 abbrev pub takenOver : Message → List ℕ → ℕ → Inside → Verdict

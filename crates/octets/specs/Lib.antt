@@ -4,3 +4,4 @@ pub mod Field
 pub mod Many
 pub mod Write
 pub mod Stands
+pub mod Span

@@ -9,9 +9,9 @@ use Rattle.identity.specs.declared.Mce.the-variants as mce
 use Rattle.identity.specs.declared.Item.{Item}
 use Rattle.identity.specs.Items as identity
 use Rattle.identity.specs.Items.{emptyItem}
-use Rattle.records.specs.declared.MaybeCause.the-variants as cause
-use Rattle.records.specs.declared.MaybeReset.the-variants as reset
-use Rattle.records.specs.declared.Carried.the-variants as carried
+use Rattle.row_values.specs.declared.MaybeCause.the-variants as cause
+use Rattle.row_values.specs.declared.MaybeReset.the-variants as reset
+use Rattle.row_values.specs.declared.Carried.the-variants as carried
 use Rattle.records.specs.declared.Body.the-variants as body
 use Rattle.records.specs.declared.Record.{Record}
 use Rattle.records.specs.Records.{noItems, noRecord}

@@ -2,14 +2,14 @@
 use mathlib.Core.Bool.{Bool, true, false}
 use Rattle.identity.specs.declared.Session.{Session}
 use Rattle.identity.specs.declared.Session.the-variants as session
-use Rattle.records.specs.declared.MaybeTmgi.{MaybeTmgi}
-use Rattle.records.specs.declared.MaybeTmgi.the-variants as tmgi
-use Rattle.records.specs.declared.MaybeCause.{MaybeCause}
-use Rattle.records.specs.declared.MaybeCause.the-variants as cause
-use Rattle.records.specs.declared.MaybeReset.{MaybeReset}
-use Rattle.records.specs.declared.MaybeReset.the-variants as reset
-use Rattle.records.specs.declared.MaybeDiagnostics.{MaybeDiagnostics}
-use Rattle.records.specs.declared.MaybeDiagnostics.the-variants as diagnosed
+use Rattle.row_values.specs.declared.MaybeTmgi.{MaybeTmgi}
+use Rattle.row_values.specs.declared.MaybeTmgi.the-variants as tmgi
+use Rattle.row_values.specs.declared.MaybeCause.{MaybeCause}
+use Rattle.row_values.specs.declared.MaybeCause.the-variants as cause
+use Rattle.row_values.specs.declared.MaybeReset.{MaybeReset}
+use Rattle.row_values.specs.declared.MaybeReset.the-variants as reset
+use Rattle.row_values.specs.declared.MaybeDiagnostics.{MaybeDiagnostics}
+use Rattle.row_values.specs.declared.MaybeDiagnostics.the-variants as diagnosed
 use Rattle.slots.specs.Slots.{tmgiValue, sessionValue, causeValue, resetValue, listValue, diagnosticsValue}
 use Rattle.record_in.specs.RecordIn.{ValueHeld}
 

@@ -16,6 +16,7 @@ use Rattle.octets.specs.Field.{numberAt, openAt}
 use Rattle.octets.specs.Many.{Each}
 use Rattle.octets.specs.Stands.{Octets}
 use Rattle.octets.specs.declared.Span.{Span}
+use Rattle.octets.specs.Span.{noSpan, present}
 use Rattle.octets.proofs.Chain.{then-got, same-got}
 use Rattle.octets.proofs.Got.{open-in}
 use Rattle.octets.proofs.Stood.{octets-front}
@@ -33,25 +34,25 @@ use Rattle.entries.specs.Entries.{emptyEntry}
 use Rattle.diagnostics.specs.Diagnostics.{diagnosticsAt}
 use Rattle.diagnostics.specs.Written.{GoodEntry}
 use Rattle.diagnostics.proofs.Again.{diagnostics-again}
-use Rattle.envelopes.specs.declared.Row.{Row}
+use Rattle.rows.specs.declared.Row.{Row}
 use Rattle.envelopes.specs.declared.Head.{Head}
-use Rattle.envelopes.specs.Table.{find, known}
+use Rattle.rows.specs.Table.{find, known}
 use Rattle.envelopes.specs.Envelope.{criticalityAt, envelopeAt, scanAt, onHead, headsAt}
-use Rattle.elements.specs.Judge.{front, noSpan, readInto, readOf, present, Found, judgedOf, elementsAt}
+use Rattle.elements.specs.Judge.{front, readInto, readOf, Found, judgedOf, elementsAt}
 use Rattle.tables.specs.declared.Message.{Message}
 use Rattle.tables.specs.declared.Message.the-variants as message
 use Rattle.tables.specs.declared.Named.{Named}
 use Rattle.tables.specs.declared.Named.the-variants as named
 use Rattle.tables.specs.Tables.{tableOf, namedBy}
-use Rattle.records.specs.declared.Diagnosed.{Diagnosed}
-use Rattle.records.specs.declared.ResetBy.{ResetBy}
-use Rattle.records.specs.declared.Listed.{Listed}
-use Rattle.records.specs.Values.{orElse, within, mmeIn, mceIn, tmgiIn, sessionIn, causeIn, carriedIn, diagnosticsIn, resetBy, resetIn, listIn}
+use Rattle.row_values.specs.declared.Diagnosed.{Diagnosed}
+use Rattle.row_values.specs.declared.ResetBy.{ResetBy}
+use Rattle.row_values.specs.declared.Listed.{Listed}
+use Rattle.row_values.specs.Values.{orElse, within, mmeIn, mceIn, tmgiIn, sessionIn, causeIn, carriedIn, diagnosticsIn, resetBy, resetIn, listIn}
 use Rattle.records.specs.Records.{rowIn, noRecord, recordOf}
-use Rattle.messages.specs.declared.Frame.{Frame}
-use Rattle.messages.specs.declared.Outcome.the-variants as outcome
+use Rattle.frames.specs.declared.Frame.{Frame}
+use Rattle.opened.specs.declared.Outcome.the-variants as outcome
 use Rattle.messages.specs.declared.Verdict.{Verdict}
-use Rattle.messages.specs.Frame.{frameAt, countAt}
+use Rattle.frames.specs.Frame.{frameAt, countAt}
 use Rattle.messages.specs.Verdict as messages
 use Rattle.messages.specs.Verdict.{without, verdictOf, orStopped, insideOf, ofEight, framed}
 use Rattle.slots.specs.Slots.{mmeValue, mceValue, carriedValue, diagnosticsValue}

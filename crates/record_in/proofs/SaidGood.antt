@@ -20,7 +20,7 @@ use Rattle.identity.specs.Items.{emptyItem}
 use Rattle.items.specs.Written.{mmeIn, mceIn, GoodMaybe, GoodItem}
 use Rattle.entries.specs.declared.Entry.{Entry}
 use Rattle.entries.specs.Entries.{emptyEntry}
-use Rattle.records.specs.declared.Carried.{Carried}
+use Rattle.row_values.specs.declared.Carried.{Carried}
 use Rattle.records.specs.declared.Body.{Body}
 use Rattle.records.specs.declared.Body.the-variants as body
 use Rattle.slots.specs.Slots.{mmeValue, mceValue, carriedValue, diagnosticsValue, valuesIn}

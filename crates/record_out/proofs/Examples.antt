@@ -12,10 +12,10 @@ use Rattle.identity.specs.Items.{itemsOf}
 use Rattle.diagnostics.specs.declared.Number.the-variants as number
 use Rattle.entries.specs.declared.Entry.{Entry}
 use Rattle.entries.specs.Entries.{entriesOf}
-use Rattle.records.specs.declared.MaybeCause.the-variants as cause
-use Rattle.records.specs.declared.MaybeReset.the-variants as reset
-use Rattle.records.specs.declared.MaybeDiagnostics.the-variants as diagnosed
-use Rattle.records.specs.declared.Carried.the-variants as carried
+use Rattle.row_values.specs.declared.MaybeCause.the-variants as cause
+use Rattle.row_values.specs.declared.MaybeReset.the-variants as reset
+use Rattle.row_values.specs.declared.MaybeDiagnostics.the-variants as diagnosed
+use Rattle.row_values.specs.declared.Carried.the-variants as carried
 use Rattle.records.specs.declared.Body.{Body}
 use Rattle.records.specs.declared.Body.the-variants as body
 use Rattle.records.specs.declared.Record.{Record}

@@ -12,19 +12,19 @@ use identity::Tmgi;
 use octets::Span;
 use records::Acknowledged;
 use records::Body;
-use records::Carried;
 use records::Failure;
 use records::Indication;
-use records::MaybeCause;
-use records::MaybeDiagnostics;
-use records::MaybeReset;
-use records::MaybeTmgi;
 use records::Record;
 use records::Resetting;
 use records::Response;
 use records::Start;
 use records::StartCarried;
 use records::Stopping;
+use row_values::Carried;
+use row_values::MaybeCause;
+use row_values::MaybeDiagnostics;
+use row_values::MaybeReset;
+use row_values::MaybeTmgi;
 use values::Cause;
 
 fn tmgi_at(s: &[u8], at: usize) -> MaybeTmgi

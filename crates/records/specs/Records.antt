@@ -3,16 +3,16 @@ use Prim.Native.Nat.{ℕ}
 use mathlib.Core.List.{List, []}
 use lib.ListN.{getD}
 use Rattle.octets.specs.declared.Span.{Span}
+use Rattle.octets.specs.Span.{noSpan}
 use Rattle.identity.specs.declared.Items.{Items}
 use Rattle.identity.specs.Items.{itemsOf}
 use Rattle.entries.specs.Entries.{noEntries}
-use Rattle.elements.specs.Judge.{noSpan}
 use Rattle.tables.specs.declared.Message.{Message}
 use Rattle.tables.specs.declared.Message.the-variants as message
 use Rattle.records.specs.declared.Body.the-variants as body
 use Rattle.records.specs.declared.Record.{Record}
 use Rattle.records.specs.declared.StartCarried.{StartCarried}
-use Rattle.records.specs.Values.{mmeIn, mceIn, tmgiIn, sessionIn, causeIn, carriedIn, diagnosticsIn, resetIn, listIn}
+use Rattle.row_values.specs.Values.{mmeIn, mceIn, tmgiIn, sessionIn, causeIn, carriedIn, diagnosticsIn, resetIn, listIn}
 
 abbrev pub noItems : Items
 noItems = itemsOf []

@@ -15,9 +15,9 @@ use Rattle.identity.specs.Items.{listed, itemsOf}
 use Rattle.values.specs.declared.Cause.{Cause}
 use Rattle.diagnostics.specs.declared.Number.the-variants as number
 use Rattle.entries.specs.declared.Entries.{Entries}
-use Rattle.records.specs.declared.MaybeCause.the-variants as cause
-use Rattle.records.specs.declared.MaybeDiagnostics.{MaybeDiagnostics}
-use Rattle.records.specs.declared.MaybeDiagnostics.the-variants as diagnosed
+use Rattle.row_values.specs.declared.MaybeCause.the-variants as cause
+use Rattle.row_values.specs.declared.MaybeDiagnostics.{MaybeDiagnostics}
+use Rattle.row_values.specs.declared.MaybeDiagnostics.the-variants as diagnosed
 use Rattle.records.specs.declared.Response.{Response}
 use Rattle.records.specs.declared.Failure.{Failure}
 use Rattle.records.specs.declared.Acknowledged.{Acknowledged}
@@ -30,7 +30,7 @@ use Rattle.tables.specs.declared.Named.{Named}
 use Rattle.tables.specs.declared.Named.the-variants as named
 use Rattle.tables.specs.Tables.{codeOf}
 use Rattle.said.specs.Said.{messageOf}
-use Rattle.messages.specs.declared.Frame.{Frame}
+use Rattle.frames.specs.declared.Frame.{Frame}
 use Rattle.replies.specs.declared.Reply.{Reply}
 use Rattle.replies.specs.declared.Reply.the-variants as reply
 

@@ -3,20 +3,20 @@ ghost use mathlib.Core.Path.{_≡_};
 ghost use Rattle.replies.specs.Replies.{hasIdentity, withIdentity, listOnly, ofFrame, frameIfListed, response, failure, acknowledgement, indication, bodyOf};
 use diagnostics::Head;
 use diagnostics::Number;
+use frames::Frame;
 use identity::Item;
 use identity::Items;
 use identity::Mce;
 use identity::MceId;
 use identity::Mme;
 use identity::MmeId;
-use messages::Frame;
 use records::Acknowledged;
 use records::Body;
 use records::Failure;
 use records::Indication;
-use records::MaybeCause;
-use records::MaybeDiagnostics;
 use records::Response;
+use row_values::MaybeCause;
+use row_values::MaybeDiagnostics;
 use values::Cause;
 
 // A reply, by what it says of its own.

@@ -7,8 +7,8 @@ use identity::Mce;
 use identity::Mme;
 use identity::Session;
 use octets::Span;
-use records::MaybeReset;
-use records::MaybeTmgi;
+use row_values::MaybeReset;
+use row_values::MaybeTmgi;
 use tables::Message;
 
 pub enum Request {
@@ -56,9 +56,9 @@ fn without_items(q: Request) -> Wanted
 fn start_in(s: &[u8], rows: [Span; 12]) -> Wanted
     ensures { λ r. ⌜ r ≡ wantedIn (now (s .entry)) (rowIn rows) Message.StartRequest ⌝ }
 {
-    let x = records::mme_in(s, rows[0]);
-    let g = records::tmgi_in(s, rows[1]);
-    let session = records::session_in(s, rows[2]);
+    let x = row_values::mme_in(s, rows[0]);
+    let g = row_values::tmgi_in(s, rows[1]);
+    let session = row_values::session_in(s, rows[2]);
     without_items(Request::Start(x, g, session))
 }
 
@@ -66,8 +66,8 @@ fn start_in(s: &[u8], rows: [Span; 12]) -> Wanted
 fn stop_in(s: &[u8], rows: [Span; 12]) -> Wanted
     ensures { λ r. ⌜ r ≡ wantedIn (now (s .entry)) (rowIn rows) Message.StopRequest ⌝ }
 {
-    let x = records::mme_in(s, rows[0]);
-    let y = records::mce_in(s, rows[1]);
+    let x = row_values::mme_in(s, rows[0]);
+    let y = row_values::mce_in(s, rows[1]);
     without_items(Request::Stop(x, y))
 }
 
@@ -75,7 +75,7 @@ fn stop_in(s: &[u8], rows: [Span; 12]) -> Wanted
 fn reset_in(s: &[u8], rows: [Span; 12]) -> Wanted
     ensures { λ r. ⌜ r ≡ wantedIn (now (s .entry)) (rowIn rows) Message.Reset ⌝ }
 {
-    let d = records::reset_in(s, rows[1]);
+    let d = row_values::reset_in(s, rows[1]);
     let x = d.reset;
     let items = d.items;
     Wanted {

@@ -5,7 +5,7 @@ use mathlib.Core.List.{List, [], _∷_, _++_}
 use lib.ListN.{length}
 use Rattle.packed.specs.Packed.{_bits_, bit, packed}
 use Rattle.octets.specs.Write.{numberOctets, lengthOctets}
-use Rattle.envelopes.specs.declared.Row.{Row}
+use Rattle.rows.specs.declared.Row.{Row}
 use Rattle.tables.specs.declared.Message.{Message}
 use Rattle.tables.specs.declared.Code.{Code}
 use Rattle.tables.specs.Tables.{tableOf, codeOf}

@@ -10,9 +10,9 @@ use Rattle.items.specs.Written.{GoodItem}
 use Rattle.entries.specs.declared.Entry.{Entry}
 use Rattle.diagnostics.specs.Diagnostics.{Diagnostics}
 use Rattle.diagnostics.specs.Written.{Under}
-use Rattle.kinds.specs.declared.Kind.{Kind}
-use Rattle.kinds.specs.declared.Kind.the-variants as kind
-use Rattle.envelopes.specs.declared.Row.{Row}
+use Rattle.rows.specs.declared.Kind.{Kind}
+use Rattle.rows.specs.declared.Kind.the-variants as kind
+use Rattle.rows.specs.declared.Row.{Row}
 use Rattle.said.specs.Value.{Value, Given, given, absent, carried, mme, mce, tmgi, session, cause, reset, list, diagnostics}
 
 abbrev pub kindOf : Value → Kind

@@ -1,9 +1,9 @@
 // The eight messages, and the table of elements of each, as 9.3.4 has it.
 ghost use mathlib.Core.Path.{_≡_};
 ghost use Rattle.tables.specs.Tables.{rowsOf, codeOf, namedBy};
-use envelopes::Row;
-use envelopes::Rows;
-use kinds::Kind;
+use rows::Kind;
+use rows::Row;
+use rows::Rows;
 
 pub enum Message {
     StartRequest,

@@ -19,10 +19,10 @@ use Rattle.tables.specs.declared.Named.{Named}
 use Rattle.tables.specs.declared.Named.the-variants as named
 use Rattle.tables.specs.Tables.{tableOf, codeOf, eight, among, namedBy}
 use Rattle.records.specs.Records.{rowIn, recordOf}
-use Rattle.messages.specs.declared.Frame.{Frame}
-use Rattle.messages.specs.declared.Outcome.the-variants as outcome
+use Rattle.frames.specs.declared.Frame.{Frame}
+use Rattle.opened.specs.declared.Outcome.the-variants as outcome
 use Rattle.messages.specs.declared.Verdict.{Verdict}
-use Rattle.messages.specs.Frame.{frameAt, countAt}
+use Rattle.frames.specs.Frame.{frameAt, countAt}
 use Rattle.messages.specs.Verdict.{verdictOf, without, orStopped, insideOf, framed, readOf}
 
 -- a message has the kind and the code by which it was named

@@ -11,20 +11,20 @@ use lib.Seq.{take-all}
 use Rattle.octets.specs.Read.{got}
 use Rattle.octets.specs.Stands.{Fills, Octets}
 use Rattle.octets.specs.declared.Span.{Span}
-use Rattle.envelopes.specs.declared.Row.{Row}
+use Rattle.octets.specs.Span.{noSpan}
+use Rattle.rows.specs.declared.Row.{Row}
 use Rattle.envelopes.specs.declared.Head.{Head}
 use Rattle.envelopes.specs.Envelope.{headsAt}
 use Rattle.elements.specs.Judge as judge
-use Rattle.elements.specs.Judge.{noSpan}
 use Rattle.elements.proofs.WalkLaws.{read-rows}
 use Rattle.tables.specs.declared.Message.{Message}
 use Rattle.tables.specs.declared.Named.the-variants as named
 use Rattle.tables.specs.Tables.{tableOf, codeOf}
 use Rattle.records.specs.declared.Record.{Record}
 use Rattle.records.specs.Records.{rowIn, recordOf}
-use Rattle.messages.specs.Frame.{countAt}
+use Rattle.frames.specs.Frame.{countAt}
 use Rattle.messages.specs.Verdict.{readOf}
-use Rattle.messages.proofs.InsideLaws.{count-in}
+use Rattle.opened.proofs.OpenedLaws.{count-in}
 use Rattle.said.specs.Value.{Given}
 use Rattle.said.specs.Said.{Said, saidBy}
 use Rattle.said.specs.Octets.{elementsOctets, present, insideOctets, messageOctets}

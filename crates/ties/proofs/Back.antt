@@ -16,7 +16,7 @@ use Rattle.octets.specs.declared.Span.{Span}
 use Rattle.octets.proofs.Chain.{past}
 use Rattle.octets.specs.Many.{Each}
 use Rattle.items.specs.Items.{ResetType, whole, part}
-use Rattle.envelopes.specs.declared.Row.{Row}
+use Rattle.rows.specs.declared.Row.{Row}
 use Rattle.elements.specs.Judge.{Found}
 use Rattle.tables.specs.declared.Message.{Message}
 use Rattle.tables.specs.declared.Message.the-variants as message
@@ -26,7 +26,7 @@ use Rattle.tables.specs.Tables.{tableOf, codeOf, namedBy}
 use Rattle.records.specs.declared.Record.{Record}
 use Rattle.records.specs.Records.{rowIn, recordOf}
 use Rattle.messages.specs.declared.Verdict.{Verdict}
-use Rattle.messages.specs.Frame.{frameAt}
+use Rattle.frames.specs.Frame.{frameAt}
 use Rattle.messages.specs.Verdict.{verdictOf, insideOf, orStopped, readOf}
 use Rattle.said.specs.Value.{Value, Given, given, absent, carried, mme, mce, tmgi, session, cause, reset, list, diagnostics, hasOctets, resetGood}
 use Rattle.said.specs.Said.{saidBy}

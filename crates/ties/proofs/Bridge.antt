@@ -15,6 +15,7 @@ use Rattle.octets.specs.Read.{Read, got, stop, _>>=_}
 use Rattle.octets.specs.Stands.{Octets}
 use Rattle.octets.specs.declared.Stop.{Stop}
 use Rattle.octets.specs.declared.Span.{Span}
+use Rattle.octets.specs.Span.{present, noSpan}
 use Rattle.octets.proofs.Stood.{octets-front}
 use Rattle.octets.specs.Many.{Each}
 use Rattle.identity.specs.declared.Mme.the-variants as mme
@@ -29,18 +30,17 @@ use Rattle.entries.specs.declared.Entry.{Entry}
 use Rattle.diagnostics.specs.Diagnostics.{Diagnostics, diagnosticsAt}
 use Rattle.entries.specs.Entries.{emptyEntry}
 use Rattle.diagnostics.proofs.Again.{diagnostics-again}
-use Rattle.kinds.specs.declared.Kind.{Kind}
-use Rattle.kinds.specs.declared.Kind.the-variants as kind
-use Rattle.envelopes.specs.declared.Row.{Row}
-use Rattle.elements.specs.Judge.{present, noSpan}
+use Rattle.rows.specs.declared.Kind.{Kind}
+use Rattle.rows.specs.declared.Kind.the-variants as kind
+use Rattle.rows.specs.declared.Row.{Row}
 use Rattle.tables.specs.declared.Message.{Message}
 use Rattle.tables.specs.declared.Message.the-variants as message
 use Rattle.tables.specs.declared.Named.the-variants as named
 use Rattle.tables.specs.Tables.{tableOf}
-use Rattle.records.specs.declared.MaybeTmgi.the-variants as tmgi
-use Rattle.records.specs.declared.MaybeCause.the-variants as cause
-use Rattle.records.specs.declared.Carried.the-variants as carried
-use Rattle.records.specs.Values.{orElse, within, mmeIn, mceIn, tmgiIn, sessionIn, causeIn, carriedIn, diagnosedBy, diagnosticsIn, resetOf, resetIn, listedBy, listIn}
+use Rattle.row_values.specs.declared.MaybeTmgi.the-variants as tmgi
+use Rattle.row_values.specs.declared.MaybeCause.the-variants as cause
+use Rattle.row_values.specs.declared.Carried.the-variants as carried
+use Rattle.row_values.specs.Values.{orElse, within, mmeIn, mceIn, tmgiIn, sessionIn, causeIn, carriedIn, diagnosedBy, diagnosticsIn, resetOf, resetIn, listedBy, listIn}
 use Rattle.records.specs.Records.{rowIn, recordOf}
 use Rattle.said.specs.Value as value
 use Rattle.said.specs.Value.{Value, Given, given, absent}

@@ -13,14 +13,14 @@ use Rattle.lists.specs.Lists.{pick}
 use Rattle.octets.specs.Read.{got}
 use Rattle.octets.specs.Stands.{Fills, Octets}
 use Rattle.octets.specs.declared.Span.{Span}
+use Rattle.octets.specs.Span.{noSpan}
 use Rattle.octets.proofs.Got.{ends-got}
 use Rattle.octets.proofs.Stood.{stands-none, octets-front}
 use Rattle.octets.specs.Many.{Each}
-use Rattle.kinds.specs.declared.Kind.{Kind}
-use Rattle.envelopes.specs.declared.Row.{Row}
+use Rattle.rows.specs.declared.Kind.{Kind}
+use Rattle.rows.specs.declared.Row.{Row}
 use Rattle.envelopes.specs.declared.Head.{Head}
-use Rattle.envelopes.specs.Table.{find, noRow}
-use Rattle.elements.specs.Judge.{noSpan}
+use Rattle.rows.specs.Table.{find, noRow}
 use Rattle.envelopes.proofs.ScanLaws.{envelope-in}
 use Rattle.said.specs.Value.{Value, given, octetsOf}
 use Rattle.said.specs.Reading.{readAs, valueIn}

@@ -11,14 +11,15 @@ use lib.Seq.{set-at}
 use Rattle.lists.specs.Lists.{apart}
 use Rattle.octets.specs.Read.{got}
 use Rattle.octets.specs.declared.Span.{Span}
+use Rattle.octets.specs.Span.{noSpan}
 use Rattle.octets.proofs.Chain.{past}
 use Rattle.octets.proofs.Back.{ends-back}
 use Rattle.kinds.proofs.Laws.{of-kind}
-use Rattle.envelopes.specs.declared.Row.{Row}
+use Rattle.rows.specs.declared.Row.{Row}
 use Rattle.envelopes.specs.declared.Head.{Head}
-use Rattle.envelopes.specs.Table.{find, noRow, kindOf}
+use Rattle.rows.specs.Table.{find, noRow, kindOf}
 use Rattle.envelopes.specs.Envelope.{scanAt, headsAt}
-use Rattle.elements.specs.Judge.{Found, front, readInto, noSpan, unknownOf, missingOf, judgedOf, elementsAt}
+use Rattle.elements.specs.Judge.{Found, front, readInto, unknownOf, missingOf, judgedOf, elementsAt}
 use Rattle.said.specs.Value.{Given, given, absent, octetsOf}
 use Rattle.said.specs.Octets.{present}
 use Rattle.said.specs.Reading.{valueIn, valuesIn}

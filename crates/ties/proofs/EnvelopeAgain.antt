@@ -18,12 +18,12 @@ use Rattle.octets.proofs.Got.{plain-got, choice-got, number-got, ends-got}
 use Rattle.octets.proofs.Stood.{stands-one, stands-join, stands-split, stands-front}
 use Rattle.octets.proofs.Back.{length-number}
 use Rattle.octets.proofs.Again.{packed-again, pad-zero, number-again, open-again}
-use Rattle.envelopes.specs.declared.Row.{Row}
+use Rattle.rows.specs.declared.Row.{Row}
 use Rattle.envelopes.specs.declared.Head.{Head}
 use Rattle.envelopes.specs.Envelope.{criticalityAt, envelopeAt}
 use Rattle.tables.specs.declared.Code.{Code}
-use Rattle.messages.specs.declared.Frame.{Frame}
-use Rattle.messages.specs.Frame.{kindAt, frameAt, countAt}
+use Rattle.frames.specs.declared.Frame.{Frame}
+use Rattle.frames.specs.Frame.{kindAt, frameAt, countAt}
 use Rattle.said.specs.Octets.{envelopeOctets, frameOctets}
 
 -- octets that stand, and behind them octets that fill the rest

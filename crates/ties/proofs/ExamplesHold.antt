@@ -26,16 +26,16 @@ use Rattle.item.specs.Item.{marksAt, itemAt, itemElementAt}
 use Rattle.items.specs.Written.{itemOctets, itemElementOctets, itemsOctets, resetOctets, critAt, critsAt, Rejecting}
 use Rattle.diagnostics.specs.Diagnostics as diagnostics
 use Rattle.kinds.specs.Kinds.{valueAt}
-use Rattle.envelopes.specs.Table.{find}
+use Rattle.rows.specs.Table.{find}
 use Rattle.envelopes.specs.Envelope.{criticalityAt, envelopeAt, scanAt, headsAt}
 use Rattle.elements.specs.Judge.{front, readInto, unknownOf, missingOf, judgedOf, elementsAt}
 use Rattle.tables.specs.declared.Message.{Message}
 use Rattle.tables.specs.declared.Message.the-variants as message
 use Rattle.tables.specs.declared.Named.the-variants as named
 use Rattle.tables.specs.Tables.{tableOf, codeOf, namedBy}
-use Rattle.records.specs.Values.{causeIn, resetIn, listIn, diagnosticsIn}
+use Rattle.row_values.specs.Values.{causeIn, resetIn, listIn, diagnosticsIn}
 use Rattle.records.specs.Records.{recordOf}
-use Rattle.messages.specs.Frame.{kindAt, frameAt, countAt}
+use Rattle.frames.specs.Frame.{kindAt, frameAt, countAt}
 use Rattle.messages.specs.Verdict.{insideOf, readOf}
 use Rattle.said.specs.Value.{octetsOf, hasOctets}
 use Rattle.said.specs.Said.{saidBy}

@@ -15,8 +15,8 @@ use Rattle.octets.proofs.Writing.{number-one}
 use Rattle.octets.proofs.Stood.{stands-split, stands-alone}
 use Rattle.octets.proofs.Back.{length-number, number-back, choice-back, plain-back, rest-back, open-back, ends-back}
 use Rattle.tables.specs.declared.Code.{Code}
-use Rattle.envelopes.specs.declared.Row.{Row}
-use Rattle.messages.specs.Frame.{kindAt, frameAt, countAt}
+use Rattle.rows.specs.declared.Row.{Row}
+use Rattle.frames.specs.Frame.{kindAt, frameAt, countAt}
 use Rattle.said.specs.Value.{Given}
 use Rattle.said.specs.Octets.{present, elementsOctets, insideOctets, frameOctets}
 use Rattle.ties.proofs.Laid.{criticality-back}

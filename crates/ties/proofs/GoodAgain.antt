@@ -14,13 +14,14 @@ use Rattle.lists.proofs.Tests.{or-left, or-right}
 use Rattle.octets.specs.Read.{Read, got, stop}
 use Rattle.octets.specs.Stands.{Octets}
 use Rattle.octets.specs.declared.Span.{Span}
+use Rattle.octets.specs.Span.{noSpan}
 use Rattle.octets.proofs.Stood.{octets-front}
 use Rattle.octets.specs.Many.{Each}
-use Rattle.kinds.specs.declared.Kind.{Kind}
-use Rattle.envelopes.specs.declared.Row.{Row}
+use Rattle.rows.specs.declared.Kind.{Kind}
+use Rattle.rows.specs.declared.Row.{Row}
 use Rattle.envelopes.specs.declared.Head.{Head}
-use Rattle.envelopes.specs.Table.{find}
-use Rattle.elements.specs.Judge.{readInto, noSpan}
+use Rattle.rows.specs.Table.{find}
+use Rattle.elements.specs.Judge.{readInto}
 use Rattle.envelopes.proofs.ScanLaws.{envelope-in}
 use Rattle.said.specs.Value.{Value, Given, given, absent, hasOctets}
 use Rattle.said.specs.Written.{elementsGood}

@@ -18,7 +18,7 @@ use Rattle.octets.proofs.Chain.{past}
 use Rattle.octets.proofs.Stood.{stands-split, fills-front}
 use Rattle.octets.proofs.Back.{length-number, number-back, choice-back, rest-back, open-back}
 use Rattle.octets.specs.Many.{Each}
-use Rattle.envelopes.specs.declared.Row.{Row}
+use Rattle.rows.specs.declared.Row.{Row}
 use Rattle.envelopes.specs.declared.Head.{Head}
 use Rattle.envelopes.specs.Envelope.{criticalityAt, envelopeAt}
 use Rattle.said.specs.Value.{Value, Given, given, absent, octetsOf, hasOctets}

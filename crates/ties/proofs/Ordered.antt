@@ -13,14 +13,15 @@ use Rattle.lists.specs.Lists.{pick}
 use Rattle.octets.specs.Read.{Read, got}
 use Rattle.octets.specs.Field.{endsAt}
 use Rattle.octets.specs.declared.Span.{Span}
+use Rattle.octets.specs.Span.{noSpan}
 use Rattle.octets.proofs.Chain.{then-got}
 use Rattle.octets.specs.Many.{Each}
 use Rattle.kinds.specs.Kinds.{valueAt}
-use Rattle.envelopes.specs.declared.Row.{Row}
+use Rattle.rows.specs.declared.Row.{Row}
 use Rattle.envelopes.specs.declared.Head.{Head}
-use Rattle.envelopes.specs.Table.{find, known, kindOf}
+use Rattle.rows.specs.Table.{find, known, kindOf}
 use Rattle.envelopes.specs.Envelope.{envelopeAt, scanAt, onHead, headsAt}
-use Rattle.elements.specs.Judge.{front, readInto, noSpan}
+use Rattle.elements.specs.Judge.{front, readInto}
 use Rattle.ties.specs.Ties.{Regular}
 
 module _ (t : List Row) (s : List ℕ) where

@@ -12,8 +12,8 @@ use lib.ListN.{length, getD}
 use Rattle.lists.specs.Lists.{some, apart}
 use Rattle.lists.proofs.Tests.{and-left, and-right, or-left, or-right}
 use Rattle.octets.specs.Many.{Each}
-use Rattle.envelopes.specs.declared.Row.{Row}
-use Rattle.envelopes.specs.Table.{find, noRow}
+use Rattle.rows.specs.declared.Row.{Row}
+use Rattle.rows.specs.Table.{find, noRow}
 use Rattle.tables.specs.declared.Message.{Message}
 use Rattle.tables.specs.declared.Message.the-variants as message
 use Rattle.tables.specs.Tables.{tableOf}

@@ -9,9 +9,9 @@ use native.Mathlib.Omega.{arith}
 use lib.ListN.{length, drop, getD, drop-of-length-le}
 use lib.Seq.{drop-cons}
 use Rattle.octets.specs.declared.Span.{Span}
-use Rattle.envelopes.specs.declared.Row.{Row}
-use Rattle.envelopes.specs.Table.{noRow}
-use Rattle.elements.specs.Judge.{noSpan}
+use Rattle.octets.specs.Span.{noSpan}
+use Rattle.rows.specs.declared.Row.{Row}
+use Rattle.rows.specs.Table.{noRow}
 use Rattle.said.specs.Value.{Value, Given, given, absent, octetsOf}
 use Rattle.said.specs.Octets.{envelopeOctets, elementOctets, elementsOctets, present}
 use Rattle.said.specs.Reading.{valueIn, valuesIn}

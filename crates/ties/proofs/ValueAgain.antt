@@ -27,8 +27,8 @@ use Rattle.entries.specs.declared.Entry.{Entry}
 use Rattle.diagnostics.specs.Diagnostics.{Diagnostics, diagnosticsAt}
 use Rattle.diagnostics.specs.Written.{Under, GoodEntry, Good}
 use Rattle.diagnostics.proofs.Again.{diagnostics-again}
-use Rattle.kinds.specs.declared.Kind.{Kind}
-use Rattle.kinds.specs.declared.Kind.the-variants as kind
+use Rattle.rows.specs.declared.Kind.{Kind}
+use Rattle.rows.specs.declared.Kind.the-variants as kind
 use Rattle.kinds.specs.Kinds.{valueAt}
 use Rattle.said.specs.Value.{Value, carried, mme, mce, tmgi, session, cause, reset, list, diagnostics, octetsOf, counted, resetGood, under3, entryGood, entriesGood, diagnosticsGood, hasOctets}
 use Rattle.said.specs.Reading.{readAs}

@@ -35,8 +35,8 @@ use Rattle.diagnostics.specs.Diagnostics.{Diagnostics, marksAt, headAt, diagnos
 use Rattle.diagnostics.specs.Written.{Under, GoodEntry, Good}
 use Rattle.diagnostics.proofs.Bounds.{marks-in}
 use Rattle.diagnostics.proofs.Back.{diagnostics-back}
-use Rattle.kinds.specs.declared.Kind.{Kind}
-use Rattle.kinds.specs.declared.Kind.the-variants as kind
+use Rattle.rows.specs.declared.Kind.{Kind}
+use Rattle.rows.specs.declared.Kind.the-variants as kind
 use Rattle.kinds.specs.Kinds.{valueAt}
 use Rattle.said.specs.Value.{Value, carried, mme, mce, tmgi, session, cause, reset, list, diagnostics, octetsOf, hasOctets, counted, under3, entryGood, entriesGood, diagnosticsGood, resetGood}
 use Rattle.said.specs.Reading.{readAs}

@@ -9,20 +9,20 @@ use Rattle.octets.specs.Stands.{Octets}
 use Rattle.octets.specs.Many.{Each}
 use Rattle.items.specs.Items.{ResetType, resetAt}
 use Rattle.items.specs.Written.{ignore, Marked, Rejecting}
-use Rattle.kinds.specs.declared.Kind.{Kind}
-use Rattle.kinds.specs.declared.Kind.the-variants as kind
-use Rattle.envelopes.specs.declared.Row.{Row}
+use Rattle.rows.specs.declared.Kind.{Kind}
+use Rattle.rows.specs.declared.Kind.the-variants as kind
+use Rattle.rows.specs.declared.Row.{Row}
 use Rattle.envelopes.specs.declared.Head.{Head}
-use Rattle.envelopes.specs.Table.{find, known, noRow}
+use Rattle.rows.specs.Table.{find, known, noRow}
 use Rattle.envelopes.specs.Envelope.{headsAt}
 use Rattle.tables.specs.declared.Message.{Message}
 use Rattle.tables.specs.declared.Named.the-variants as named
 use Rattle.tables.specs.Tables.{tableOf, codeOf, namedBy}
 use Rattle.records.specs.declared.Record.{Record}
 use Rattle.entries.specs.Entries.{noEntries}
-use Rattle.messages.specs.declared.Frame.{Frame}
-use Rattle.messages.specs.declared.Outcome.the-variants as outcome
-use Rattle.messages.specs.Frame.{frameAt, countAt}
+use Rattle.frames.specs.declared.Frame.{Frame}
+use Rattle.opened.specs.declared.Outcome.the-variants as outcome
+use Rattle.frames.specs.Frame.{frameAt, countAt}
 use Rattle.messages.specs.Verdict.{readOf}
 use Rattle.said.specs.Value.{Given, given, absent}
 use Rattle.said.specs.Said.{Said, saidBy}

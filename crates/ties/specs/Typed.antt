@@ -12,10 +12,10 @@ use Rattle.items.specs.Written.{GoodItem}
 use Rattle.entries.specs.declared.Entry.{Entry}
 use Rattle.entries.specs.Entries.{entriesIn}
 use Rattle.diagnostics.specs.Written.{Under}
-use Rattle.records.specs.declared.MaybeTmgi.{MaybeTmgi}
-use Rattle.records.specs.declared.MaybeTmgi.the-variants as tmgi
-use Rattle.records.specs.declared.MaybeDiagnostics.{MaybeDiagnostics}
-use Rattle.records.specs.declared.MaybeDiagnostics.the-variants as diagnosed
+use Rattle.row_values.specs.declared.MaybeTmgi.{MaybeTmgi}
+use Rattle.row_values.specs.declared.MaybeTmgi.the-variants as tmgi
+use Rattle.row_values.specs.declared.MaybeDiagnostics.{MaybeDiagnostics}
+use Rattle.row_values.specs.declared.MaybeDiagnostics.the-variants as diagnosed
 use Rattle.records.specs.declared.Body.{Body}
 use Rattle.records.specs.declared.Body.the-variants as body
 use Rattle.records.specs.declared.Record.{Record}

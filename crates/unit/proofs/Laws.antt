@@ -15,7 +15,7 @@ use Rattle.identity.specs.declared.Items.{Items}
 use Rattle.entries.specs.declared.Entries.{Entries}
 use Rattle.records.specs.declared.Body.{Body}
 use Rattle.records.specs.declared.Record.{Record}
-use Rattle.messages.specs.declared.Frame.{Frame}
+use Rattle.frames.specs.declared.Frame.{Frame}
 use Rattle.said.specs.Said.{saidBy}
 use Rattle.said.specs.Written.{Encoded, octets, none, encoded}
 use Rattle.table.specs.declared.Association.{Association}
@@ -42,7 +42,8 @@ use Rattle.replies.specs.Replies.{bodyOf, withIdentity, replied}
 use Rattle.carry.specs.declared.Change.{Change}
 use Rattle.carry.specs.declared.Change.the-variants as change
 use Rattle.carry.specs.declared.Decision.{Decision}
-use Rattle.carry.specs.Carry.{Decided, asked, decision, changed, applied, decided}
+use Rattle.carry.specs.Carry.{asked, decision}
+use Rattle.unit.specs.Decided.{Decided, changed, applied, decided}
 use Rattle.unit.specs.declared.Back as back
 use Rattle.unit.specs.Unit.{Call, octetsIn, replyOctets, replyOf, answerOf, tableAfter, settled, call, Called}
 

@@ -14,7 +14,7 @@ use Rattle.lent.specs.Lent.{Lent, Held, NoTable, readTable, tableOctets}
 use Rattle.judge.specs.Judge.{judgedOf}
 use Rattle.carry.specs.declared.Answer.{Answer}
 use Rattle.carry.specs.declared.Answer.the-variants as answer
-use Rattle.carry.specs.Carry.{Decided, keeps, changes, decided}
+use Rattle.unit.specs.Decided.{Decided, keeps, changes, decided}
 use Rattle.unit.specs.declared.Back as own
 
 -- what is handed over with the table

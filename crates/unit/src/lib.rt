@@ -3,7 +3,7 @@ ghost use mathlib.Core.Path.{_≡_};
 ghost use lib.ListN.{length};
 ghost use Rattle.lent.specs.Lent.{Held, readTable, firstRows};
 ghost use Rattle.records.specs.declared.Record.{Record};
-ghost use Rattle.carry.specs.Carry.{changed};
+ghost use Rattle.unit.specs.Decided.{changed};
 ghost use Rattle.unit.specs.Unit.{Finished, Called, call};
 use carry::Answer;
 use carry::Change;

@@ -11,9 +11,9 @@ use entries::Entries;
 use identity::MceId;
 use libc::STDIN_FILENO;
 use libc::STDOUT_FILENO;
-use messages::Outcome;
 use octets::Stop;
 use octets::Two;
+use opened::Outcome;
 use records::Record;
 use unit::Back;
 use writer::Written;
@@ -106,12 +106,10 @@ fn record(r: Record) {
 fn read(m: &[u8]) {
     let v = messages::read(m);
     let o = v.outcome;
-    let r = v.message;
-    let n = v.noted;
     outcome(o);
-    record(r);
+    record(v.message);
     text(b" noted:");
-    entries(n);
+    entries(v.noted);
     text(b"\n");
 }
 
@@ -177,8 +175,7 @@ fn next_front() -> Front {
 
 fn written_again(m: &[u8], room: &mut [u8]) {
     let v = messages::read(m);
-    let r = v.message;
-    let w = writer::write(r, m, room);
+    let w = writer::write(v.message, m, room);
     show_written(w, room);
 }
 

@@ -18,9 +18,9 @@ use Rattle.octets.proofs.Back.{length-number}
 use Rattle.octets.proofs.Writing.{sets-front}
 use Rattle.identity.specs.declared.Items.{Items}
 use Rattle.entries.specs.declared.Entries.{Entries}
-use Rattle.envelopes.specs.declared.Row.{Row}
-use Rattle.envelopes.specs.declared.Rows.{Rows}
-use Rattle.envelopes.specs.Table.{noRow}
+use Rattle.rows.specs.declared.Row.{Row}
+use Rattle.rows.specs.declared.Rows.{Rows}
+use Rattle.rows.specs.Table.{noRow}
 use Rattle.tables.specs.declared.Message.{Message}
 use Rattle.tables.specs.declared.Message.the-variants.{StartRequest, StartResponse, StartFailure, StopRequest, StopResponse, Reset, ResetAcknowledge, ErrorIndication}
 use Rattle.tables.specs.declared.Named.{Named}

@@ -22,8 +22,8 @@ use Rattle.diagnostics.specs.declared.Head.{Head}
 use Rattle.diagnostics.specs.Diagnostics.{after, behindTrigger, behindCode}
 use Rattle.diagnostics.specs.Written.{marksOf, headOctets, listOctets, diagnosticsOctets}
 use Rattle.diagnostics.proofs.HeadBack.{head-length}
-use Rattle.envelopes.specs.declared.Row.{Row}
-use Rattle.envelopes.specs.Table.{noRow}
+use Rattle.rows.specs.declared.Row.{Row}
+use Rattle.rows.specs.Table.{noRow}
 use Rattle.said.specs.Value.{Value, Given, given, absent, carried, mme, mce, tmgi, session, cause, reset, list, diagnostics, octetsOf, hasOctets}
 use Rattle.said.specs.Octets.{envelopeOctets, elementsOctets, present}
 use Rattle.said.specs.Written.{elementsGood}

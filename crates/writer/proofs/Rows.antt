@@ -19,8 +19,8 @@ use Rattle.entries.specs.declared.Entries.{Entries}
 use Rattle.diagnostics.specs.declared.Head.{Head}
 use Rattle.diagnostics.specs.Diagnostics.{diagnosticsOf}
 use Rattle.diagnostics.specs.Written.{diagnosticsOctets}
-use Rattle.envelopes.specs.declared.Row.{Row}
-use Rattle.envelopes.specs.Table.{noRow}
+use Rattle.rows.specs.declared.Row.{Row}
+use Rattle.rows.specs.Table.{noRow}
 use Rattle.said.specs.Value.{Value, given, absent, octetsOf, hasOctets}
 use Rattle.slots.specs.declared.Slot.{Slot}
 use Rattle.slots.specs.declared.Plain.{Plain}

@@ -16,7 +16,7 @@ use Rattle.octets.specs.Write.{numberOctets, lengthOctets, Wrote}
 use Rattle.octets.proofs.Writing.{wrote-length, length-short, length-long, length-over}
 use Rattle.identity.specs.declared.Items.{Items}
 use Rattle.entries.specs.declared.Entries.{Entries}
-use Rattle.envelopes.specs.declared.Row.{Row}
+use Rattle.rows.specs.declared.Row.{Row}
 use Rattle.tables.specs.declared.Code.{Code}
 use Rattle.tables.specs.declared.Message.{Message}
 use Rattle.tables.specs.declared.Message.the-variants.{StartRequest, StartResponse, StartFailure, StopRequest, StopResponse, Reset, ResetAcknowledge, ErrorIndication}

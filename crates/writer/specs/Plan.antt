@@ -10,8 +10,8 @@ use Rattle.packed.specs.Packed.{_bits_, bit, packed}
 use Rattle.octets.specs.Write.{numberOctets, lengthOctets}
 use Rattle.identity.specs.declared.Items.{Items}
 use Rattle.entries.specs.declared.Entries.{Entries}
-use Rattle.envelopes.specs.declared.Row.{Row}
-use Rattle.envelopes.specs.Table.{noRow}
+use Rattle.rows.specs.declared.Row.{Row}
+use Rattle.rows.specs.Table.{noRow}
 use Rattle.tables.specs.declared.Message.{Message}
 use Rattle.tables.specs.Tables.{codeOf}
 use Rattle.said.specs.Value.{Given, given, absent}

@@ -3,7 +3,7 @@ use mathlib.Core.Path.{_∙_, ap, refl}
 use denote.Ref.{now}
 use Rattle.octets.specs.Found.{foundGate}
 use Rattle.octets.proofs.Chain.{past, halt, told}
-use Rattle.envelopes.specs.Table.{rowsIn}
+use Rattle.rows.specs.Table.{rowsIn}
 use Rattle.envelopes.specs.Envelope.{headsAt}
 use Rattle.elements.specs.Judge.{elementsAt, judgedBy}
 use Rattle.elements.proofs.WalkLaws.{judged-front, judged-all}
@@ -13,6 +13,9 @@ use Rattle.elements.proofs.elements_at.Tie as tie
 
 walk-requires : tie.Need-walk-requires
 walk-requires c κs = search needs
+
+sub-scan : tie.Need-sub-scan
+sub-scan c = search needs
 
 scan-requires : tie.Need-scan-requires
 scan-requires c κs = search needs
@@ -50,6 +53,7 @@ elements-at-spec =
     tie.close
     (tie.spec
     walk-requires
+    sub-scan
     scan-requires
     enum-known-x
     not-judged-requires

@@ -1,4 +1,4 @@
--- `diagnostics::begin_of` meets its contract: the definition goes by the same test.
+-- `entries::begin_of` meets its contract: the definition goes by the same test.
 -- Assumes nothing.
 use borrow.Author.Tests.{eq-eqb, ne-eqb}
 use Rattle.entries.proofs.begin_of.Statement.{statement}

@@ -1,4 +1,4 @@
--- `diagnostics::crit_at` meets its contract: each return is the chain of the fields read up to it.
+-- `entries::crit_at` meets its contract: each return is the chain of the fields read up to it.
 -- Assumes nothing.
 use mathlib.Core.Path.{refl}
 use borrow.Author.Needs.{needs}

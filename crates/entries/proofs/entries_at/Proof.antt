@@ -1,4 +1,4 @@
--- `diagnostics::entries_at` meets its contract: the loop keeps the entries that were read in the front of the rows, and these before what the rest gives are what all give.
+-- `entries::entries_at` meets its contract: the loop keeps the entries that were read in the front of the rows, and these before what the rest gives are what all give.
 -- Assumes nothing.
 use mathlib.Core.Path.{_≡_, _∙_, refl, ap}
 use mathlib.Core.List.{List, [], _∷_, _++_}

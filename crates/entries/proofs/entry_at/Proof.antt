@@ -1,4 +1,4 @@
--- `diagnostics::entry_at` meets its contract: each return is the chain of the fields read up to it, and these stand inside the octets.
+-- `entries::entry_at` meets its contract: each return is the chain of the fields read up to it, and these stand inside the octets.
 -- Assumes nothing.
 use mathlib.Core.Path.{refl}
 use Prim.Native.Nat.{_<_}

@@ -1,4 +1,4 @@
--- `diagnostics::maybe_list_at` meets its contract: each return is the chain of what was read up to it.
+-- `entries::maybe_list_at` meets its contract: each return is the chain of what was read up to it.
 -- Assumes nothing.
 use mathlib.Core.Path.{_∙_, refl, ap}
 use native.Mathlib.Omega.{arith}

@@ -1,4 +1,4 @@
--- `elements::criticality_at` meets its contract. Each return is the chain of the readings on the way to it. Assumes nothing.
+-- `envelopes::criticality_at` meets its contract. Each return is the chain of the readings on the way to it. Assumes nothing.
 use mathlib.Core.Path.{refl}
 use Rattle.octets.specs.Found.{foundOctet, foundGate}
 use Rattle.octets.proofs.Chain.{past, halt, told}

@@ -1,4 +1,4 @@
--- `elements::envelope_at` meets its contract. Each return is the chain of the readings on the way to it. Assumes nothing.
+-- `envelopes::envelope_at` meets its contract. Each return is the chain of the readings on the way to it. Assumes nothing.
 use mathlib.Core.Path.{refl}
 use native.Mathlib.Omega.{arith}
 use denote.Ref.{now}

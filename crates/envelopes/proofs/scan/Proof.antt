@@ -1,4 +1,4 @@
--- `elements::scan` meets its contract. The loop's invariant: the faults left are the faults of all. Assumes nothing.
+-- `envelopes::scan` meets its contract. The loop's invariant: the faults left are the faults of all. Assumes nothing.
 use borrow.Author.Needs.{needs}
 use mathlib.Core.Path.{_≡_, sym, _∙_, refl}
 use native.Mathlib.Omega.{arith}
@@ -6,7 +6,7 @@ use denote.Ref.{now}
 use lib.Seq.{length-take-le}
 use Rattle.octets.specs.Found.{foundGate}
 use Rattle.octets.proofs.Chain.{told}
-use Rattle.envelopes.specs.Table.{rowsIn}
+use Rattle.rows.specs.Table.{rowsIn}
 use Rattle.envelopes.specs.Envelope.{scanAt, foundEnvelope}
 use Rattle.envelopes.proofs.ScanLaws.{envelope-in, scan-none, scan-cut, scan-bad, scan-more}
 use Rattle.envelopes.proofs.scan.Statement.{statement}

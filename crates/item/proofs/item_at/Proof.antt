@@ -1,4 +1,4 @@
--- `items::item_at` meets its contract: each return is the chain of what was read on the way there, at the places that the marks give. Assumes nothing.
+-- `item::item_at` meets its contract: each return is the chain of what was read on the way there, at the places that the marks give. Assumes nothing.
 use Prim.Native.Nat.{_+_}
 use native.Mathlib.Omega.{arith}
 use Rattle.octets.specs.Found.{foundGate}

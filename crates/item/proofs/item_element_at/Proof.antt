@@ -1,4 +1,4 @@
--- `items::item_element_at` meets its contract: each return is the chain of what was read on the way there; the item is lent the front of the octets that ends with its open value. Assumes nothing.
+-- `item::item_element_at` meets its contract: each return is the chain of what was read on the way there; the item is lent the front of the octets that ends with its open value. Assumes nothing.
 use Rattle.octets.proofs.Chain.{past, halt, told}
 use mathlib.Core.Path.{refl, sym}
 use native.Mathlib.Omega.{arith}

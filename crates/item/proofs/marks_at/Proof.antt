@@ -1,4 +1,4 @@
--- `items::marks_at` meets its contract: each return is the chain of what was read on the way there. Assumes nothing.
+-- `item::marks_at` meets its contract: each return is the chain of what was read on the way there. Assumes nothing.
 use Rattle.octets.proofs.Chain.{past, halt, told}
 use mathlib.Core.Path.{refl}
 use Rattle.octets.specs.Found.{foundGate, foundFlag}

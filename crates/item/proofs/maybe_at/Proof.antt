@@ -1,4 +1,4 @@
--- `items::maybe_at` meets its contract: by what the mark says: the number that was read, or none. Assumes nothing.
+-- `item::maybe_at` meets its contract: by what the mark says: the number that was read, or none. Assumes nothing.
 use Rattle.octets.proofs.Chain.{past, halt, told}
 use mathlib.Core.Path.{refl}
 use Rattle.octets.specs.Found.{foundTwo}

@@ -1,4 +1,4 @@
--- `items::mce_of` meets its contract: by cases. Assumes nothing.
+-- `item::mce_of` meets its contract: by cases. Assumes nothing.
 use mathlib.Core.Path.{sym, ap}
 use Rattle.item.specs.Item.{mceOf}
 use borrow.Author.Needs.{needs}

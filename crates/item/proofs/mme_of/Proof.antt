@@ -1,4 +1,4 @@
--- `items::mme_of` meets its contract: by cases. Assumes nothing.
+-- `item::mme_of` meets its contract: by cases. Assumes nothing.
 use mathlib.Core.Path.{sym, ap}
 use Rattle.item.specs.Item.{mmeOf}
 use borrow.Author.Needs.{needs}

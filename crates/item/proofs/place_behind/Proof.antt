@@ -1,4 +1,4 @@
--- `items::place_behind` meets its contract: by cases. Assumes nothing.
+-- `item::place_behind` meets its contract: by cases. Assumes nothing.
 use borrow.Author.Needs.{needs}
 use Rattle.item.proofs.place_behind.Statement.{statement}
 use Rattle.item.proofs.place_behind.Tie as tie

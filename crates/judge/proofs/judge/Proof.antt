@@ -5,8 +5,8 @@ use denote.Ref.{now}
 use Rattle.octets.specs.Read.{Read}
 use Rattle.octets.proofs.Chain.{told}
 use Rattle.tables.specs.declared.Named.{Named}
-use Rattle.messages.specs.declared.Frame.{Frame}
-use Rattle.messages.specs.Frame.{foundFrame}
+use Rattle.frames.specs.declared.Frame.{Frame}
+use Rattle.frames.specs.Frame.{foundFrame}
 use Rattle.judge.specs.Judge.{judgedBy, verdictBy, judgedIn, judgedOf, askedBy}
 use borrow.Author.Needs.{needs}
 use Rattle.judge.proofs.judge.Statement.{statement}

@@ -3,7 +3,7 @@ use borrow.Author.Tests.{lt-ltb, le-ltb}
 use mathlib.Core.Path.{_∙_, ap, sym}
 use denote.Ref.{now}
 use Rattle.octets.proofs.Chain.{told}
-use Rattle.messages.specs.Frame.{foundFrame}
+use Rattle.frames.specs.Frame.{foundFrame}
 use Rattle.messages.specs.Verdict.{framed, ofEight, readOf}
 use borrow.Author.Needs.{needs}
 use Rattle.messages.proofs.read.Statement.{statement}

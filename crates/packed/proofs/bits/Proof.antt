@@ -1,4 +1,4 @@
--- `octets::bits` meets its contract. It follows from what was called, and by computing. Assumes nothing.
+-- `packed::bits` meets its contract. It follows from what was called, and by computing. Assumes nothing.
 use Rattle.packed.proofs.Packed.{bits-none, bits-low, bits-mid}
 use native.Mathlib.Omega.{arith}
 use mathlib.Core.Path.{_∙_}

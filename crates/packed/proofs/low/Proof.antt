@@ -1,4 +1,4 @@
--- `octets::low` meets its contract. It follows from what was called, and by computing. Assumes nothing.
+-- `packed::low` meets its contract. It follows from what was called, and by computing. Assumes nothing.
 use Rattle.packed.proofs.Packed.{masked, all-low}
 use native.Mathlib.Omega.{arith}
 use borrow.Author.Needs.{needs}

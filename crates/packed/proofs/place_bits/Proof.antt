@@ -1,4 +1,4 @@
--- `octets::place_bits` meets its contract. It follows from what was called, and by computing. Assumes nothing.
+-- `packed::place_bits` meets its contract. It follows from what was called, and by computing. Assumes nothing.
 use Rattle.packed.proofs.Packed.{placed-none, placed-low, placed-mid}
 use native.Mathlib.Omega.{arith}
 use mathlib.Core.Path.{_∙_}

@@ -1,4 +1,4 @@
--- `octets::with_bits` meets its contract. It follows from what was called, and by computing. Assumes nothing.
+-- `packed::with_bits` meets its contract. It follows from what was called, and by computing. Assumes nothing.
 use borrow.Author.Needs.{needs}
 use Rattle.packed.proofs.with_bits.Statement.{statement}
 use Rattle.packed.proofs.with_bits.Tie as tie

@@ -11,7 +11,7 @@ use Rattle.judge.specs.declared.Asked.{Asked}
 use Rattle.writer.specs.declared.Written.{Written}
 use Rattle.replies.specs.Replies.{replied}
 use Rattle.carry.specs.declared.Decision.{Decision}
-use Rattle.carry.specs.Carry.{Decided, applied, decided}
+use Rattle.unit.specs.Decided.{Decided, applied, decided}
 use Rattle.unit.specs.declared.Back as back
 use Rattle.unit.specs.Unit.{Call, replyOf, settled, call, Called}
 use Rattle.unit.proofs.Laws.{Put, Found, found, no-table, written-put, reply-of, decided-by, no-room, done, silent, on-table, off-table}

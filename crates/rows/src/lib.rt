@@ -1,0 +1,59 @@
+// What a table of elements is made of: its rows, and how the value of a row's element is read.
+ghost use mathlib.Core.Path.{_≡_};
+ghost use Prim.Native.Nat.{_≤_};
+ghost use lib.ListN.{length};
+ghost use Rattle.rows.specs.Table.{rowsIn, kindOf};
+
+// What is carried is not read.
+pub enum Kind {
+    Carried,
+    Mme,
+    Mce,
+    Tmgi,
+    Session,
+    Cause,
+    ResetType,
+    Acknowledged,
+    Diagnostics,
+}
+
+// A row of a message's table, as 9.3.4 has it.
+pub struct Row {
+    pub id: u16,
+    pub crit: u8,
+    pub kind: Kind,
+    pub mandatory: bool,
+}
+
+// A table: its first count rows.
+pub struct Rows {
+    pub rows: [Row; 12],
+    pub count: usize,
+}
+
+// How many rows a table has.
+pub fn row_count(t: Rows) -> usize
+    ensures { λ r. ⌜ (r ≡ length (rowsIn t)) × (r ≤ 12) ⌝ }
+{
+    let n = t.count;
+    if n < 12 {
+        return n;
+    }
+    12
+}
+
+// How the value of an element is read.
+pub fn kind_of(t: Rows, id: u16) -> Kind
+    ensures { λ r. ⌜ r ≡ kindOf (rowsIn t) id ⌝ }
+{
+    let rows = row_count(t);
+    let mut k: usize = 0;
+    while k < rows {
+        let r = t.rows[k];
+        if r.id == id {
+            return r.kind;
+        }
+        k += 1;
+    }
+    Kind::Carried
+}
