@@ -13,6 +13,7 @@ use Rattle.lists.specs.Lists.{pick, some}
 use Rattle.lists.proofs.Tests.{on-pick, or-left, or-right}
 use Rattle.lists.proofs.Some.{some-append}
 use Rattle.octets.specs.Read.{Read, got, stop}
+use Rattle.octets.specs.declared.Stop.{Stop}
 use Rattle.octets.specs.declared.Span.{Span}
 use Rattle.octets.specs.Span.{noSpan, present}
 use Rattle.octets.proofs.Chain.{then-got, got-stop}
@@ -50,11 +51,12 @@ use Rattle.records.specs.Records.{rowIn, recordOf}
 use Rattle.opened.specs.declared.Outcome.{Outcome}
 use Rattle.opened.specs.declared.Outcome.the-variants as outcome
 use Rattle.messages.specs.declared.Verdict.{Verdict}
-use Rattle.opened.specs.Opened.{outcomeBy}
-use Rattle.messages.specs.Verdict.{orStopped, insideOf}
+use Rattle.opened.specs.Opened.{outcomeBy, insideBy}
+use Rattle.messages.specs.Verdict.{without, takenOver, insideOf}
+use Rattle.messages.proofs.InsideLaws.{inside-has}
 use Rattle.requests.specs.Requests.{asks}
 use Rattle.ties.proofs.Ordered.{Scanned, scanned}
-use Rattle.demands.proofs.Sound.{insideRead, inside-got, front-each}
+use Rattle.demands.proofs.Sound.{elements-got, front-each}
 
 -- ---- what is said
 
@@ -269,15 +271,15 @@ pub record Judgement (v : Verdict) : Type 0 where
   pub complete : v .outcome ≡ outcome.Accepted → Complete (v .message .body)
 
 pub inside-judged : (m : Message) (s : List ℕ) (from crit : ℕ) → asks m ≡ true → Judgement (insideOf m s from crit)
-unfolding insideOf elements.judgedOf
-inside-judged m s from crit a = by (insideRead m s from crit) refl
+unfolding elements.judgedOf elements.noted
+inside-judged m s from crit a =
+    inside-has m s from crit Judgement (λ x q. stopped) (λ n f q.
+    let g = elements-got m s n (from + 3) q in
+    let found : elements.Found = elements.judgedOf (tableOf m) n (headsAt s n (from + 3)) in
+    subst (λ (y : elements.Found). Judgement (takenOver m s crit (got (insideBy n y)))) (g .1) (record {
+      usual = usual-outcome n (found .place) (some rejects (found .listed));
+      complete = λ e. complete s crit n (from + 3) m a (g .0) (none-missing m s n (from + 3) (g .0) e);
+    }))
   where
-    by : (r : Read Verdict) → r ≡ insideRead m s from crit → Judgement (orStopped r)
-    by (got v) q =
-        let g = inside-got m s from crit q in
-        let found : elements.Found = elements.judgedOf (tableOf m) (g .count) (headsAt s (g .count) (from + 3)) in
-        subst Judgement (sym (g .judged)) (record {
-          usual = usual-outcome (g .count) (found .place) (some rejects (found .listed));
-          complete = λ e. complete s crit (g .count) (from + 3) m a (g .scan) (none-missing m s (g .count) (from + 3) (g .scan) e);
-        })
-    by (stop x) q = record { usual = tt; complete = λ e. let z : _≡_ {A = ℕ} 0 1 = cc in absurd (omega arith) }
+    stopped : {x : Stop} → Judgement (without (outcome.Stopped x))
+    stopped = record { usual = tt; complete = λ e. let z : _≡_ {A = ℕ} 0 1 = cc in absurd (omega arith) }

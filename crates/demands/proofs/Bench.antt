@@ -25,6 +25,7 @@ use Rattle.tables.specs.Tables.{tableOf, namedBy}
 use Rattle.row_values.specs.Values.{causeIn, resetIn}
 use Rattle.records.specs.Records.{recordOf}
 use Rattle.frames.specs.Frame.{kindAt, frameAt, countAt}
+use Rattle.opened.specs.Opened.{openedAt}
 use Rattle.messages.specs.Verdict.{insideOf}
 use Rattle.said.specs.Value.{hasOctets, octetsOf}
 use Rattle.said.specs.Said.{saidBy}
@@ -53,7 +54,7 @@ does l s l′ g a r t d h =
     call-on (tableOctets l) (record { message = s; offered = offer; room = d }) l (one-form .back l g) ∙ rw (f, a, r, t)
 
 pub bench-calls : BenchCalls
-unfolding decided judgedOf frameAt kindAt countAt insideOf elementsAt elements.judgedOf front find readInto missingOf scanAt headsAt envelopeAt criticalityAt valueAt resetAt recordOf resetIn tableOf namedBy flagAt plainAt choiceAt padAt numberAt openAt lengthAt longLengthAt endsAt bitsOf cutShort noMeaning leftOver extended _>>=_ numberOctets replyOctets saidBy encoded replied bodyOf withIdentity listOnly elementsGood elementsOctets messageOctets insideOctets present lengthOctets packedIn causeAt causeIn itemsAt several.many itemElementAt sameAt itemAt marksAt without named hasOctets octetsOf itemsOctets itemElementOctets itemOctets unknownOf
+unfolding decided judgedOf frameAt kindAt countAt openedAt insideOf elementsAt elements.judgedOf elements.noted front find readInto missingOf scanAt headsAt envelopeAt criticalityAt valueAt resetAt recordOf resetIn tableOf namedBy flagAt plainAt choiceAt padAt numberAt openAt lengthAt longLengthAt endsAt bitsOf cutShort noMeaning leftOver extended _>>=_ numberOctets replyOctets saidBy encoded replied bodyOf withIdentity listOnly elementsGood elementsOctets messageOctets insideOctets present lengthOctets packedIn causeAt causeIn itemsAt several.many itemElementAt sameAt itemAt marksAt without named hasOctets octetsOf itemsOctets itemElementOctets itemOctets unknownOf
 bench-calls = record {
   named = does (pair 1 2 ∷ []) partialReset [] (one-good 1 2 (omega arith) (omega arith)) refl refl refl;
   unknown = does [] partialReset [] none-good refl refl refl;

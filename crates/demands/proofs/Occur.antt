@@ -26,10 +26,12 @@ use Rattle.elements.specs.Judge.{front, readInto, unknownOf, missingOf, element
 use Rattle.tables.specs.Tables.{tableOf, namedBy}
 use Rattle.records.specs.declared.Record.{Record}
 use Rattle.row_values.specs.Values.{mmeIn, mceIn, tmgiIn, resetIn}
-use Rattle.records.specs.Records.{noItems, recordOf}
+use Rattle.identity.specs.Items.{noItems}
+use Rattle.records.specs.Records.{recordOf}
 use Rattle.entries.specs.Entries.{noEntries}
 use Rattle.frames.specs.Frame.{kindAt, frameAt, countAt}
 use Rattle.opened.specs.declared.Outcome.the-variants as outcome
+use Rattle.opened.specs.Opened.{openedAt}
 use Rattle.messages.specs.Verdict.{without, insideOf}
 use Rattle.said.specs.Said.{saidBy}
 use Rattle.said.specs.Octets.{elementsOctets, present, insideOctets, messageOctets}
@@ -123,7 +125,7 @@ room-number s k d h =
 
 -- the rest is computed
 pub every-answer : EveryAnswer
-unfolding many decided started stopped full judgedOf frameAt kindAt countAt insideOf elementsAt elements.judgedOf front find readInto unknownOf missingOf scanAt headsAt envelopeAt criticalityAt valueAt mmeAt mceAt tmgiAt resetAt recordOf mmeIn mceIn tmgiIn resetIn tableOf namedBy flagAt plainAt choiceAt padAt numberAt stringAt openAt lengthAt longLengthAt endsAt bitsOf cutShort noMeaning leftOver extended _>>=_ readTable same rowsOf rowsOctets numberOctets distinctHeld replyOctets saidBy encoded replied bodyOf withIdentity listOnly elementsGood elementsOctets messageOctets insideOctets present lengthOctets packedIn
+unfolding many decided started stopped full judgedOf frameAt kindAt countAt openedAt insideOf elementsAt elements.judgedOf elements.noted front find readInto unknownOf missingOf scanAt headsAt envelopeAt criticalityAt valueAt mmeAt mceAt tmgiAt resetAt recordOf mmeIn mceIn tmgiIn resetIn tableOf namedBy flagAt plainAt choiceAt padAt numberAt stringAt openAt lengthAt longLengthAt endsAt bitsOf cutShort noMeaning leftOver extended _>>=_ readTable same rowsOf rowsOctets numberOctets distinctHeld replyOctets saidBy encoded replied bodyOf withIdentity listOnly elementsGood elementsOctets messageOctets insideOctets present lengthOctets packedIn
 every-answer = record {
   carried-out = gives [] start none-good refl refl;
   too-long = long-number;

@@ -1,14 +1,14 @@
 -- What is judged of octets is in range: the frame's numbers, the identities, the items, and the entries of the list of diagnostics.
 -- Assumes nothing.
 use Prim.Native.Nat.{ℕ, zero, suc, _+_, _^_, _<_, _≤_}
-use mathlib.Core.Path.{_≡_, _∙_, refl, sym, ap, subst}
+use mathlib.Core.Path.{_≡_, refl, sym, subst}
 use mathlib.Core.List.{List, [], _∷_}
 use native.Mathlib.Omega.{arith}
 use lib.Dec.{ltb, eqb}
 use lib.ListN.{length, take, length-take}
 use Rattle.lists.proofs.Tests.{on-pick}
 use Rattle.lists.proofs.Fill.{take-fill}
-use Rattle.octets.specs.Read.{Read, got, stop, _>>=_}
+use Rattle.octets.specs.Read.{Read, got, stop}
 use Rattle.octets.specs.Field.{plainAt, choiceAt, padAt, numberAt, openAt, endsAt}
 use Rattle.octets.specs.Stands.{Octets}
 use Rattle.octets.specs.declared.Span.{Span}
@@ -50,8 +50,10 @@ use Rattle.frames.specs.declared.Frame.{Frame}
 use Rattle.opened.specs.declared.Outcome.{Outcome}
 use Rattle.opened.specs.declared.Outcome.the-variants as outcome
 use Rattle.messages.specs.declared.Verdict.{Verdict}
-use Rattle.frames.specs.Frame.{kindAt, frameAt, countAt}
-use Rattle.messages.specs.Verdict.{without, verdictOf, orStopped, insideOf}
+use Rattle.frames.specs.Frame.{kindAt, frameAt}
+use Rattle.opened.specs.Opened.{insideBy}
+use Rattle.messages.specs.Verdict.{without, takenOver, insideOf}
+use Rattle.messages.proofs.InsideLaws.{inside-has}
 use Rattle.ties.proofs.Each.{each-append}
 use Rattle.judge.specs.Judge.{Judged, noFrame, verdictBy, judgedIn, judgedOf}
 use Rattle.requests.specs.declared.Request.{Request}
@@ -243,32 +245,17 @@ record-good s o row crit message.ErrorIndication = (tt, none-held)
 
 -- ---- verdicts
 
--- what is inside a frame, if nothing stops the reading
-abbrev pub insideRead : Message → List ℕ → ℕ → ℕ → Read Verdict
-insideRead m s from crit = countAt s from >>= λ n. elementsAt (tableOf m) s n (from + 3) >>= λ f. got (verdictOf m s crit n f)
-
-pub record Inside (m : Message) (s : List ℕ) (from crit : ℕ) (v : Verdict) : Type 0 where
-  pub count : ℕ
-  pub scan : got tt ≡ scanAt (tableOf m) s count (from + 3)
-  pub judged : v ≡ verdictOf m s crit count (elements.judgedOf (tableOf m) count (headsAt s count (from + 3)))
-
-pub inside-got : (m : Message) (s : List ℕ) (from crit : ℕ) {v : Verdict} → got v ≡ insideRead m s from crit → Inside m s from crit v
+-- what was found of the elements: they can be read, and were judged
+pub elements-got : (m : Message) (s : List ℕ) (n at : ℕ) {f : Found} → got f ≡ elementsAt (tableOf m) s n at → (got tt ≡ scanAt (tableOf m) s n at) × (elements.judgedOf (tableOf m) n (headsAt s n at) ≡ f)
 unfolding elementsAt
-inside-got m s from crit q =
-    let a = then-got (countAt s from) _ q in
-    let b = then-got (elementsAt (tableOf m) s (a .0) (from + 3)) _ (a .2) in
-    let c = then-got (scanAt (tableOf m) s (a .0) (from + 3)) _ (b .1) in
-    record { count = a .0; scan = c .1; judged = same-got (b .2) ∙ ap (verdictOf m s crit (a .0)) (same-got (c .2)) }
+elements-got m s n at q = let c = then-got (scanAt (tableOf m) s n at) _ q in (c .1, sym (same-got (c .2)))
 
 without-sound : (x : Outcome) → SoundVerdict (without x)
 without-sound x = record { body = tt; items = none-held; list = []; noted = refl; entries = record { few = omega arith; each = tt } }
 
-stopped-sound : (r : Read Verdict) → ((v : Verdict) → got v ≡ r → SoundVerdict v) → SoundVerdict (orStopped r)
-stopped-sound (got v) h = h v refl
-stopped-sound (stop x) h = without-sound (outcome.Stopped x)
-
 module _ (s : List ℕ) (o : Octets s) where
-  verdict-sound : (m : Message) (crit n at : ℕ) → SoundVerdict (verdictOf m s crit n (elements.judgedOf (tableOf m) n (headsAt s n at)))
+  verdict-sound : (m : Message) (crit n at : ℕ) → SoundVerdict (takenOver m s crit (got (insideBy n (elements.judgedOf (tableOf m) n (headsAt s n at)))))
+  unfolding elements.noted
   verdict-sound m crit n at =
       let f : Found = elements.judgedOf (tableOf m) n (headsAt s n at) in
       let r = record-good s o (rowIn (f .spans)) crit m in
@@ -282,9 +269,9 @@ module _ (s : List ℕ) (o : Octets s) where
       }
 
   pub inside-sound : (m : Message) (from crit : ℕ) → SoundVerdict (insideOf m s from crit)
-  unfolding insideOf
   inside-sound m from crit =
-      stopped-sound (insideRead m s from crit) (λ v q. let g = inside-got m s from crit q in subst SoundVerdict (sym (g .judged)) (verdict-sound m crit (g .count) (from + 3)))
+      inside-has m s from crit SoundVerdict (λ x q. without-sound (outcome.Stopped x)) (λ n f q.
+      subst (λ (y : Found). SoundVerdict (takenOver m s crit (got (insideBy n y)))) (elements-got m s n (from + 3) q .1) (verdict-sound m crit n (from + 3)))
 
   by-sound : (f : Frame) (m : Named) → SoundVerdict (verdictBy s f m)
   by-sound f (named.Is m) = on-pick SoundVerdict (asks m) (inside-sound m (f .from) (f .crit)) (without-sound outcome.NotAmong)

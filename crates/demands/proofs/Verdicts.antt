@@ -1,7 +1,7 @@
 -- What holds of a message that was not read and of every one that was holds of each verdict; so a record's items are an array that a list fills,
 -- and octets that are read as a request are judged as they are read.
 -- Assumes nothing.
-use Prim.Native.Nat.{ℕ, _+_}
+use Prim.Native.Nat.{ℕ}
 use mathlib.Core.Path.{_≡_, refl}
 use mathlib.Core.Bool.{Bool, true, false}
 use mathlib.Core.List.{List, []}
@@ -9,50 +9,42 @@ use lib.Dec.{ltb}
 use lib.ListN.{length}
 use Rattle.lists.specs.Lists.{pick}
 use Rattle.lists.proofs.Tests.{on-pick}
-use Rattle.octets.specs.Read.{Read, got, stop, _>>=_}
+use Rattle.octets.specs.Read.{Read, got, stop}
 use Rattle.octets.specs.declared.Span.{Span}
 use Rattle.identity.specs.declared.Item.{Item}
 use Rattle.identity.specs.declared.Items.{Items}
 use Rattle.identity.specs.Items.{itemsOf}
 use Rattle.items.specs.Items.{ResetType, whole, part, itemsAt, resetAt}
-use Rattle.elements.specs.Judge.{Found, elementsAt}
+use Rattle.elements.specs.Judge.{Found}
 use Rattle.tables.specs.declared.Message.{Message}
 use Rattle.tables.specs.declared.Message.the-variants as message
 use Rattle.tables.specs.declared.Named.{Named}
 use Rattle.tables.specs.declared.Named.the-variants as named
-use Rattle.tables.specs.Tables.{tableOf, namedBy}
+use Rattle.tables.specs.Tables.{namedBy}
 use Rattle.row_values.specs.Values.{within, resetOf, resetIn, listedBy, listIn}
 use Rattle.records.specs.Records.{rowIn, recordOf}
 use Rattle.frames.specs.declared.Frame.{Frame}
 use Rattle.opened.specs.declared.Outcome.{Outcome}
 use Rattle.opened.specs.declared.Outcome.the-variants as outcome
 use Rattle.messages.specs.declared.Verdict.{Verdict}
-use Rattle.frames.specs.Frame.{frameAt, countAt}
-use Rattle.messages.specs.Verdict.{without, verdictOf, orStopped, insideOf, ofEight, framed, readOf}
+use Rattle.frames.specs.Frame.{frameAt}
+use Rattle.opened.specs.Opened.{insideBy}
+use Rattle.messages.specs.Verdict.{without, takenOver, insideOf, ofEight, framed, readOf}
+use Rattle.messages.proofs.InsideLaws.{inside-has}
 use Rattle.requests.specs.Requests.{asks}
 use Rattle.judge.specs.Judge.{Judged, noFrame, judgedBy, verdictBy, judgedIn, judgedOf}
 use Rattle.said.specs.Said.{messageOf}
 
-module _ (P : Verdict → Type 0) (s : List ℕ) (none : (x : Outcome) → P (without x)) where
-  inside-has : (m : Message) → ((crit n : ℕ) (f : Found) → P (verdictOf m s crit n f)) → (from crit : ℕ) → P (insideOf m s from crit)
-  unfolding insideOf _>>=_
-  inside-has m one from crit = count (countAt s from)
-    where
-      found : (n : ℕ) (r : Read Found) → P (orStopped (r >>= λ f. got (verdictOf m s crit n f)))
-      found n (got f) = one crit n f
-      found n (stop x) = none (outcome.Stopped x)
+module _ (P : Verdict → Type 0) (s : List ℕ) (none : (x : Outcome) → P (without x)) (one : (m : Message) (crit n : ℕ) (f : Found) → P (takenOver m s crit (got (insideBy n f)))) where
+  within-has : (m : Message) (from crit : ℕ) → P (insideOf m s from crit)
+  within-has m from crit = inside-has m s from crit P (λ x q. none (outcome.Stopped x)) (λ n f q. one m crit n f)
 
-      count : (r : Read ℕ) → P (orStopped (r >>= λ n. elementsAt (tableOf m) s n (from + 3) >>= λ f. got (verdictOf m s crit n f)))
-      count (got n) = found n (elementsAt (tableOf m) s n (from + 3))
-      count (stop x) = none (outcome.Stopped x)
-
-module _ (P : Verdict → Type 0) (s : List ℕ) (none : (x : Outcome) → P (without x)) (one : (m : Message) (crit n : ℕ) (f : Found) → P (verdictOf m s crit n f)) where
   eight-has : (f : Frame) (m : Named) → P (ofEight s f m)
-  eight-has f (named.Is m) = inside-has P s none m (one m) (f .from) (f .crit)
+  eight-has f (named.Is m) = within-has m (f .from) (f .crit)
   eight-has f named.Other = none outcome.NotAmong
 
   asked-has : (f : Frame) (m : Named) → P (verdictBy s f m)
-  asked-has f (named.Is m) = on-pick P (asks m) (inside-has P s none m (one m) (f .from) (f .crit)) (none outcome.NotAmong)
+  asked-has f (named.Is m) = on-pick P (asks m) (within-has m (f .from) (f .crit)) (none outcome.NotAmong)
   asked-has f named.Other = none outcome.NotAmong
 
   pub read-has : P (readOf s)
@@ -123,8 +115,8 @@ record-message s row crit message.ErrorIndication = refl
 -- what is inside is the message's own record, or none
 inside-message : (s : List ℕ) (m n : Message) (from crit : ℕ) → messageOf (insideOf n s from crit .message .body) ≡ named.Is m → n ≡ m
 inside-message s m n from crit =
-    inside-has (λ v. messageOf (v .message .body) ≡ named.Is m → n ≡ m) s (λ x e. cc) n
-    (λ k c f e. let r = record-message s (rowIn (f .spans)) k n in cc) from crit
+    inside-has n s from crit (λ v. messageOf (v .message .body) ≡ named.Is m → n ≡ m) (λ x q e. cc)
+    (λ k f q e. let r = record-message s (rowIn (f .spans)) crit n in cc)
 
 pub judged-as-read : (s : List ℕ) (m : Message) → asks m ≡ true → messageOf (readOf s .message .body) ≡ named.Is m → judgedOf s .verdict ≡ readOf s
 unfolding readOf judgedOf

@@ -1,10 +1,9 @@
 -- The readers' answers, as readings; and those with an array, from the readings.
-use mathlib.Core.List.{[]}
 use Rattle.octets.specs.Read.{Read, got, stop}
 use Rattle.octets.specs.Many.{Part}
 use Rattle.octets.specs.declared.Gate.the-variants as gate
 use Rattle.diagnostics.specs.Diagnostics.{Diagnostics, Marks, emptyHead}
-use Rattle.entries.specs.Entries.{entriesOf}
+use Rattle.entries.specs.Entries.{entriesOf, noEntries}
 use Rattle.diagnostics.specs.declared.Number.{Number}
 use Rattle.diagnostics.specs.declared.Head.{Head}
 use Rattle.diagnostics.specs.declared.Marks as own
@@ -34,4 +33,4 @@ foundHead (head.Stop x) = stop x
 -- Criticality Diagnostics with their entries in the front of an array, or why there are none
 abbrev pub diagnosticsRead : Read Diagnostics → DiagnosticsRead
 diagnosticsRead (got d) = record { gate = gate.Pass; head = d .head; entries = entriesOf (d .entries) }
-diagnosticsRead (stop x) = record { gate = gate.Stop x; head = emptyHead; entries = entriesOf [] }
+diagnosticsRead (stop x) = record { gate = gate.Stop x; head = emptyHead; entries = noEntries }

@@ -1,5 +1,5 @@
 -- A list of items as the array that holds it, and back.
-use mathlib.Core.List.{List, _++_}
+use mathlib.Core.List.{List, [], _++_}
 use Prim.Native.Nat.{_-_}
 use lib.ListN.{length, take, replicate}
 use Rattle.identity.specs.declared.Mme.the-variants as mme
@@ -18,3 +18,6 @@ listed a = take (a .count) (a .rows)
 -- the array of a list of at most 256: empty items behind it
 abbrev pub itemsOf : List Item → Items
 itemsOf is = record { rows = is ++ replicate (256 - length is) emptyItem; count = length is }
+
+abbrev pub noItems : Items
+noItems = itemsOf []

@@ -3,8 +3,7 @@ ghost use mathlib.Core.Path.{_≡_};
 ghost use Prim.Native.Nat.{_+_, _<_};
 ghost use Rattle.octets.specs.Read.{stop};
 ghost use mathlib.Core.Bool.{true, false};
-ghost use mathlib.Core.List.{[]};
-ghost use Rattle.identity.specs.Items.{itemsOf};
+ghost use Rattle.identity.specs.Items.{noItems};
 ghost use Rattle.items.specs.Items.{itemsAt, resetBy, resetAt};
 ghost use Rattle.items.specs.Found.{itemsRead, wholeRead, resetRead};
 use identity::Item;
@@ -43,7 +42,7 @@ const NO_ITEM: Item = Item {
 
 // The empty list.
 pub fn no_items() -> Items
-    ensures { λ r. ⌜ r ≡ itemsOf [] ⌝ }
+    ensures { λ r. ⌜ r ≡ noItems ⌝ }
 {
     Items {
         rows: [NO_ITEM; 256],

@@ -41,7 +41,7 @@ use Rattle.tables.specs.declared.Message.{Message}
 use Rattle.tables.specs.Tables.{tableOf}
 use Rattle.frames.specs.declared.Frame.{Frame}
 use Rattle.frames.specs.Frame.{kindAt, frameAt, countAt}
-use Rattle.demands.proofs.Sound.{insideRead}
+use Rattle.opened.specs.Opened.{openedAt}
 
 -- a reading stops at octet n or before
 abbrev pub Near : {A : Type 0} → ℕ → Read A → Type 0
@@ -464,7 +464,8 @@ module _ (n : ℕ) (s : List ℕ) (l : length s ≤ n) where
       let h = number-got s (at + 1) 2 (b .2) .0 in
       omega arith
 
-  pub inside-near : (m : Message) (from crit : ℕ) → from ≤ n → Near n (insideRead m s from crit)
-  inside-near m from crit i =
+  pub opened-near : (m : Message) (from : ℕ) → from ≤ n → Near n (openedAt m s from)
+  unfolding openedAt
+  opened-near m from i =
       near-then n (countAt s from) _ (count-near from i) (λ k q. let h = count-in from q in
       near-then n (elementsAt (tableOf m) s k (from + 3)) _ (elements-near n s l (tableOf m) k (from + 3) h) (λ f r. tt))

@@ -1,16 +1,17 @@
 -- The numbers of a call are small: its place is at most the number of the message's octets, and at most 8,192; so is the number of the reply's.
 -- Assumes nothing.
-use Prim.Native.Nat.{ℕ, _+_, _^_, _<_, _≤_}
+use Prim.Native.Nat.{ℕ, _^_, _<_, _≤_}
 use mathlib.Core.Path.{_≡_, refl, sym, subst}
 use mathlib.Core.Bool.{Bool, true, false}
 use mathlib.Core.List.{List, []}
 use native.Mathlib.Omega.{arith}
 use borrow.Author.Tests.{leb-true, ltb-false}
-use lib.Dec.{ltb, leb, eqb}
+use lib.Dec.{ltb, leb}
 use lib.ListN.{length}
-use Rattle.lists.specs.Lists.{pick, some}
+use Rattle.lists.specs.Lists.{pick}
 use Rattle.lists.proofs.Tests.{on-pick, and-right}
 use Rattle.octets.specs.Read.{Read, got, stop}
+use Rattle.octets.specs.declared.Stop.{Stop}
 use Rattle.octets.specs.declared.Stop.the-variants.{Fault, Extension}
 use Rattle.identity.specs.declared.MmeId.{MmeId}
 use Rattle.identity.specs.declared.MceId.{MceId}
@@ -19,9 +20,7 @@ use Rattle.identity.specs.declared.Mce.the-variants as mce
 use Rattle.identity.specs.declared.Session.{Session}
 use Rattle.identity.specs.declared.Tmgi.{Tmgi}
 use Rattle.identity.specs.declared.Items.{Items}
-use Rattle.entries.specs.declared.Entry.{Entry}
 use Rattle.entries.specs.declared.Entries.{Entries}
-use Rattle.envelopes.specs.Envelope.{headsAt}
 use Rattle.elements.specs.Judge as elements
 use Rattle.tables.specs.declared.Message.{Message}
 use Rattle.tables.specs.declared.Named.{Named}
@@ -35,7 +34,9 @@ use Rattle.opened.specs.declared.Outcome.{Outcome}
 use Rattle.opened.specs.declared.Outcome.the-variants as outcome
 use Rattle.messages.specs.declared.Verdict.{Verdict}
 use Rattle.frames.specs.Frame.{frameAt}
-use Rattle.messages.specs.Verdict.{verdictOf, without, orStopped, insideOf}
+use Rattle.opened.specs.Opened.{Inside, insideBy}
+use Rattle.messages.specs.Verdict.{without, insideOf}
+use Rattle.messages.proofs.InsideLaws.{inside-has}
 use Rattle.said.specs.Said.{saidBy}
 use Rattle.said.specs.Value.{Given}
 use Rattle.said.specs.Octets.{messageOctets}
@@ -53,9 +54,8 @@ use Rattle.unit.specs.Decided.{Decided, keeps, changes, applied, decided}
 use Rattle.answers.specs.Answers.{numbered}
 use Rattle.unit.specs.Unit.{Call, octetsIn, replyOctets, answerOf, settledIf, fits, settled, onTable, call, Called}
 use Rattle.unit.specs.declared.Back as unit
-use Rattle.demands.proofs.Sound.{insideRead, inside-got}
 use Rattle.link.specs.Link.{Handed}
-use Rattle.link.proofs.Near.{Near, inside-near, frame-near, frame-in}
+use Rattle.link.proofs.Near.{Near, opened-near, frame-near, frame-in}
 
 -- ---- outcomes
 
@@ -69,20 +69,16 @@ PlacedBy n (outcome.Misplaced k) = Unit
 PlacedBy n outcome.Rejected = Unit
 
 module _ (n : ℕ) (s : List ℕ) (l : length s ≤ n) where
-  verdict-placed : (m : Message) (crit k : ℕ) (f : elements.Found) → PlacedBy n (verdictOf m s crit k f .outcome)
-  verdict-placed m crit k f = on-pick (PlacedBy n) (ltb (f .place) k) tt (on-pick (PlacedBy n) (some (λ (e : Entry). eqb (e .crit) 0) (f .listed)) tt tt)
+  found-placed : (k : ℕ) (f : elements.Found) → PlacedBy n (insideBy k f .outcome)
+  found-placed k f = on-pick (PlacedBy n) (ltb (f .place) k) tt (on-pick (PlacedBy n) (elements.noted (f .listed) .reject) tt tt)
+
+  stop-placed : (x : Stop) → Near {A = Inside} n (stop x) → PlacedBy n (outcome.Stopped x)
+  stop-placed (Fault p) h = h
+  stop-placed (Extension p) h = h
 
   pub inside-placed : (m : Message) (from crit : ℕ) → from ≤ n → PlacedBy n (insideOf m s from crit .outcome)
-  unfolding insideOf
-  inside-placed m from crit i = by (insideRead m s from crit) refl (inside-near n s l m from crit i)
-    where
-      by : (r : Read Verdict) → r ≡ insideRead m s from crit → Near n r → PlacedBy n (orStopped r .outcome)
-      by (got v) q h =
-          let g = inside-got m s from crit q in
-          subst (λ (x : Verdict). PlacedBy n (x .outcome)) (sym (g .judged))
-          (verdict-placed m crit (g .count) (elements.judgedOf (tableOf m) (g .count) (headsAt s (g .count) (from + 3))))
-      by (stop (Fault p)) q h = h
-      by (stop (Extension p)) q h = h
+  inside-placed m from crit i =
+      inside-has m s from crit (λ (v : Verdict). PlacedBy n (v .outcome)) (λ x q. stop-placed x (subst (Near n) (sym q) (opened-near n s l m from i))) (λ k f q. found-placed k f)
 
   by-placed : (f : Frame) (m : Named) → f .from ≤ n → PlacedBy n (verdictBy s f m .outcome)
   by-placed f (named.Is m) i = on-pick (λ (v : Verdict). PlacedBy n (v .outcome)) (asks m) (inside-placed m (f .from) (f .crit) i) tt

@@ -6,7 +6,6 @@ use lib.ListN.{length}
 use Rattle.lists.specs.Lists.{pick}
 use Rattle.octets.specs.Read.{Read, got, stop}
 use Rattle.entries.specs.Entries.{noEntries}
-use Rattle.elements.specs.Judge.{Found}
 use Rattle.tables.specs.declared.Message.{Message}
 use Rattle.tables.specs.declared.Named.{Named}
 use Rattle.tables.specs.declared.Named.the-variants as named
@@ -16,27 +15,21 @@ use Rattle.frames.specs.declared.Frame.{Frame}
 use Rattle.frames.specs.Frame.{frameAt}
 use Rattle.opened.specs.declared.Outcome.{Outcome}
 use Rattle.opened.specs.declared.Outcome.the-variants.{TooLong, Stopped, NotAmong}
-use Rattle.opened.specs.Opened.{Inside, insideBy, countedAt}
+use Rattle.opened.specs.Opened.{Inside, openedAt}
 use Rattle.messages.specs.declared.Verdict.{Verdict}
 
 -- without a record: answers 1 to 4
 abbrev pub without : Outcome → Verdict
 without o = record { outcome = o; message = noRecord; noted = noEntries }
 
--- with the values taken over
-abbrev pub takenOver : Message → List ℕ → ℕ → Inside → Verdict
-takenOver m s crit i = record { outcome = i .outcome; message = recordOf s (rowIn (i .spans)) crit m; noted = i .noted }
-
-abbrev pub verdictOf : Message → List ℕ → ℕ → ℕ → Found → Verdict
-verdictOf m s crit n f = takenOver m s crit (insideBy n f)
-
-abbrev pub orStopped : Read Verdict → Verdict
-orStopped (got v) = v
-orStopped (stop x) = without (Stopped x)
+-- its values taken over; where octets are at fault there is no record
+abbrev pub takenOver : Message → List ℕ → ℕ → Read Inside → Verdict
+takenOver m s crit (got i) = record { outcome = i .outcome; message = recordOf s (rowIn (i .spans)) crit m; noted = i .noted }
+takenOver m s crit (stop x) = without (Stopped x)
 
 -- what is inside the frame, from octet from on
 unfoldable pub insideOf : Message → List ℕ → ℕ → ℕ → Verdict
-insideOf m s from crit = orStopped (countedAt (verdictOf m s crit) m s from)
+insideOf m s from crit = takenOver m s crit (openedAt m s from)
 
 -- one of the eight, or none
 abbrev pub ofEight : List ℕ → Frame → Named → Verdict

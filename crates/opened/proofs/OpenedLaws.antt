@@ -14,7 +14,7 @@ use Rattle.octets.proofs.Chain.{then-got}
 use Rattle.octets.proofs.Got.{number-got}
 use Rattle.elements.specs.declared.Judged.{Judged}
 use Rattle.rows.specs.Table.{rowsIn, noRow}
-use Rattle.elements.specs.Judge.{Found, noted, judgedBy}
+use Rattle.elements.specs.Judge.{Found, judgedBy}
 use Rattle.tables.specs.declared.Message.{Message}
 use Rattle.tables.specs.Tables.{tableOf, rowsOf}
 use Rattle.frames.specs.Frame.{countAt}
@@ -48,7 +48,6 @@ judged-pass j (stop y) e g = absurd (never (sym g ∙ ap (λ (y : Judged). y .ga
 -- what the code holds of the judging is what is inside
 pub opened-is : (n : ℕ) (j : Judged) (f : Found) → j ≡ judgedBy (got f) → (o : Outcome) → o ≡ outcomeBy n (j .place) (j .noted .reject)
     → record { gate = gate.Pass; outcome = o; spans = j .spans; noted = j .noted .list } ≡ openedBy (got (insideBy n f))
-unfolding noted
 opened-is n j f e o p =
     (λ i. record { gate = gate.Pass; outcome = p i; spans = j .spans; noted = j .noted .list })
     ∙ ap (λ (y : Judged). record { gate = gate.Pass; outcome = outcomeBy n (y .place) (y .noted .reject); spans = y .spans; noted = y .noted .list }) e

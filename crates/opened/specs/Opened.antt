@@ -2,16 +2,15 @@
 use Prim.Native.Nat.{ℕ, _+_}
 use mathlib.Core.Bool.{Bool}
 use mathlib.Core.List.{List, []}
-use lib.Dec.{ltb, eqb}
-use lib.ListN.{take}
-use Rattle.lists.specs.Lists.{pick, some, fill}
-use Rattle.octets.specs.Read.{Read, got, stop, _>>=_}
+use lib.Dec.{ltb}
+use Rattle.lists.specs.Lists.{pick, fill}
+use Rattle.octets.specs.Read.{Read, got, stop, _>>=_, _>>_}
 use Rattle.octets.specs.declared.Gate.the-variants as gate
 use Rattle.octets.specs.declared.Span.{Span}
-use Rattle.entries.specs.declared.Entry.{Entry}
 use Rattle.entries.specs.declared.Entries.{Entries}
-use Rattle.entries.specs.Entries.{entriesOf, noEntries}
+use Rattle.entries.specs.Entries.{noEntries}
 use Rattle.octets.specs.Span.{noSpan}
+use Rattle.elements.specs.Judge as judge
 use Rattle.elements.specs.Judge.{Found, elementsAt}
 use Rattle.tables.specs.declared.Message.{Message}
 use Rattle.tables.specs.Tables.{tableOf}
@@ -32,18 +31,16 @@ pub record Inside : Type 0 where
 
 -- by what was found of n elements
 abbrev pub insideBy : ℕ → Found → Inside
-insideBy n f = record {
-  outcome = outcomeBy n (f .place) (some (λ (e : Entry). eqb (e .crit) 0) (f .listed));
-  spans = f .spans;
-  noted = entriesOf (take 256 (f .listed));
-}
+insideBy n f =
+    let w = judge.noted (f .listed) in
+    record { outcome = outcomeBy n (f .place) (w .reject); spans = f .spans; noted = w .list }
 
--- the count of elements at octet from, and the elements behind it: what a says of how many they are and what was found of them
-abbrev pub countedAt : {A : Type 0} → (ℕ → Found → A) → Message → List ℕ → ℕ → Read A
-countedAt a m s from = countAt s from >>= λ n. elementsAt (tableOf m) s n (from + 3) >>= λ f. got (a n f)
-
+-- the count of elements at octet from, and the elements behind it
 unfoldable pub openedAt : Message → List ℕ → ℕ → Read Inside
-openedAt = countedAt insideBy
+openedAt m s from = do
+  n ← countAt s from
+  f ← elementsAt (tableOf m) s n (from + 3)
+  got (insideBy n f)
 
 -- as the code answers: spans in an array of 12
 abbrev pub openedBy : Read Inside → Opened

@@ -8,13 +8,13 @@ use Rattle.identity.specs.declared.Mme.the-variants as mme
 use Rattle.identity.specs.declared.Mce.the-variants as mce
 use Rattle.identity.specs.declared.Item.{Item}
 use Rattle.identity.specs.Items as identity
-use Rattle.identity.specs.Items.{emptyItem}
+use Rattle.identity.specs.Items.{emptyItem, noItems}
 use Rattle.row_values.specs.declared.MaybeCause.the-variants as cause
 use Rattle.row_values.specs.declared.MaybeReset.the-variants as reset
 use Rattle.row_values.specs.declared.Carried.the-variants as carried
 use Rattle.records.specs.declared.Body.the-variants as body
 use Rattle.records.specs.declared.Record.{Record}
-use Rattle.records.specs.Records.{noItems, noRecord}
+use Rattle.records.specs.Records.{noRecord}
 use Rattle.entries.specs.Entries.{noEntries}
 use Rattle.slots.specs.Slots.{slotsOf}
 use Rattle.record_out.specs.Layout.{slotsOctets, recordOctets}

@@ -11,7 +11,7 @@ use lib.ListN.{length, take, set, replicate}
 use Rattle.lists.specs.Lists.{pick}
 use Rattle.lists.proofs.Tests.{on-pick}
 use Rattle.lists.proofs.Fill.{length-fill, take-fill}
-use Rattle.octets.specs.Read.{Read, got, stop, _>>=_}
+use Rattle.octets.specs.Read.{Read, got, stop}
 use Rattle.octets.specs.Field.{numberAt, openAt}
 use Rattle.octets.specs.Many.{Each}
 use Rattle.octets.specs.Stands.{Octets}
@@ -52,9 +52,10 @@ use Rattle.records.specs.Records.{rowIn, noRecord, recordOf}
 use Rattle.frames.specs.declared.Frame.{Frame}
 use Rattle.opened.specs.declared.Outcome.the-variants as outcome
 use Rattle.messages.specs.declared.Verdict.{Verdict}
-use Rattle.frames.specs.Frame.{frameAt, countAt}
+use Rattle.frames.specs.Frame.{frameAt}
 use Rattle.messages.specs.Verdict as messages
-use Rattle.messages.specs.Verdict.{without, verdictOf, orStopped, insideOf, ofEight, framed}
+use Rattle.messages.specs.Verdict.{without, insideOf, ofEight, framed}
+use Rattle.messages.proofs.InsideLaws.{inside-has}
 use Rattle.slots.specs.Slots.{mmeValue, mceValue, carriedValue, diagnosticsValue}
 use Rattle.record_out.specs.Layout.{recordOctets}
 use Rattle.record_in.specs.RecordIn.{Is, readRecord, ValueHeld, ItemsHeld, EntriesHeld, Good}
@@ -227,29 +228,14 @@ no-record = record { body = tt; items = no-items; entries = no-entries }
 
 -- ---- the verdict
 
-stopped-good : (r : Read Verdict) → ((v : Verdict) → got v ≡ r → Good (v .message)) → Good (orStopped r .message)
-stopped-good (got v) g = g v refl
-stopped-good (stop x) g = no-record
-
 module _ (s : List ℕ) (o : Octets s) (b : length s ≤ 8192) where
-  -- what is inside a frame, if nothing stops the reading
-  abbrev inside : Message → ℕ → ℕ → Read Verdict
-  inside x from crit = countAt s from >>= λ n. elementsAt (tableOf x) s n (from + 3) >>= λ f. got (verdictOf x s crit n f)
-
-  of-inside : (x : Message) (from crit : ℕ) (v : Verdict) → got v ≡ inside x from crit → Good (v .message)
-  unfolding elementsAt
-  of-inside x from crit v q =
-      let i = then-got (countAt s from) _ q in
-      let j = then-got (elementsAt (tableOf x) s (i .0) (from + 3)) _ (i .2) in
-      let k = then-got (scanAt (tableOf x) s (i .0) (from + 3)) _ (j .1) in
-      let f = judgedOf (tableOf x) (i .0) (headsAt s (i .0) (from + 3)) in
-      let g : Good (verdictOf x s crit (i .0) f .message) = record-good s o b (rowIn (f .spans)) (spans-within s (tableOf x) (i .0) (from + 3)) crit x in
-      let h : Good (verdictOf x s crit (i .0) (j .0) .message) = subst (λ (y : Found). Good (verdictOf x s crit (i .0) y .message)) (sym (same-got (k .2))) g in
-      subst (λ (y : Verdict). Good (y .message)) (sym (same-got (j .2))) h
-
   inside-good : (x : Message) (from crit : ℕ) → Good (insideOf x s from crit .message)
-  unfolding insideOf
-  inside-good x from crit = stopped-good (inside x from crit) (of-inside x from crit)
+  unfolding elementsAt
+  inside-good x from crit =
+      inside-has x s from crit (λ (v : Verdict). Good (v .message)) (λ p q. no-record) (λ n f q.
+      let k = then-got (scanAt (tableOf x) s n (from + 3)) _ q in
+      let g = record-good s o b (rowIn (judgedOf (tableOf x) n (headsAt s n (from + 3)) .spans)) (spans-within s (tableOf x) n (from + 3)) crit x in
+      subst (λ (y : Found). Good (recordOf s (rowIn (y .spans)) crit x)) (sym (same-got (k .2))) g)
 
   framed-good : (r : Read Frame) → Good (framed s r .message)
   framed-good (got f) = by (namedBy (f .kind) (f .code))

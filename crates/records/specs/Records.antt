@@ -1,11 +1,10 @@
 -- The record of a message, from where the value of each row of its table stands.
 use Prim.Native.Nat.{ℕ}
-use mathlib.Core.List.{List, []}
+use mathlib.Core.List.{List}
 use lib.ListN.{getD}
 use Rattle.octets.specs.declared.Span.{Span}
 use Rattle.octets.specs.Span.{noSpan}
-use Rattle.identity.specs.declared.Items.{Items}
-use Rattle.identity.specs.Items.{itemsOf}
+use Rattle.identity.specs.Items.{noItems}
 use Rattle.entries.specs.Entries.{noEntries}
 use Rattle.tables.specs.declared.Message.{Message}
 use Rattle.tables.specs.declared.Message.the-variants as message
@@ -13,9 +12,6 @@ use Rattle.records.specs.declared.Body.the-variants as body
 use Rattle.records.specs.declared.Record.{Record}
 use Rattle.records.specs.declared.StartCarried.{StartCarried}
 use Rattle.row_values.specs.Values.{mmeIn, mceIn, tmgiIn, sessionIn, causeIn, carriedIn, diagnosticsIn, resetIn, listIn}
-
-abbrev pub noItems : Items
-noItems = itemsOf []
 
 -- no message
 abbrev pub noRecord : Record

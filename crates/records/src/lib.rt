@@ -1,7 +1,7 @@
 // What is read of a message: the record. A value that was not read, or that the message lacks, is absent.
 // Values that are read in full stand in the record; carried ones are places in the octets.
 ghost use mathlib.Core.Path.{_≡_};
-ghost use Rattle.records.specs.Records.{noItems, noRecord, rowIn, startCarried, recordOf};
+ghost use Rattle.records.specs.Records.{noRecord, rowIn, startCarried, recordOf};
 ghost use Rattle.entries.specs.Entries.{noEntries};
 use entries::Entries;
 use identity::Items;

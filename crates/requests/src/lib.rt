@@ -1,6 +1,7 @@
 // What a message asks for. Of its values only those are read that say so.
 ghost use mathlib.Core.Path.{_≡_};
-ghost use Rattle.records.specs.Records.{noItems, rowIn};
+ghost use Rattle.identity.specs.Items.{noItems};
+ghost use Rattle.records.specs.Records.{rowIn};
 ghost use Rattle.requests.specs.Requests.{asks, wantedIn};
 use identity::Items;
 use identity::Mce;

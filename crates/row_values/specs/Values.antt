@@ -1,7 +1,7 @@
 -- What a row's value says, by where it stands; one that is not there says nothing.
 use Prim.Native.Nat.{ℕ}
 use mathlib.Core.Bool.{true, false}
-use mathlib.Core.List.{List, []}
+use mathlib.Core.List.{List}
 use lib.ListN.{take}
 use Rattle.lists.specs.Lists.{pick}
 use Rattle.octets.specs.Read.{Read, got, stop}
@@ -14,11 +14,11 @@ use Rattle.identity.specs.declared.Mce.{Mce}
 use Rattle.identity.specs.declared.Mce.the-variants as mce
 use Rattle.identity.specs.declared.Session.{Session}
 use Rattle.identity.specs.declared.Session.the-variants as session
-use Rattle.identity.specs.Items.{itemsOf}
+use Rattle.identity.specs.Items.{itemsOf, noItems}
 use Rattle.values.specs.Values.{mmeAt, mceAt, tmgiAt, sessionAt, causeAt}
 use Rattle.items.specs.Items.{ResetType, whole, part, itemsAt, resetAt}
 use Rattle.diagnostics.specs.Diagnostics.{Diagnostics, diagnosticsAt}
-use Rattle.entries.specs.Entries.{entriesOf}
+use Rattle.entries.specs.Entries.{entriesOf, noEntries}
 use Rattle.row_values.specs.declared.MaybeTmgi.{MaybeTmgi}
 use Rattle.row_values.specs.declared.MaybeTmgi.the-variants as tmgi
 use Rattle.row_values.specs.declared.MaybeCause.{MaybeCause}
@@ -60,24 +60,24 @@ carriedIn v = pick (present v) (carried.At v) carried.Absent
 
 abbrev pub diagnosedBy : Read Diagnostics → Diagnosed
 diagnosedBy =
-    orElse (record { diagnostics = diagnosed.Absent; entries = entriesOf [] })
+    orElse (record { diagnostics = diagnosed.Absent; entries = noEntries })
     (λ (d : Diagnostics). record { diagnostics = diagnosed.Is (d .head); entries = entriesOf (d .entries) })
 
 unfoldable pub diagnosticsIn : List ℕ → Span → Diagnosed
 diagnosticsIn s v = diagnosedBy (within diagnosticsAt s v)
 
 abbrev pub resetBy : ResetType → ResetBy
-resetBy whole = record { reset = reset.Whole; items = itemsOf [] }
+resetBy whole = record { reset = reset.Whole; items = noItems }
 resetBy (part is) = record { reset = reset.Part; items = itemsOf is }
 
 abbrev pub resetOf : Read ResetType → ResetBy
-resetOf = orElse (record { reset = reset.Absent; items = itemsOf [] }) resetBy
+resetOf = orElse (record { reset = reset.Absent; items = noItems }) resetBy
 
 unfoldable pub resetIn : List ℕ → Span → ResetBy
 resetIn s v = resetOf (within resetAt s v)
 
 abbrev pub listedBy : Read (List Item) → Listed
-listedBy = orElse (record { listed = false; items = itemsOf [] }) (λ (is : List Item). record { listed = true; items = itemsOf is })
+listedBy = orElse (record { listed = false; items = noItems }) (λ (is : List Item). record { listed = true; items = itemsOf is })
 
 unfoldable pub listIn : List ℕ → Span → Listed
 listIn s v = listedBy (within itemsAt s v)

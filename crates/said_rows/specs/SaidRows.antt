@@ -12,11 +12,10 @@ use Rattle.identity.specs.declared.Mce.{Mce}
 use Rattle.identity.specs.declared.Mce.the-variants as mce
 use Rattle.identity.specs.declared.Item.{Item}
 use Rattle.identity.specs.declared.Items.{Items}
-use Rattle.identity.specs.Items.{emptyItem}
+use Rattle.identity.specs.Items.{emptyItem, noItems}
 use Rattle.entries.specs.declared.Entry.{Entry}
 use Rattle.entries.specs.declared.Entries.{Entries}
 use Rattle.entries.specs.Entries.{emptyEntry, noEntries}
-use Rattle.records.specs.Records.{noItems}
 
 -- absent by a first octet of 0, else a value
 abbrev pub unless0 : {A : Type 0} → List ℕ → A → A → A

@@ -8,10 +8,9 @@ use native.Mathlib.Omega.{arith}
 use borrow.Author.Tests.{ltb-false, eqb-true}
 use lib.Dec.{ltb, eqb}
 use lib.ListN.{length}
-use Rattle.lists.specs.Lists.{pick, some}
+use Rattle.lists.specs.Lists.{pick}
 use Rattle.octets.specs.Read.{Read, got, stop, _>>=_}
 use Rattle.octets.specs.declared.Stop.{Stop}
-use Rattle.entries.specs.declared.Entry.{Entry}
 use Rattle.envelopes.specs.Envelope.{scanAt, headsAt}
 use Rattle.elements.specs.Judge as judge
 use Rattle.tables.specs.declared.Message.{Message}
@@ -23,7 +22,8 @@ use Rattle.frames.specs.declared.Frame.{Frame}
 use Rattle.opened.specs.declared.Outcome.the-variants as outcome
 use Rattle.messages.specs.declared.Verdict.{Verdict}
 use Rattle.frames.specs.Frame.{frameAt, countAt}
-use Rattle.messages.specs.Verdict.{verdictOf, without, orStopped, insideOf, framed, readOf}
+use Rattle.opened.specs.Opened.{Inside, insideBy, openedAt}
+use Rattle.messages.specs.Verdict.{without, takenOver, insideOf, framed, readOf}
 
 -- a message has the kind and the code by which it was named
 pub named-code : (kind code : ℕ) (m : Message) → named.Is m ≡ namedBy kind code → (kind ≡ codeOf m .kind) × (code ≡ codeOf m .code)
@@ -50,8 +50,8 @@ not-stopped : {B : Type 0} {x : Stop} → outcome.Stopped x ≡ outcome.Accepted
 not-stopped q = let z : _≡_ {A = ℕ} 0 1 = cc in absurd (omega arith)
 
 -- all n elements count
-all-count : (m : Message) (s : List ℕ) (crit n : ℕ) (x : judge.Found) → verdictOf m s crit n x .outcome ≡ outcome.Accepted → n ≤ x .place
-all-count m s crit n x q = by (ltb (x .place) n) (some (λ (e : Entry). eqb (e .crit) 0) (x .listed)) refl q
+all-count : (n : ℕ) (x : judge.Found) → insideBy n x .outcome ≡ outcome.Accepted → n ≤ x .place
+all-count n x q = by (ltb (x .place) n) (judge.noted (x .listed) .reject) refl q
   where
     by : (b reject : Bool) → ltb (x .place) n ≡ b → pick b (outcome.Misplaced (x .place)) (pick reject outcome.Rejected outcome.Accepted) ≡ outcome.Accepted → n ≤ x .place
     by true reject e q = let z : _≡_ {A = ℕ} 0 1 = cc in absurd (omega arith)
@@ -74,20 +74,23 @@ module _ (s : List ℕ) (f : Frame) (m : Message) (n : ℕ) where
     pub all : n ≤ length (judge.front (tableOf m) 0 (headsAt s n (f .from + 3)))
     pub message : readOf s .message ≡ recordOf s (rowIn (judge.readOf (tableOf m) (judge.front (tableOf m) 0 (headsAt s n (f .from + 3))))) (f .crit) m
 
-  abbrev verdict : Verdict
-  verdict = verdictOf m s (f .crit) n (judge.judgedOf (tableOf m) n (headsAt s n (f .from + 3)))
+  abbrev inside : Inside
+  inside = insideBy n (judge.judgedOf (tableOf m) n (headsAt s n (f .from + 3)))
 
-  inside-is : got n ≡ countAt s (f .from) → insideOf m s (f .from) (f .crit) ≡ orStopped (scanAt (tableOf m) s n (f .from + 3) >>= λ _. got verdict)
-  unfolding insideOf judge.elementsAt _>>=_
+  abbrev verdict : Verdict
+  verdict = takenOver m s (f .crit) (got inside)
+
+  inside-is : got n ≡ countAt s (f .from) → insideOf m s (f .from) (f .crit) ≡ takenOver m s (f .crit) (scanAt (tableOf m) s n (f .from + 3) >>= λ _. got inside)
+  unfolding insideOf openedAt judge.elementsAt _>>=_
   inside-is c = rw (← c) (by (scanAt (tableOf m) s n (f .from + 3)))
     where
       by : (r : Read Unit)
-          → orStopped (r >>= (λ _. got (judge.judgedOf (tableOf m) n (headsAt s n (f .from + 3)))) >>= λ x. got (verdictOf m s (f .crit) n x)) ≡ orStopped (r >>= λ _. got verdict)
+          → takenOver m s (f .crit) (r >>= (λ _. got (judge.judgedOf (tableOf m) n (headsAt s n (f .from + 3)))) >>= λ x. got (insideBy n x)) ≡ takenOver m s (f .crit) (r >>= λ _. got inside)
       by (got x) = refl
       by (stop x) = refl
 
   -- nothing stopped
-  passed : (r : Read Unit) → orStopped (r >>= λ _. got verdict) .outcome ≡ outcome.Accepted → (got tt ≡ r) × (orStopped (r >>= λ _. got verdict) ≡ verdict)
+  passed : (r : Read Unit) → takenOver m s (f .crit) (r >>= λ _. got inside) .outcome ≡ outcome.Accepted → (got tt ≡ r) × (takenOver m s (f .crit) (r >>= λ _. got inside) ≡ verdict)
   unfolding _>>=_
   passed (got x) h = (refl, refl)
   passed (stop x) h = not-stopped h
@@ -96,13 +99,13 @@ module _ (s : List ℕ) (f : Frame) (m : Message) (n : ℕ) where
   unfolding judge.judgedOf
   accepted q r c a =
       let z = fits s a in
-      let e : framed s (frameAt s) ≡ orStopped (scanAt (tableOf m) s n (f .from + 3) >>= λ _. got verdict) = rw (← q, ← r) (inside-is c) in
+      let e : framed s (frameAt s) ≡ takenOver m s (f .crit) (scanAt (tableOf m) s n (f .from + 3) >>= λ _. got inside) = rw (← q, ← r) (inside-is c) in
       let w = z .1 ∙ e in
       let y = passed (scanAt (tableOf m) s n (f .from + 3)) (sym (ap (λ (v : Verdict). v .outcome) w) ∙ a) in
       let v : readOf s ≡ verdict = w ∙ y .1 in
       record {
         size = z .0;
         scan = y .0;
-        all = all-count m s (f .crit) n (judge.judgedOf (tableOf m) n (headsAt s n (f .from + 3))) (sym (ap (λ (v : Verdict). v .outcome) v) ∙ a);
+        all = all-count n (judge.judgedOf (tableOf m) n (headsAt s n (f .from + 3))) (sym (ap (λ (v : Verdict). v .outcome) v) ∙ a);
         message = ap (λ (v : Verdict). v .message) v;
       }

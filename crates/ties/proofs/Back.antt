@@ -18,6 +18,7 @@ use Rattle.octets.specs.Many.{Each}
 use Rattle.items.specs.Items.{ResetType, whole, part}
 use Rattle.rows.specs.declared.Row.{Row}
 use Rattle.elements.specs.Judge.{Found}
+use Rattle.elements.specs.Judge as judge
 use Rattle.tables.specs.declared.Message.{Message}
 use Rattle.tables.specs.declared.Message.the-variants as message
 use Rattle.tables.specs.declared.Named.{Named}
@@ -27,7 +28,8 @@ use Rattle.records.specs.declared.Record.{Record}
 use Rattle.records.specs.Records.{rowIn, recordOf}
 use Rattle.messages.specs.declared.Verdict.{Verdict}
 use Rattle.frames.specs.Frame.{frameAt}
-use Rattle.messages.specs.Verdict.{verdictOf, insideOf, orStopped, readOf}
+use Rattle.opened.specs.Opened.{insideBy, openedAt}
+use Rattle.messages.specs.Verdict.{takenOver, insideOf, readOf}
 use Rattle.said.specs.Value.{Value, Given, given, absent, carried, mme, mce, tmgi, session, cause, reset, list, diagnostics, hasOctets, resetGood}
 use Rattle.said.specs.Said.{saidBy}
 use Rattle.said.specs.Octets.{present, insideOctets, messageOctets}
@@ -142,14 +144,14 @@ module _ (m : Message) (vs : List Given) (g : Ranged (tableOf m) vs) (e : isWrit
       laid (messageOctets m vs) (omega arith) (tableOf m) vs _ (table-lawful m .rows) g (and-left (elementsGood (tableOf m) vs) _ e)
       (elements-fill (messageOctets m vs) (begins m vs) (tableOf m) vs filled)
 
-  inside-read : insideOf m (messageOctets m vs) (begins m vs) (codeOf m .crit) ≡ verdictOf m (messageOctets m vs) (codeOf m .crit) (present vs) (foundAll m vs)
-  unfolding insideOf
+  inside-read : insideOf m (messageOctets m vs) (begins m vs) (codeOf m .crit) ≡ takenOver m (messageOctets m vs) (codeOf m .crit) (got (insideBy (present vs) (foundAll m vs)))
+  unfolding insideOf openedAt
   inside-read =
       let l = elements in
       let r = table-lawful m in
       let n = present-rows l in
       let c = r .count in
-      ap orStopped (sym
+      ap (takenOver m (messageOctets m vs) (codeOf m .crit)) (sym
       (past _ _ (count-back (messageOctets m vs) (begins m vs) (tableOf m) vs filled (omega arith))
       (past _ (foundAll m vs) (elements-back (tableOf m) (r .distinct) l) refl)))
 
@@ -161,11 +163,12 @@ module _ (m : Message) (vs : List Given) (g : Ranged (tableOf m) vs) (e : isWrit
       let z = filled .ends in
       frame-back (codeOf m) (insideOctets (tableOf m) vs) (f .0) (f .1) (f .2) (omega arith) (omega arith)
 
-  message-read : readOf (messageOctets m vs) ≡ verdictOf m (messageOctets m vs) (codeOf m .crit) (present vs) (foundAll m vs)
+  message-read : readOf (messageOctets m vs) ≡ takenOver m (messageOctets m vs) (codeOf m .crit) (got (insideBy (present vs) (foundAll m vs)))
   unfolding readOf
   message-read = rw (le-ltb 8192 (length (messageOctets m vs)) size, ← frame-read, named-back m) inside-read
 
   pub message-back : ReadAs (messageOctets m vs) (record { message = named.Is m; values = vs })
+  unfolding judge.noted
   message-back =
       let q = message-read in
       let l = elements in

@@ -28,7 +28,7 @@ use Rattle.diagnostics.specs.Diagnostics as diagnostics
 use Rattle.kinds.specs.Kinds.{valueAt}
 use Rattle.rows.specs.Table.{find}
 use Rattle.envelopes.specs.Envelope.{criticalityAt, envelopeAt, scanAt, headsAt}
-use Rattle.elements.specs.Judge.{front, readInto, unknownOf, missingOf, judgedOf, elementsAt}
+use Rattle.elements.specs.Judge.{front, readInto, unknownOf, missingOf, noted, judgedOf, elementsAt}
 use Rattle.tables.specs.declared.Message.{Message}
 use Rattle.tables.specs.declared.Message.the-variants as message
 use Rattle.tables.specs.declared.Named.the-variants as named
@@ -36,6 +36,7 @@ use Rattle.tables.specs.Tables.{tableOf, codeOf, namedBy}
 use Rattle.row_values.specs.Values.{causeIn, resetIn, listIn, diagnosticsIn}
 use Rattle.records.specs.Records.{recordOf}
 use Rattle.frames.specs.Frame.{kindAt, frameAt, countAt}
+use Rattle.opened.specs.Opened.{openedAt}
 use Rattle.messages.specs.Verdict.{insideOf, readOf}
 use Rattle.said.specs.Value.{octetsOf, hasOctets}
 use Rattle.said.specs.Said.{saidBy}
@@ -69,7 +70,7 @@ abbrev _also_ : {A B : Type 0} → A → B → A × B
 _also_ a b = (a, b)
 
 pub hold : Hold
-unfolding _>>=_ noMeaning bitsOf flagAt plainAt choiceAt padAt numberAt sameAt longLengthAt lengthAt openAt endsAt packedIn numberOctets lengthOctets many causeAt causeOctets marksAt itemAt itemElementAt itemsAt resetAt itemOctets itemElementOctets itemsOctets resetOctets diagnostics.marksAt diagnostics.headAt diagnostics.diagnosticsAt valueAt find criticalityAt envelopeAt scanAt headsAt front readInto unknownOf missingOf judgedOf elementsAt tableOf namedBy causeIn resetIn listIn diagnosticsIn recordOf kindAt frameAt countAt insideOf readOf octetsOf hasOctets saidBy elementsOctets present insideOctets messageOctets elementsGood encoded
+unfolding _>>=_ noMeaning bitsOf flagAt plainAt choiceAt padAt numberAt sameAt longLengthAt lengthAt openAt endsAt packedIn numberOctets lengthOctets many causeAt causeOctets marksAt itemAt itemElementAt itemsAt resetAt itemOctets itemElementOctets itemsOctets resetOctets diagnostics.marksAt diagnostics.headAt diagnostics.diagnosticsAt valueAt find criticalityAt envelopeAt scanAt headsAt front readInto unknownOf missingOf noted judgedOf elementsAt tableOf namedBy causeIn resetIn listIn diagnosticsIn recordOf kindAt frameAt countAt openedAt insideOf readOf octetsOf hasOctets saidBy elementsOctets present insideOctets messageOctets elementsGood encoded
 hold =
     (refl, refl)
     also (refl, refl)
@@ -92,7 +93,7 @@ all-octets (x ∷ s) e zero = let h = ltb-false 255 x (or-left (ltb 255 x) (some
 all-octets (x ∷ s) e (suc i) = all-octets s (or-right (ltb 255 x) (some (λ y. ltb 255 y) s) e) i
 
 pub reset-rewritable : ResetRewritable
-unfolding _>>=_ bitsOf flagAt plainAt choiceAt padAt numberAt sameAt longLengthAt lengthAt openAt endsAt many causeAt marksAt itemAt itemElementAt itemsAt resetAt critAt critsAt valueAt find criticalityAt envelopeAt scanAt headsAt front readInto unknownOf missingOf judgedOf elementsAt tableOf namedBy causeIn resetIn recordOf kindAt frameAt countAt insideOf readOf saidBy lacking
+unfolding _>>=_ bitsOf flagAt plainAt choiceAt padAt numberAt sameAt longLengthAt lengthAt openAt endsAt many causeAt marksAt itemAt itemElementAt itemsAt resetAt critAt critsAt valueAt find criticalityAt envelopeAt scanAt headsAt front readInto unknownOf missingOf noted judgedOf elementsAt tableOf namedBy causeIn resetIn recordOf kindAt frameAt countAt openedAt insideOf readOf saidBy lacking
 reset-rewritable = record {
   octets = all-octets partialReset refl;
   frame = record { kind = 0; code = 4; crit = 0; from = 4 };
