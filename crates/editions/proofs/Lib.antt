@@ -1,0 +1,5 @@
+pub mod Only
+pub mod Listed
+pub mod Names
+pub mod Tables
+pub mod Determined

@@ -1,0 +1,118 @@
+-- The messages of an edition. Each is one clause: its number for C, its frame (9.3.3) and its table of elements (9.3.4).
+-- A new message is a clause of its edition and its name in messagesOf; nothing else here asks which message it is.
+use Prim.Native.Nat.{ℕ}
+use mathlib.Core.Bool.{Bool, true, false, _&&_}
+use mathlib.Core.List.{List, [], _∷_}
+use lib.Dec.{eqb}
+use lib.ListN.{length}
+use Rattle.lists.specs.Lists.{pick, fill}
+use Rattle.rows.specs.declared.Kind.{Kind}
+use Rattle.rows.specs.declared.Kind.the-variants.{Carried, Mme, Mce, Tmgi, Session, Cause, ResetType, Acknowledged, Diagnostics}
+use Rattle.rows.specs.declared.Row.{Row}
+use Rattle.rows.specs.declared.Rows.{Rows}
+use Rattle.rows.specs.Table.{noRow}
+use Rattle.editions.specs.declared.Message.{Message}
+use Rattle.editions.specs.declared.Message.the-variants.{StartRequest, StartResponse, StartFailure, StopRequest, StopResponse, Reset, ResetAcknowledge, ErrorIndication}
+use Rattle.editions.specs.declared.Code.{Code}
+use Rattle.editions.specs.declared.Named.{Named}
+use Rattle.editions.specs.declared.Named.the-variants.{Is, Other}
+use Rattle.editions.specs.declared.Edition.{Edition}
+use Rattle.editions.specs.declared.Edition.the-variants.{Release18}
+use Rattle.editions.specs.Ids.{id-MME-MBMS-M3AP-ID, id-MCE-MBMS-M3AP-ID, id-TMGI, id-MBMS-Session-ID, id-MBMS-E-RAB-QoS-Parameters, id-MBMS-Session-Duration, id-MBMS-Service-Area, id-TNL-Information, id-CriticalityDiagnostics, id-Cause, id-ResetType, id-MBMS-Service-associatedLogicalM3-ConnectionListResAck, id-MinimumTimeToMBMSDataTransfer, id-Time-ofMBMS-DataTransfer, id-Time-ofMBMS-DataStop, id-Reestablishment, id-Alternative-TNL-Information, id-MBMS-Cell-List}
+
+abbrev reject : ℕ
+reject = 0
+
+abbrev ignore : ℕ
+ignore = 1
+
+abbrev mandatory : ℕ → ℕ → Kind → Row
+mandatory id crit kind = record { id = id; crit = crit; kind = kind; mandatory = true }
+
+abbrev optional : ℕ → ℕ → Kind → Row
+optional id crit kind = record { id = id; crit = crit; kind = kind; mandatory = false }
+
+-- kind (0 initiating, 1 successful, 2 unsuccessful), procedure code, criticality
+abbrev frame : ℕ → ℕ → ℕ → Code
+frame kind code crit = record { kind = kind; code = code; crit = crit }
+
+pub record Form : Type 0 where
+  pub number : ℕ
+  pub code : Code
+  pub rows : List Row
+
+abbrev form : ℕ → Code → List Row → Form
+form n c t = record { number = n; code = c; rows = t }
+
+unfoldable pub release18 : Message → Form
+release18 StartRequest = form 1 (frame 0 0 reject)
+    (mandatory id-MME-MBMS-M3AP-ID reject Mme
+    ∷ mandatory id-TMGI reject Tmgi
+    ∷ optional id-MBMS-Session-ID ignore Session
+    ∷ mandatory id-MBMS-E-RAB-QoS-Parameters reject Carried
+    ∷ mandatory id-MBMS-Session-Duration reject Carried
+    ∷ mandatory id-MBMS-Service-Area reject Carried
+    ∷ mandatory id-MinimumTimeToMBMSDataTransfer reject Carried
+    ∷ mandatory id-TNL-Information reject Carried
+    ∷ optional id-Time-ofMBMS-DataTransfer ignore Carried
+    ∷ optional id-Reestablishment ignore Carried
+    ∷ optional id-Alternative-TNL-Information ignore Carried
+    ∷ optional id-MBMS-Cell-List reject Carried ∷ [])
+release18 StartResponse = form 2 (frame 1 0 reject)
+    (mandatory id-MME-MBMS-M3AP-ID ignore Mme
+    ∷ mandatory id-MCE-MBMS-M3AP-ID ignore Mce
+    ∷ optional id-CriticalityDiagnostics ignore Diagnostics ∷ [])
+release18 StartFailure = form 3 (frame 2 0 reject)
+    (mandatory id-MME-MBMS-M3AP-ID ignore Mme
+    ∷ mandatory id-Cause ignore Cause
+    ∷ optional id-CriticalityDiagnostics ignore Diagnostics ∷ [])
+release18 StopRequest = form 4 (frame 0 1 reject)
+    (mandatory id-MME-MBMS-M3AP-ID reject Mme
+    ∷ mandatory id-MCE-MBMS-M3AP-ID reject Mce
+    ∷ optional id-Time-ofMBMS-DataStop ignore Carried ∷ [])
+release18 StopResponse = form 5 (frame 1 1 reject)
+    (mandatory id-MME-MBMS-M3AP-ID ignore Mme
+    ∷ mandatory id-MCE-MBMS-M3AP-ID ignore Mce
+    ∷ optional id-CriticalityDiagnostics ignore Diagnostics ∷ [])
+release18 Reset = form 6 (frame 0 4 reject)
+    (mandatory id-Cause ignore Cause
+    ∷ mandatory id-ResetType reject ResetType ∷ [])
+release18 ResetAcknowledge = form 7 (frame 1 4 reject)
+    (optional id-MBMS-Service-associatedLogicalM3-ConnectionListResAck ignore Acknowledged
+    ∷ optional id-CriticalityDiagnostics ignore Diagnostics ∷ [])
+release18 ErrorIndication = form 8 (frame 0 2 ignore)
+    (optional id-MME-MBMS-M3AP-ID ignore Mme
+    ∷ optional id-MCE-MBMS-M3AP-ID ignore Mce
+    ∷ optional id-Cause ignore Cause
+    ∷ optional id-CriticalityDiagnostics ignore Diagnostics ∷ [])
+
+abbrev pub formOf : Edition → Message → Form
+formOf Release18 m = release18 m
+
+abbrev pub messagesOf : Edition → List Message
+messagesOf Release18 = StartRequest ∷ StartResponse ∷ StartFailure ∷ StopRequest ∷ StopResponse ∷ Reset ∷ ResetAcknowledge ∷ ErrorIndication ∷ []
+
+abbrev pub tableOf : Edition → Message → List Row
+tableOf e m = formOf e m .rows
+
+abbrev pub codeOf : Edition → Message → Code
+codeOf e m = formOf e m .code
+
+abbrev pub numberOf : Edition → Message → ℕ
+numberOf e m = formOf e m .number
+
+-- a table as the code has it
+abbrev pub rowsOf : Edition → Message → Rows
+rowsOf e m = record { rows = fill noRow 12 (tableOf e m); count = length (tableOf e m) }
+
+-- the first message that passes a test
+unfoldable pub firstOf : (Message → Bool) → List Message → Named
+firstOf p [] = Other
+firstOf p (m ∷ ms) = pick (p m) (Is m) (firstOf p ms)
+
+-- by kind and code of the frame; by the number for C
+unfoldable pub namedBy : Edition → ℕ → ℕ → Named
+namedBy e kind code = firstOf (λ (m : Message). eqb kind (codeOf e m .kind) && eqb code (codeOf e m .code)) (messagesOf e)
+
+unfoldable pub numberedBy : Edition → ℕ → Named
+numberedBy e n = firstOf (λ (m : Message). eqb n (numberOf e m)) (messagesOf e)

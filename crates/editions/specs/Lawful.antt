@@ -1,0 +1,35 @@
+-- What the definitions ask of a table: at most twelve rows, ids apart, and of each kind but carried at most one row.
+-- One computed test for all tables of an edition (proofs/Tables.antt); no law looks into a table for another reason.
+use Prim.Native.Nat.{ℕ}
+use mathlib.Core.Bool.{Bool, not, _&&_}
+use mathlib.Core.List.{List}
+use lib.Dec.{ltb, leb, eqb}
+use lib.ListN.{length}
+use Rattle.lists.specs.Lists.{keep, some, apart}
+use Rattle.rows.specs.declared.Kind.{Kind}
+use Rattle.rows.specs.declared.Kind.the-variants as kind
+use Rattle.rows.specs.declared.Row.{Row}
+use Rattle.editions.specs.declared.Edition.{Edition}
+use Rattle.editions.specs.declared.Message.{Message}
+use Rattle.editions.specs.Editions.{tableOf, messagesOf}
+
+-- what a value of the kind fills, of which a record has one: a Reset Type and an acknowledgement share the items
+abbrev pub fills : Kind → ℕ
+fills kind.Carried = 0
+fills kind.Mme = 1
+fills kind.Mce = 2
+fills kind.Tmgi = 3
+fills kind.Session = 4
+fills kind.Cause = 5
+fills kind.ResetType = 6
+fills kind.Acknowledged = 6
+fills kind.Diagnostics = 7
+
+abbrev pub lawful : List Row → Bool
+lawful t =
+    leb (length t) 12
+    && apart (λ (r q : Row). eqb (r .id) (q .id)) t
+    && apart (λ (r q : Row). eqb (fills (r .kind)) (fills (q .kind))) (keep (λ (r : Row). ltb 0 (fills (r .kind))) t)
+
+abbrev pub allLawful : Edition → Bool
+allLawful e = not (some (λ (m : Message). not (lawful (tableOf e m))) (messagesOf e))

@@ -1,0 +1,3 @@
+pub mod Ids
+pub mod Editions
+pub mod Lawful

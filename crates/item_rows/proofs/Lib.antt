@@ -1,0 +1,4 @@
+pub mod Said
+pub mod Out
+pub mod Judged
+pub mod Determined

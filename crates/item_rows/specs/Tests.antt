@@ -1,0 +1,17 @@
+-- What the judge of rows looks at.
+use Prim.Native.Nat.{ℕ, zero, suc}
+use mathlib.Core.Bool.{Bool, true, _&&_, _||_}
+use mathlib.Core.List.{List}
+use lib.Dec.{eqb}
+use lib.ListN.{getD, drop}
+
+-- 1 and any two octets, or zeros
+abbrev pub halfGood : ℕ → ℕ → ℕ → Bool
+halfGood flag high low = eqb flag 1 || (eqb flag 0 && eqb high 0 && eqb low 0)
+
+abbrev pub itemRowGood : List ℕ → Bool
+itemRowGood p = halfGood (getD p 0 0) (getD p 1 0) (getD p 2 0) && halfGood (getD p 3 0) (getD p 4 0) (getD p 5 0)
+
+unfoldable pub itemRowsGood : ℕ → List ℕ → Bool
+itemRowsGood zero p = true
+itemRowsGood (suc n) p = itemRowGood p && itemRowsGood n (drop 6 p)

@@ -1,0 +1,4 @@
+pub mod Sizes
+pub mod SlotBack
+pub mod Announced
+pub mod RecordBack

@@ -1,0 +1,1 @@
+// A message's record as octets that the link process lends: the layout, and what octets say. No code.

@@ -1,0 +1,4 @@
+pub mod Value
+pub mod Reading
+pub mod Written
+pub mod Ranges

@@ -1,0 +1,4 @@
+pub mod Steps
+pub mod Plans
+pub mod Messages
+pub mod Determined

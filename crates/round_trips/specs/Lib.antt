@@ -1,0 +1,3 @@
+pub mod Ties
+pub mod LentDiffer
+pub mod Examples
