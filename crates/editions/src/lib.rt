@@ -132,24 +132,41 @@ const RESET_R: Row = Row {
     ..MUST
 };
 
+// The tables, as 9.3.4 has them.
+const START_REQUEST: [Row; 12] = [
+    MME_R,
+    TMGI_R,
+    SESSION,
+    Row { id: 4, ..MUST }, // E-RAB QoS Parameters
+    Row { id: 5, ..MUST }, // Session Duration
+    Row { id: 6, ..MUST }, // Service Area
+    Row { id: 16, ..MUST }, // Minimum Time to Data Transfer
+    Row { id: 7, ..MUST }, // TNL Information
+    Row { id: 21, ..MAY }, // Time of Data Transfer
+    Row { id: 23, ..MAY }, // Reestablishment
+    Row { id: 24, ..MAY }, // Alternative TNL Information
+    Row { id: 25, ..NO }, // Cell List, of reject
+];
+
+const START_RESPONSE: [Row; 12] = [MME_M, MCE_M, DIAG, NO, NO, NO, NO, NO, NO, NO, NO, NO];
+
+const START_FAILURE: [Row; 12] = [MME_M, CAUSE_M, DIAG, NO, NO, NO, NO, NO, NO, NO, NO, NO];
+
+const STOP_REQUEST: [Row; 12] = [MME_R, MCE_R, STOP_AT, NO, NO, NO, NO, NO, NO, NO, NO, NO];
+
+const STOP_RESPONSE: [Row; 12] = [MME_M, MCE_M, DIAG, NO, NO, NO, NO, NO, NO, NO, NO, NO];
+
+const RESET: [Row; 12] = [CAUSE_M, RESET_R, NO, NO, NO, NO, NO, NO, NO, NO, NO, NO];
+
+const RESET_ACKNOWLEDGE: [Row; 12] = [ITEMS, DIAG, NO, NO, NO, NO, NO, NO, NO, NO, NO, NO];
+
+const ERROR_INDICATION: [Row; 12] = [MME, MCE, CAUSE, DIAG, NO, NO, NO, NO, NO, NO, NO, NO];
+
 fn start_request() -> Rows
     ensures { λ r. ⌜ r ≡ rowsOf Edition.Release18 Message.StartRequest ⌝ }
 {
     Rows {
-        rows: [
-            MME_R,
-            TMGI_R,
-            SESSION,
-            Row { id: 4, ..MUST }, // E-RAB QoS Parameters
-            Row { id: 5, ..MUST }, // Session Duration
-            Row { id: 6, ..MUST }, // Service Area
-            Row { id: 16, ..MUST }, // Minimum Time to Data Transfer
-            Row { id: 7, ..MUST }, // TNL Information
-            Row { id: 21, ..MAY }, // Time of Data Transfer
-            Row { id: 23, ..MAY }, // Reestablishment
-            Row { id: 24, ..MAY }, // Alternative TNL Information
-            Row { id: 25, ..NO }, // Cell List, of reject
-        ],
+        rows: START_REQUEST,
         count: 12,
     }
 }
@@ -158,7 +175,7 @@ fn start_response() -> Rows
     ensures { λ r. ⌜ r ≡ rowsOf Edition.Release18 Message.StartResponse ⌝ }
 {
     Rows {
-        rows: [MME_M, MCE_M, DIAG, NO, NO, NO, NO, NO, NO, NO, NO, NO],
+        rows: START_RESPONSE,
         count: 3,
     }
 }
@@ -167,7 +184,7 @@ fn start_failure() -> Rows
     ensures { λ r. ⌜ r ≡ rowsOf Edition.Release18 Message.StartFailure ⌝ }
 {
     Rows {
-        rows: [MME_M, CAUSE_M, DIAG, NO, NO, NO, NO, NO, NO, NO, NO, NO],
+        rows: START_FAILURE,
         count: 3,
     }
 }
@@ -176,7 +193,7 @@ fn stop_request() -> Rows
     ensures { λ r. ⌜ r ≡ rowsOf Edition.Release18 Message.StopRequest ⌝ }
 {
     Rows {
-        rows: [MME_R, MCE_R, STOP_AT, NO, NO, NO, NO, NO, NO, NO, NO, NO],
+        rows: STOP_REQUEST,
         count: 3,
     }
 }
@@ -185,7 +202,7 @@ fn stop_response() -> Rows
     ensures { λ r. ⌜ r ≡ rowsOf Edition.Release18 Message.StopResponse ⌝ }
 {
     Rows {
-        rows: [MME_M, MCE_M, DIAG, NO, NO, NO, NO, NO, NO, NO, NO, NO],
+        rows: STOP_RESPONSE,
         count: 3,
     }
 }
@@ -194,7 +211,7 @@ fn reset() -> Rows
     ensures { λ r. ⌜ r ≡ rowsOf Edition.Release18 Message.Reset ⌝ }
 {
     Rows {
-        rows: [CAUSE_M, RESET_R, NO, NO, NO, NO, NO, NO, NO, NO, NO, NO],
+        rows: RESET,
         count: 2,
     }
 }
@@ -203,7 +220,7 @@ fn reset_acknowledge() -> Rows
     ensures { λ r. ⌜ r ≡ rowsOf Edition.Release18 Message.ResetAcknowledge ⌝ }
 {
     Rows {
-        rows: [ITEMS, DIAG, NO, NO, NO, NO, NO, NO, NO, NO, NO, NO],
+        rows: RESET_ACKNOWLEDGE,
         count: 2,
     }
 }
@@ -212,7 +229,7 @@ fn error_indication() -> Rows
     ensures { λ r. ⌜ r ≡ rowsOf Edition.Release18 Message.ErrorIndication ⌝ }
 {
     Rows {
-        rows: [MME, MCE, CAUSE, DIAG, NO, NO, NO, NO, NO, NO, NO, NO],
+        rows: ERROR_INDICATION,
         count: 4,
     }
 }
