@@ -29,7 +29,8 @@ void *memset(void *to, int octet, size_t n)
     return to;
 }
 
-static uint8_t table[M3AP_TABLE_OCTETS], room[M3AP_MESSAGE_OCTETS], record[M3AP_RECORD_OCTETS], message[M3AP_MESSAGE_OCTETS];
+static uint8_t table[M3AP_TABLE_OCTETS], room[M3AP_MESSAGE_OCTETS], message[M3AP_MESSAGE_OCTETS];
+static struct m3ap_record record;
 static size_t length;
 
 static void put(unsigned octet)
@@ -160,13 +161,13 @@ int main(void)
     row("call RESET of 256 items, 256 held", call(0), 0);
     start(0);
     count();
-    row("read START REQUEST", m3ap_read(message, length, record, sizeof record).answer, 0);
+    row("read START REQUEST", m3ap_read(message, length, &record, sizeof record).answer, 0);
     count();
-    row("write START REQUEST", m3ap_write(record, sizeof record, message, length, room, sizeof room).answer, 0);
+    row("write START REQUEST", m3ap_write(&record, sizeof record, message, length, room, sizeof room).answer, 0);
     reset(256);
     count();
-    row("read RESET of 256 items", m3ap_read(message, length, record, sizeof record).answer, 0);
+    row("read RESET of 256 items", m3ap_read(message, length, &record, sizeof record).answer, 0);
     count();
-    row("write RESET of 256 items", m3ap_write(record, sizeof record, message, length, room, sizeof room).answer, 0);
+    row("write RESET of 256 items", m3ap_write(&record, sizeof record, message, length, room, sizeof room).answer, 0);
     return 0;
 }

@@ -1,7 +1,7 @@
 /*
  * The M3AP message core, for a link process in C.
  * m3ap_call, m3ap_read and m3ap_write are in liblink.a (made by `rt staticlib link`), m3ap_count is in libconsole.a (`rt staticlib console`).
- * They need memcpy, memset and memmove of the C library, and nothing else.
+ * They need memcpy and memset of the C library, and nothing else.
  *
  * A call works on the octets that it is lent and on nothing else: it keeps no state, allocates nothing, opens nothing, does not recurse, and
  * returns for every input. Calls on parts that do not overlap may run at the same time. The statements, proved for all inputs, stand in
@@ -34,9 +34,9 @@ extern "C" {
 
 /*
  * A call needs at most this many octets of stack on x86-64, as built with the kit of docs/CHECKING.md, the C library's memcpy and memset included.
- * sample/stack.c measures it: 49,144 for m3ap_call, 30,096 for m3ap_read, 22,408 for m3ap_write, 13,944 for m3ap_count.
+ * sample/stack.c measures it: 37,928 for m3ap_call, 2,192 for m3ap_read, 2,736 for m3ap_write, 13,944 for m3ap_count.
  */
-#define M3AP_STACK_OCTETS 65536
+#define M3AP_STACK_OCTETS 49152
 
 /* The answers: the numbers of the scope paper. */
 #define M3AP_CARRIED_OUT 0     /* carried out; read; written */
@@ -60,7 +60,15 @@ struct m3ap_answer {
 };
 
 /*
- * What one message does. Answers 0 to 10 and 21.
+ * What one message does. Answers 0 to 10 and 21. Of the eight messages below four ask for something: START REQUEST, STOP REQUEST, RESET and
+ * ERROR INDICATION.
+ *
+ * The reply, put at the front of the room:
+ *     0     START RESPONSE, STOP RESPONSE or RESET ACKNOWLEDGE, as the request was; none for an ERROR INDICATION
+ *     5     START FAILURE for a START REQUEST whose MME identity was read; none for an ERROR INDICATION; else ERROR INDICATION
+ *     6, 9  START FAILURE
+ *     8     ERROR INDICATION
+ *     1, 2, 3, 4, 7, 10, 21  none
  *
  * table     lent, M3AP_TABLE_OCTETS long; changed by answer 0 only. Another length, or octets that are no table, get answer 21.
  * message   read. Any octets, any length.
@@ -114,10 +122,14 @@ struct m3ap_entry {
     uint8_t error;
 };
 
-/* Items and entries behind as many as the number before them says are zeros, and so are slots behind the rows of the message's table. */
+/*
+ * Items stand there where a slot announces them: a Reset Type that is part of the interface, or an acknowledgement's list. Entries stand there where
+ * Criticality Diagnostics say that there is a list. Otherwise their number is 0. Items and entries behind as many as the number before them says are
+ * zeros, and so are slots behind the rows of the message's table.
+ */
 struct m3ap_record {
     uint8_t message;     /* one of the eight numbers above */
-    uint8_t criticality; /* of the frame, as received: 0 reject, 1 ignore, 2 notify. m3ap_write does not look at it */
+    uint8_t criticality; /* of the frame, as received: 0 reject, 1 ignore, 2 notify. m3ap_write puts the one that the tables give */
     struct m3ap_slot slots[12];
     uint8_t item_count[2];
     struct m3ap_item items[256];
@@ -157,20 +169,23 @@ struct m3ap_record {
 #define M3AP_ERROR_INDICATION_DIAGNOSTICS 3
 
 /*
- * Reads a message. Answers 0 to 5 and 10. Answers 0 and 5 put the record of what was read at the front of the room; 10 takes their place where the
- * room has fewer than M3AP_RECORD_OCTETS. Whatever else: the room keeps its octets.
+ * Reads a message. Answers 0 to 5 and 10. Answers 0 and 5 put the record of what was read; 10 takes their place where record_len, in octets, is
+ * less than M3AP_RECORD_OCTETS. Whatever else: the octets at record stay as they are.
  */
-struct m3ap_answer m3ap_read(const uint8_t *message, size_t message_len, uint8_t *record, size_t record_len);
+struct m3ap_answer m3ap_read(const uint8_t *message, size_t message_len, struct m3ap_record *record, size_t record_len);
 
 /*
  * Writes a message. Answers 0, 10 and 11. Carried values lie in values: with the octets that m3ap_read has read, it is the message again, if that
  * holds only elements of its table, with the criticalities that the tables give, lacks no mandatory one, and was read with answer 0.
+ * Two records, each with its values, that differ in any octet but the frame's criticality and the places of carried values, or in the octets of a
+ * carried value, have messages that differ.
  *
- * record    read. Octets that are no record get 11.
+ * record    read, record_len octets. Octets that are no record get 11: another size, a criticality over 2, a value that is none of its row's,
+ *           items or entries that no slot announces, more than 256 of them, anything behind them.
  * values    read.
  * room      lent. The message fills its front, and the rest keeps its octets; with 10 and 11 all of it does.
  */
-struct m3ap_answer m3ap_write(const uint8_t *record, size_t record_len, const uint8_t *values, size_t values_len,
+struct m3ap_answer m3ap_write(const struct m3ap_record *record, size_t record_len, const uint8_t *values, size_t values_len,
                               uint8_t *room, size_t room_len);
 
 /* ---- the console */

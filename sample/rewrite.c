@@ -23,10 +23,10 @@ int main(void)
         size_t length = head[0] * 256u + head[1];
         if (fread(message, 1, length, stdin) < length)
             return 1;
-        struct m3ap_answer r = m3ap_read(message, length, (uint8_t *)&record, sizeof record);
+        struct m3ap_answer r = m3ap_read(message, length, &record, sizeof record);
         struct m3ap_answer w = {M3AP_NOT_WRITTEN, 0, 0};
         if (r.answer == M3AP_CARRIED_OUT || r.answer == M3AP_REJECTED)
-            w = m3ap_write((const uint8_t *)&record, sizeof record, message, length, room, sizeof room);
+            w = m3ap_write(&record, sizeof record, message, length, room, sizeof room);
         int same = w.answer == M3AP_CARRIED_OUT && w.octets == length && memcmp(room, message, length) == 0;
         printf("answer=%u place=%u written=%u %s\n", (unsigned)r.answer, (unsigned)r.place, (unsigned)w.octets, same ? "same" : "differs");
     }

@@ -15,7 +15,7 @@ static uint8_t stack[STACK] __attribute__((aligned(4096)));
 static uint8_t table[M3AP_TABLE_OCTETS];
 static uint8_t room[M3AP_MESSAGE_OCTETS];
 static uint8_t message[65535];
-static uint8_t record[M3AP_RECORD_OCTETS];
+static struct m3ap_record record;
 static struct m3ap_association run[257];
 static size_t deepest_call, deepest_read, deepest_write, deepest_count;
 static int wrong;
@@ -48,7 +48,7 @@ __attribute__((noinline)) static struct m3ap_answer called(uint8_t *t, size_t t_
     return a;
 }
 
-__attribute__((noinline)) static struct m3ap_answer was_read(const uint8_t *m, size_t m_len, uint8_t *r, size_t r_len)
+__attribute__((noinline)) static struct m3ap_answer was_read(const uint8_t *m, size_t m_len, struct m3ap_record *r, size_t r_len)
 {
     const uint8_t *here = __builtin_frame_address(0);
     paint(here);
@@ -57,7 +57,7 @@ __attribute__((noinline)) static struct m3ap_answer was_read(const uint8_t *m, s
     return a;
 }
 
-__attribute__((noinline)) static struct m3ap_answer written(const uint8_t *r, size_t r_len, const uint8_t *v, size_t v_len, uint8_t *o, size_t o_len)
+__attribute__((noinline)) static struct m3ap_answer written(const struct m3ap_record *r, size_t r_len, const uint8_t *v, size_t v_len, uint8_t *o, size_t o_len)
 {
     const uint8_t *here = __builtin_frame_address(0);
     paint(here);
@@ -124,35 +124,41 @@ static void record_edges(void)
     /* RESET, frame of reject; cause 4.2; part of the interface. One item. */
     static const uint8_t slots[18] = {M3AP_RESET, 0, 1, 4, 2, 0, 0, 0, 0, 0, 2};
     static const uint8_t item[9] = {0, 1, 1, 0, 1, 1, 0, 2};
-    struct m3ap_record r;
+    static struct m3ap_record r;
 
-    memset(record, 0xEE, sizeof record);
+    memset(&record, 0xEE, sizeof record);
     expect("read, no room", was_read(reset, sizeof reset, NULL, 0), M3AP_NO_ROOM, 0, 0);
-    expect("read, room of 2661", was_read(reset, sizeof reset, record, sizeof record - 1), M3AP_NO_ROOM, 0, 0);
-    expect("read, extension", was_read(extended, sizeof extended, record, sizeof record), M3AP_EXTENSION, 4, 0);
-    expect("read, no message", was_read(NULL, 0, record, sizeof record), M3AP_FAULT, 0, 0);
+    expect("read, room of 2661", was_read(reset, sizeof reset, &record, sizeof record - 1), M3AP_NO_ROOM, 0, 0);
+    expect("read, extension", was_read(extended, sizeof extended, &record, sizeof record), M3AP_EXTENSION, 4, 0);
+    expect("read, no message", was_read(NULL, 0, &record, sizeof record), M3AP_FAULT, 0, 0);
     expect("read, too long", was_read(message, 8193, NULL, 0), M3AP_TOO_LONG, 0, 0);
     for (size_t i = 0; i < sizeof record; i++)
-        expect_octets("read, room that is kept", record + i, (const uint8_t[]){0xEE}, 1);
+        expect_octets("read, room that is kept", (const uint8_t *)&record + i, (const uint8_t[]){0xEE}, 1);
 
-    expect("read", was_read(reset, sizeof reset, record, sizeof record), M3AP_CARRIED_OUT, 0, M3AP_RECORD_OCTETS);
-    memcpy(&r, record, sizeof r);
-    expect_octets("read, slots", record, slots, sizeof slots);
+    expect("read", was_read(reset, sizeof reset, &record, sizeof record), M3AP_CARRIED_OUT, 0, M3AP_RECORD_OCTETS);
+    r = record;
+    expect_octets("read, slots", (const uint8_t *)&record, slots, sizeof slots);
     expect_octets("read, items", r.item_count, item, sizeof item);
 
     memset(room, 0xEE, sizeof room);
-    expect("write, no room", written(record, sizeof record, NULL, 0, NULL, 0), M3AP_NO_ROOM, 0, 0);
-    expect("write, room of 26", written(record, sizeof record, NULL, 0, room, 26), M3AP_NO_ROOM, 0, 0);
+    expect("write, no room", written(&record, sizeof record, NULL, 0, NULL, 0), M3AP_NO_ROOM, 0, 0);
+    expect("write, room of 26", written(&record, sizeof record, NULL, 0, room, 26), M3AP_NO_ROOM, 0, 0);
     expect("write, no record", written(NULL, 0, reset, sizeof reset, room, sizeof room), M3AP_NOT_WRITTEN, 0, 0);
-    expect("write, record cut", written(record, sizeof record - 1, NULL, 0, room, sizeof room), M3AP_NOT_WRITTEN, 0, 0);
-    /* An octet behind the items, and a cause of no group. */
+    expect("write, record cut", written(&record, sizeof record - 1, NULL, 0, room, sizeof room), M3AP_NOT_WRITTEN, 0, 0);
+    /* An octet behind the items; items that no slot announces; a criticality that is none; and a cause of no group. */
     r.items[1].mce[1] = 1;
-    expect("write, octets of no record", written((const uint8_t *)&r, sizeof r, NULL, 0, room, sizeof room), M3AP_NOT_WRITTEN, 0, 0);
+    expect("write, octets of no record", written(&r, sizeof r, NULL, 0, room, sizeof room), M3AP_NOT_WRITTEN, 0, 0);
     r.items[1].mce[1] = 0;
+    r.slots[M3AP_RESET_TYPE].there = 1;
+    expect("write, items of no part", written(&r, sizeof r, NULL, 0, room, sizeof room), M3AP_NOT_WRITTEN, 0, 0);
+    r.slots[M3AP_RESET_TYPE].there = 2;
+    r.criticality = 3;
+    expect("write, criticality of 3", written(&r, sizeof r, NULL, 0, room, sizeof room), M3AP_NOT_WRITTEN, 0, 0);
+    r.criticality = 0;
     r.slots[M3AP_RESET_CAUSE].value[0] = 5;
-    expect("write, no message", written((const uint8_t *)&r, sizeof r, NULL, 0, room, sizeof room), M3AP_NOT_WRITTEN, 0, 0);
+    expect("write, no message", written(&r, sizeof r, NULL, 0, room, sizeof room), M3AP_NOT_WRITTEN, 0, 0);
     expect_octets("write, room that is kept", room, (const uint8_t[]){0xEE, 0xEE}, 2);
-    expect("write", written(record, sizeof record, NULL, 0, room, sizeof reset), M3AP_CARRIED_OUT, 0, sizeof reset);
+    expect("write", written(&record, sizeof record, NULL, 0, room, sizeof reset), M3AP_CARRIED_OUT, 0, sizeof reset);
     expect_octets("write", room, reset, sizeof reset);
 }
 
@@ -187,8 +193,8 @@ static void *play(void *unused)
         if (fread(message, 1, length, stdin) < length)
             break;
         called(table, sizeof table, message, length, (uint16_t)(head[0] * 256u + head[1]), room, sizeof room);
-        if (was_read(message, length, record, sizeof record).octets != 0)
-            written(record, sizeof record, message, length, room, sizeof room);
+        if (was_read(message, length, &record, sizeof record).octets != 0)
+            written(&record, sizeof record, message, length, room, sizeof room);
     }
     return NULL;
 }

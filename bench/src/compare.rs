@@ -149,9 +149,13 @@ impl Messages {
     fn damage(&mut self, octets: &[u8; OCTETS], message: &[u8]) -> Result<(), String> {
         let rng = &mut self.rng;
         let mut octets = octets.to_vec();
-        for _ in 0..rng.pick(&[1, 1, 1, 2, 3]) {
-            let at = place_in_record(rng, &octets);
-            octets[at] = changed(rng, octets[at]);
+        if rng.one_in(4) {
+            spoil_lists(rng, &mut octets);
+        } else {
+            for _ in 0..rng.pick(&[1, 1, 1, 2, 3]) {
+                let at = place_in_record(rng, &octets);
+                octets[at] = changed(rng, octets[at]);
+            }
         }
         // Now and then fewer values, so that carried ones lie outside; and octets that are too few or too many for a record.
         let values = &message[..if rng.one_in(8) { rng.below(message.len() + 1) } else { message.len() }];
@@ -167,6 +171,29 @@ impl Messages {
         let got = ours::write(&octets, values, &mut a[..size]);
         let due = write_by_second(record.as_ref(), &mut b[..size]);
         self.damaged.case((got, &[a]), (due, &[b]), &[("record", &octets), ("values", values)])
+    }
+}
+
+/// Lists that the slots do not announce, or announced ones that are cut, too long or gone.
+fn spoil_lists(rng: &mut Rng, octets: &mut [u8]) {
+    let (count, first, row) = rng.pick(&[(ITEM_COUNT, ITEMS, ITEM), (ENTRY_COUNT, ENTRIES, ENTRY)]);
+    let said = u16::from_be_bytes([octets[count], octets[count + 1]]) as usize;
+    let n = rng.pick(&[0, 1, 2, 5, 255, 256, 257, 512, 65535, said, said + 1, said.saturating_sub(1)]);
+    octets[count..count + 2].copy_from_slice(&(n as u16).to_be_bytes());
+    for at in 0..n.min(256) {
+        // Rows that a list of this kind can have; those that stand there already are left alone.
+        let octets = &mut octets[first + row * at..][..row];
+        if octets.iter().all(|&o| o == 0) && rng.percent(70) {
+            let value = [1, rng.below(4) as u8, rng.word() as u8, (row == ITEM) as u8, 0, 0];
+            octets.copy_from_slice(&value[..row]);
+        }
+    }
+    match rng.below(6) {
+        // A slot that announces, or no longer does.
+        0 => octets[SLOTS + SLOT * rng.below(4)] = rng.below(3) as u8,
+        // The flag of a list of diagnostics.
+        1 => octets[SLOTS + SLOT * rng.below(4) + 7] ^= 1,
+        _ => {}
     }
 }
 

@@ -89,30 +89,29 @@ fn put_entries(entries: &Entries, to: &mut [u8; OCTETS]) {
 
 // ---- to what is written
 
-/// The lists of a record. One more than may be written, so that a list that is too long stays too long.
+/// The lists of a record.
 pub struct Lists {
-    items: [Item; MOST + 1],
+    items: [Item; MOST],
     item_count: usize,
-    entries: [Entry; MOST + 1],
+    entries: [Entry; MOST],
     entry_count: usize,
 }
 
 impl Lists {
     pub fn new() -> Self {
         Lists {
-            items: [Item { mme: None, mce: None }; MOST + 1],
+            items: [Item { mme: None, mce: None }; MOST],
             item_count: 0,
-            entries: [Entry { criticality: 0, id: 0, error: 0 }; MOST + 1],
+            entries: [Entry { criticality: 0, id: 0, error: 0 }; MOST],
             entry_count: 0,
         }
     }
 
-    /// The lists that stand in the octets, whichever message it is. None if octets are set that say nothing.
-    fn fill(&mut self, o: &[u8]) -> Option<()> {
-        self.item_count = (two(o, ITEM_COUNT) as usize).min(MOST + 1);
-        self.entry_count = (two(o, ENTRY_COUNT) as usize).min(MOST + 1);
-        let items = self.item_count.min(MOST);
-        let entries = self.entry_count.min(MOST);
+    /// The lists that stand in the octets. None if octets are set that say nothing, or that no slot announces.
+    fn fill(&mut self, o: &[u8], items_announced: bool, entries_announced: bool) -> Option<()> {
+        let items = rows_said(o, ITEM_COUNT, items_announced)?;
+        let entries = rows_said(o, ENTRY_COUNT, entries_announced)?;
+        (self.item_count, self.entry_count) = (items, entries);
         for (item, at) in self.items.iter_mut().zip(o[ITEMS..].chunks_exact(ITEM)).take(items) {
             *item = Item { mme: identity(&at[..3])?, mce: identity(&at[3..])? };
         }
@@ -123,16 +122,29 @@ impl Lists {
     }
 }
 
-/// The record that the octets are, its carried values taken from `values`. None if they are not exactly the octets of what they say.
+/// How many rows the list whose number stands at a place has: at most 256, and none where no slot announces it.
+fn rows_said(o: &[u8], at: usize, announced: bool) -> Option<usize> {
+    let n = two(o, at) as usize;
+    (n <= if announced { MOST } else { 0 }).then_some(n)
+}
+
+/// The record that the octets are, its carried values taken from `values`. None if they are not exactly the octets of what they say, or the
+/// criticality is none.
 /// A carried value that does not lie in the values becomes one of no octets, which is not written.
 pub fn record_of<'a>(o: &[u8], values: &'a [u8], lists: &'a mut Lists) -> Option<Record<'a>> {
     if o.len() != OCTETS {
         return None;
     }
     let kind: Kind = *KINDS.get((o[0] as usize).checked_sub(1)?)?;
-    lists.fill(o)?;
-    let lists: &'a Lists = lists;
     let rows = kind.table().rows;
+    let slots = || rows.iter().map(|row| row.field).zip(o[SLOTS..].chunks_exact(SLOT));
+    let items = slots().any(|(field, slot)| matches!((field, slot[0]), (Field::Reset, 2) | (Field::Acknowledged, 1)));
+    let entries = slots().any(|(field, slot)| matches!((field, slot[0], slot[7]), (Field::Diagnostics, 1, 1)));
+    if o[1] > 2 {
+        return None;
+    }
+    lists.fill(o, items, entries)?;
+    let lists: &'a Lists = lists;
     let mut record = Record::new(kind);
     for (number, row) in rows.iter().enumerate() {
         slot_of(&o[SLOTS + number * SLOT..][..SLOT], row.field, number, values, lists, &mut record)?;

@@ -42,6 +42,15 @@ pub fn identities(k: u16) -> (u16, u16) {
     (k.wrapping_mul(257), 65535 - k)
 }
 
+/// Series of identities that a peer may choose, so that a table that goes by their low bits would be slow: the number of alike bits, or a plain order.
+pub const CHOSEN: [(&str, fn(u16) -> u16); 5] = [
+    ("alike in their low 8 bits", |k| k.wrapping_mul(256)),
+    ("alike in their low 9 bits", |k| k.wrapping_mul(512).wrapping_add(k / 128)),
+    ("alike in their low 10 bits", |k| k.wrapping_mul(1024).wrapping_add(k / 64)),
+    ("in a row", |k| k),
+    ("in a row, reversed", |k| 65535 - k),
+];
+
 /// Offers and messages of an evening: starts, stops, resets of one or three pairs, seldom a reset of all. Some 60 associations are held, and half of the entries are carried out.
 pub fn evening(entries: usize) -> Vec<(u16, Vec<u8>)> {
     let mut rng = second::make::Rng::new(1);

@@ -1,7 +1,7 @@
 //! Times, as ratios to the second program. Both take turns on the same octets and the same rooms, which the rounds before have warmed; the least round counts.
 use crate::compare::call_by_second;
 use crate::layout::{record_octets, record_of, Lists, OCTETS};
-use crate::made::{acknowledge, evening, identities, reset, start, stop};
+use crate::made::{acknowledge, evening, identities, reset, start, stop, CHOSEN};
 use crate::ours::{self, Answer};
 use second::{Read, Reading, LIMIT, TABLE_OCTETS};
 use std::cell::RefCell;
@@ -104,9 +104,12 @@ fn call_row(name: &str, per: usize, mut turn: impl FnMut(Call) -> Answer) {
 
 /// A table of the first n associations.
 fn held(n: u16) -> Vec<u8> {
+    holding(&(0..n).map(identities).collect::<Vec<_>>())
+}
+
+fn holding(pairs: &[(u16, u16)]) -> Vec<u8> {
     let mut table = vec![0; TABLE_OCTETS];
-    for k in 0..n {
-        let (m, c) = identities(k);
+    for &(m, c) in pairs {
         assert_eq!(call_by_second(&mut table, &start(m), c, &mut [0; LIMIT]).answer, 0);
     }
     table
@@ -164,6 +167,28 @@ fn growth(items: &[(u16, u16)]) {
     }
 }
 
+/// Identities that a peer chooses: 255 held, a start and its stop; 256 held, a reset of all of them.
+fn chosen() {
+    let mut room = [0; LIMIT];
+    for (how, identity) in CHOSEN {
+        let pairs: Vec<_> = (0..256).map(|k| (identity(k), identity(k))).collect();
+        let (m, _) = pairs[255];
+        let (a, z) = (start(m), stop(m, m));
+        let mut table = holding(&pairs[..255]);
+        call_row(&format!("call START REQUEST, then STOP REQUEST, 255 held, identities {how}"), 1, |call| {
+            black_box(call(&mut table, black_box(&a), m, &mut room));
+            call(&mut table, black_box(&z), 0, &mut room)
+        });
+        let full = holding(&pairs);
+        let message = reset(&pairs);
+        let mut table = full.clone();
+        call_row(&format!("call RESET, 256 items, 256 held, identities {how}"), 1, |call| {
+            table.copy_from_slice(&full);
+            call(&mut table, black_box(&message), 0, &mut room)
+        });
+    }
+}
+
 pub fn measure() {
     let items: Vec<_> = (0..256).map(identities).collect();
     head("### Times");
@@ -176,4 +201,7 @@ pub fn measure() {
     println!();
     head("### How the cost grows");
     growth(&items);
+    println!();
+    head("### Identities that a peer chooses");
+    chosen();
 }

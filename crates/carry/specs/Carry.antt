@@ -9,10 +9,12 @@ use Rattle.identity.specs.declared.Tmgi.{Tmgi}
 use Rattle.identity.specs.declared.Item.{Item}
 use Rattle.identity.specs.Items.{emptyItem}
 use Rattle.values.specs.declared.Cause.{Cause}
-use Rattle.row_values.specs.declared.MaybeTmgi.the-variants as tmgi
-use Rattle.row_values.specs.declared.MaybeReset.the-variants as reset
-use Rattle.opened.specs.declared.Outcome.{Outcome}
-use Rattle.opened.specs.declared.Outcome.the-variants as outcome
+use Rattle.requests.specs.declared.MaybeTmgi.the-variants as tmgi
+use Rattle.requests.specs.declared.MaybeReset.the-variants as reset
+use Rattle.verdicts.specs.declared.Outcome.{Outcome}
+use Rattle.verdicts.specs.declared.Outcome.the-variants as outcome
+use Rattle.verdicts.specs.declared.Refusal.{Refusal}
+use Rattle.verdicts.specs.declared.Refusal.the-variants as refused
 use Rattle.table.specs.declared.Standing.{Standing}
 use Rattle.replies.specs.declared.Reply.{Reply}
 use Rattle.replies.specs.declared.Reply.the-variants as reply
@@ -83,10 +85,14 @@ module _ (k : Standing) where
     carriedOut request.Indication = stays answer.CarriedOut reply.None
     carriedOut request.None = stays answer.NoRequest reply.None
 
+    -- by what the judging came to
     abbrev pub decision : Request → Outcome → Decision
     decision q outcome.Accepted = carriedOut q
-    decision q outcome.TooLong = stays answer.TooLong reply.None
-    decision q (outcome.Stopped x) = stays (answer.Stopped x) reply.None
-    decision q outcome.NotAmong = stays answer.NoRequest reply.None
     decision q (outcome.Misplaced p) = rejected q falselyConstructed
     decision q outcome.Rejected = rejected q abstractSyntax
+
+-- answers 1 to 4
+abbrev pub refusal : Refusal → Answer
+refusal refused.TooLong = answer.TooLong
+refusal (refused.Stopped x) = answer.Stopped x
+refusal refused.NotAmong = answer.NoRequest

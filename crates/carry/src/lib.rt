@@ -1,6 +1,6 @@
 // What is decided about a judged message: 01's rules on the table, and the replies.
 ghost use mathlib.Core.Path.{_≡_};
-ghost use Rattle.carry.specs.Carry.{stays, started, stopped, rejection, rejected, carriedOut, decision, asked};
+ghost use Rattle.carry.specs.Carry.{stays, started, stopped, rejection, rejected, carriedOut, decision, asked, refusal};
 use identity::Item;
 use identity::Mce;
 use identity::MceId;
@@ -9,14 +9,15 @@ use identity::MmeId;
 use identity::Session;
 use identity::Tmgi;
 use octets::Stop;
-use opened::Outcome;
 use replies::Reply;
+use requests::MaybeReset;
+use requests::MaybeTmgi;
 use requests::Request;
-use row_values::MaybeReset;
-use row_values::MaybeTmgi;
 use table::Association;
 use table::Standing;
 use values::Cause;
+use verdicts::Outcome;
+use verdicts::Refusal;
 
 pub enum Answer {
     // 0
@@ -204,9 +205,6 @@ pub fn decide(k: Standing, c: MceId, q: Request, o: Outcome) -> Decision
 {
     match o {
         Outcome::Accepted => carry_out(k, c, q),
-        Outcome::TooLong => stays(Answer::TooLong, Reply::None),
-        Outcome::Stopped(x) => stays(Answer::Stopped(x), Reply::None),
-        Outcome::NotAmong => stays(Answer::NoRequest, Reply::None),
         Outcome::Misplaced(_) => rejected(q, FALSELY_CONSTRUCTED),
         Outcome::Rejected => rejected(q, ABSTRACT_SYNTAX),
     }
@@ -234,5 +232,16 @@ pub fn asked(c: MceId, q: Request) -> Item
             mme: Mme::Absent,
             mce: Mce::Absent,
         },
+    }
+}
+
+// Answers 1 to 4.
+pub fn refusal(x: Refusal) -> Answer
+    ensures { λ a. ⌜ a ≡ refusal x ⌝ }
+{
+    match x {
+        Refusal::TooLong => Answer::TooLong,
+        Refusal::Stopped(p) => Answer::Stopped(p),
+        Refusal::NotAmong => Answer::NoRequest,
     }
 }

@@ -1,4 +1,4 @@
--- Where the elements of a request are accepted, the mandatory ones of criticality reject were read.
+-- Where the elements of a request are accepted, the mandatory ones of criticality reject were read: their rows have a value, which is of the row's kind, and it is seen.
 -- Assumes nothing.
 use Prim.Native.Nat.{ℕ, zero, suc, _+_, _<_, _≤_}
 use mathlib.Core.Path.{_≡_, _∙_, refl, sym, ap, subst}
@@ -12,91 +12,55 @@ use lib.Seq.{getD-set-same, getD-set-other, set-out}
 use Rattle.lists.specs.Lists.{pick, some}
 use Rattle.lists.proofs.Tests.{on-pick, or-left, or-right}
 use Rattle.lists.proofs.Some.{some-append}
-use Rattle.octets.specs.Read.{Read, got, stop}
-use Rattle.octets.specs.declared.Stop.{Stop}
+use Rattle.octets.specs.Read.{got}
 use Rattle.octets.specs.declared.Span.{Span}
 use Rattle.octets.specs.Span.{noSpan, present}
-use Rattle.octets.proofs.Chain.{then-got, got-stop}
+use Rattle.octets.proofs.Chain.{same-got}
 use Rattle.octets.specs.Many.{Each}
-use Rattle.identity.specs.declared.MmeId.{MmeId}
-use Rattle.identity.specs.declared.MceId.{MceId}
-use Rattle.identity.specs.declared.Tmgi.{Tmgi}
-use Rattle.identity.specs.declared.Mme.{Mme}
-use Rattle.identity.specs.declared.Mme.the-variants as mme
-use Rattle.identity.specs.declared.Mce.{Mce}
-use Rattle.identity.specs.declared.Mce.the-variants as mce
-use Rattle.values.specs.Values.{mmeAt, mceAt, tmgiAt}
-use Rattle.items.specs.Items.{ResetType, whole, part, resetAt}
+use Rattle.values.specs.Values.{mmeAt, mceAt, tmgiAt, sessionAt, causeAt}
+use Rattle.items.specs.Items.{itemsAt, resetAt}
 use Rattle.entries.specs.declared.Entry.{Entry}
-use Rattle.rows.specs.declared.Kind.the-variants as kind
+use Rattle.diagnostics.specs.Diagnostics.{diagnosticsAt}
 use Rattle.kinds.specs.Kinds.{valueAt}
+use Rattle.rows.specs.declared.Kind.{Kind}
+use Rattle.rows.specs.declared.Kind.the-variants as kind
 use Rattle.rows.specs.declared.Row.{Row}
-use Rattle.envelopes.specs.declared.Head.{Head}
 use Rattle.rows.specs.Table.{find, known, kindOf, noRow}
+use Rattle.envelopes.specs.declared.Head.{Head}
 use Rattle.envelopes.specs.Envelope.{scanAt, headsAt}
 use Rattle.elements.specs.Judge as elements
 use Rattle.elements.specs.Judge.{front, readInto, ignored, unknownOf, missingEntry, missingOf}
 use Rattle.elements.proofs.WalkLaws.{read-rows}
-use Rattle.tables.specs.declared.Message.{Message}
-use Rattle.tables.specs.declared.Message.the-variants as message
-use Rattle.tables.specs.Tables.{tableOf}
-use Rattle.row_values.specs.declared.MaybeTmgi.{MaybeTmgi}
-use Rattle.row_values.specs.declared.MaybeTmgi.the-variants as tmgi
-use Rattle.row_values.specs.declared.MaybeReset.{MaybeReset}
-use Rattle.row_values.specs.declared.MaybeReset.the-variants as reset
-use Rattle.records.specs.declared.Body.{Body}
-use Rattle.records.specs.declared.Body.the-variants as body
-use Rattle.row_values.specs.Values.{orElse, within, mmeIn, mceIn, tmgiIn, resetOf, resetIn}
-use Rattle.records.specs.Records.{rowIn, recordOf}
-use Rattle.opened.specs.declared.Outcome.{Outcome}
-use Rattle.opened.specs.declared.Outcome.the-variants as outcome
-use Rattle.messages.specs.declared.Verdict.{Verdict}
-use Rattle.opened.specs.Opened.{outcomeBy, insideBy}
-use Rattle.messages.specs.Verdict.{without, takenOver, insideOf}
-use Rattle.messages.proofs.InsideLaws.{inside-has}
-use Rattle.requests.specs.Requests.{asks}
-use Rattle.ties.proofs.Ordered.{Scanned, scanned}
-use Rattle.demands.proofs.Sound.{elements-got, front-each}
+use Rattle.editions.specs.declared.Message.{Message}
+use Rattle.editions.specs.declared.Message.the-variants as message
+use Rattle.editions.specs.declared.Edition.{Edition}
+use Rattle.editions.specs.declared.Edition.the-variants.{Release18}
+use Rattle.editions.specs.Editions.{release18, tableOf}
+use Rattle.meaning.specs.Value as value
+use Rattle.meaning.specs.Value.{Value, given, absent}
+use Rattle.meaning.specs.Ranges.{valueKind}
+use Rattle.meaning.specs.Reading.{readAs, valueIn, valuesIn}
+use Rattle.verdicts.specs.declared.Outcome.the-variants as outcome
+use Rattle.verdicts.specs.Verdict.{Opening, outcomeBy, Understood, understood, readOf}
+use Rattle.round_trips.proofs.Ordered.{Scanned, scanned}
+use Rattle.round_trips.proofs.ValueAgain.{read-as}
+use Rattle.round_trips.proofs.Accepted.{opened}
+use Rattle.requests.specs.declared.Request.{Request}
+use Rattle.requests.specs.declared.Request.the-variants as request
+use Rattle.requests.specs.Requests.{seen, requestOf, requestIn, asks}
+use Rattle.demands.proofs.Seen.{IsMme, IsMce, IsTmgi, IsReset, Has, seen-has}
+use Rattle.demands.proofs.Verdicts.{only-passed, judging}
+use Rattle.demands.proofs.Sound.{front-each, of-read}
 
 -- ---- what is said
 
-abbrev pub IsMme : Mme → Type 0
-IsMme (mme.Is m) = Unit
-IsMme mme.Absent = ⊥
-
-abbrev pub IsMce : Mce → Type 0
-IsMce (mce.Is c) = Unit
-IsMce mce.Absent = ⊥
-
-abbrev pub IsTmgi : MaybeTmgi → Type 0
-IsTmgi (tmgi.Is t) = Unit
-IsTmgi tmgi.Absent = ⊥
-
-abbrev pub IsReset : MaybeReset → Type 0
-IsReset reset.Whole = Unit
-IsReset reset.Part = Unit
-IsReset reset.Absent = ⊥
-
 -- a request, with what the rules look at
-abbrev pub Complete : Body → Type 0
-Complete (body.StartRequest b) = IsMme (b .mme) × IsTmgi (b .tmgi)
-Complete (body.StopRequest b) = IsMme (b .mme) × IsMce (b .mce)
-Complete (body.Reset b) = IsReset (b .reset)
-Complete (body.ErrorIndication b) = Unit
-Complete (body.StartResponse b) = ⊥
-Complete (body.StartFailure b) = ⊥
-Complete (body.StopResponse b) = ⊥
-Complete (body.ResetAcknowledge b) = ⊥
-Complete body.None = ⊥
-
--- what is inside a frame is stopped, rejected or accepted
-abbrev pub Usual : Outcome → Type 0
-Usual outcome.Accepted = Unit
-Usual (outcome.Stopped x) = Unit
-Usual (outcome.Misplaced k) = Unit
-Usual outcome.Rejected = Unit
-Usual outcome.TooLong = ⊥
-Usual outcome.NotAmong = ⊥
+abbrev pub Complete : Request → Type 0
+Complete (request.Start x t s) = IsMme x × IsTmgi t
+Complete (request.Stop x y) = IsMme x × IsMce y
+Complete (request.Reset x) = IsReset x
+Complete request.Indication = Unit
+Complete request.None = ⊥
 
 -- ---- rows that have a value
 
@@ -169,117 +133,102 @@ front-length t row (h ∷ hs) =
     Short : List Head → Type 0
     Short fs = length fs ≤ length (h ∷ hs)
 
--- ---- the verdict
+-- ---- the judging, where it accepts
 
-usual-outcome : (n place : ℕ) (x : Bool) → Usual (outcomeBy n place x)
-usual-outcome n place x = on-pick Usual (ltb place n) tt (on-pick Usual x tt tt)
-
-accepted-tests : (n place : ℕ) (x : Bool) → outcomeBy n place x ≡ outcome.Accepted → (n ≤ place) × (x ≡ false)
-accepted-tests n place x q = by (ltb place n) refl x q
+accepted-tests : (n : ℕ) (x : elements.Found) → outcomeBy n x ≡ outcome.Accepted → (n ≤ x .place) × (some rejects (x .listed) ≡ false)
+accepted-tests n x q = by (ltb (x .place) n) refl (some rejects (x .listed)) q
   where
-    by : (b : Bool) → ltb place n ≡ b → (x : Bool) → pick b (outcome.Misplaced place) (pick x outcome.Rejected outcome.Accepted) ≡ outcome.Accepted → (n ≤ place) × (x ≡ false)
-    by true e x q = let z : _≡_ {A = ℕ} 0 1 = cc in absurd (omega arith)
+    by : (b : Bool) → ltb (x .place) n ≡ b → (y : Bool) → pick b (outcome.Misplaced (x .place)) (pick y outcome.Rejected outcome.Accepted) ≡ outcome.Accepted → (n ≤ x .place) × (y ≡ false)
+    by true e y q = let z : _≡_ {A = ℕ} 0 1 = cc in absurd (omega arith)
     by false e true q = let z : _≡_ {A = ℕ} 0 1 = cc in absurd (omega arith)
-    by false e false q = (ltb-false place n e, refl)
+    by false e false q = (ltb-false (x .place) n e, refl)
 
-module _ (m : Message) (s : List ℕ) (n at : ℕ) (q : got tt ≡ scanAt (tableOf m) s n at) where
+-- what is read is of the kind
+read-kind : (k : Kind) (s : List ℕ) (p : Span) {v : Value Span} → got v ≡ readAs k s p → valueKind v ≡ k
+unfolding readAs
+read-kind kind.Carried s p q = ap valueKind (same-got q)
+read-kind kind.Mme s p q = of-read (λ v. valueKind v ≡ kind.Mme) value.mme (mmeAt (take (p .to) s) (p .from)) q (λ a h. refl)
+read-kind kind.Mce s p q = of-read (λ v. valueKind v ≡ kind.Mce) value.mce (mceAt (take (p .to) s) (p .from)) q (λ a h. refl)
+read-kind kind.Tmgi s p q = of-read (λ v. valueKind v ≡ kind.Tmgi) value.tmgi (tmgiAt (take (p .to) s) (p .from)) q (λ a h. refl)
+read-kind kind.Session s p q = of-read (λ v. valueKind v ≡ kind.Session) value.session (sessionAt (take (p .to) s) (p .from)) q (λ a h. refl)
+read-kind kind.Cause s p q = of-read (λ v. valueKind v ≡ kind.Cause) value.cause (causeAt (take (p .to) s) (p .from)) q (λ a h. refl)
+read-kind kind.ResetType s p q = of-read (λ v. valueKind v ≡ kind.ResetType) value.reset (resetAt (take (p .to) s) (p .from)) q (λ a h. refl)
+read-kind kind.Acknowledged s p q = of-read (λ v. valueKind v ≡ kind.Acknowledged) value.list (itemsAt (take (p .to) s) (p .from)) q (λ a h. refl)
+read-kind kind.Diagnostics s p q = of-read (λ v. valueKind v ≡ kind.Diagnostics) value.diagnostics (diagnosticsAt (take (p .to) s) (p .from)) q (λ a h. refl)
+
+-- the value of a row
+value-at : (t : List Row) (s : List ℕ) (l : List Span) (k : ℕ) → length l ≡ length t → k < length t
+    → getD (valuesIn t s l) k absent ≡ valueIn (getD t k noRow .kind) s (getD l k noSpan)
+unfolding valuesIn
+value-at [] s l k n b = absurd (omega arith)
+value-at (r ∷ t) s [] k n b = absurd (omega arith)
+value-at (r ∷ t) s (v ∷ l) zero n b = refl
+value-at (r ∷ t) s (v ∷ l) (suc k) n b = value-at t s l k (omega arith) (omega arith)
+
+module _ (t : List Row) (s : List ℕ) (n at : ℕ) (q : got tt ≡ scanAt t s n at) where
   abbrev counted : List Head
-  counted = front (tableOf m) 0 (headsAt s n at)
+  counted = front t 0 (headsAt s n at)
 
   abbrev spans : List Span
-  spans = elements.readOf (tableOf m) counted
+  spans = elements.readOf t counted
 
-  rows-readable : Rows (tableOf m) s spans
+  rows-readable : Rows t s spans
   rows-readable =
-      let z = scanned (tableOf m) s n at q .1 in
-      read-rows-readable (tableOf m) s (replicate (length (tableOf m)) noSpan) counted
-      (front-each (Readable (tableOf m) s) (tableOf m) 0 (headsAt s n at) (each-readable (tableOf m) s at (headsAt s n at) z)) (none-readable (tableOf m) s (length (tableOf m)))
+      let z = scanned t s n at q .1 in
+      read-rows-readable t s (replicate (length t) noSpan) counted (front-each (Readable t s) t 0 (headsAt s n at) (each-readable t s at (headsAt s n at) z)) (none-readable t s (length t))
 
-  none-missing : outcomeBy n (length counted) (some rejects (elements.judgedOf (tableOf m) n (headsAt s n at) .listed)) ≡ outcome.Accepted → some rejects (missingOf (tableOf m) spans) ≡ false
+  none-missing : outcomeBy n (elements.judgedOf t n (headsAt s n at)) ≡ outcome.Accepted → some rejects (missingOf t spans) ≡ false
   unfolding elements.judgedOf
   none-missing a =
-      let z = accepted-tests n (length counted) (some rejects (unknownOf (tableOf m) counted ++ pick (eqb (length counted) n) (missingOf (tableOf m) spans) [])) a in
+      let z = accepted-tests n (elements.judgedOf t n (headsAt s n at)) a in
       let b = z .0 in
-      let c = front-length (tableOf m) 0 (headsAt s n at) in
-      let d = scanned (tableOf m) s n at q .0 in
+      let c = front-length t 0 (headsAt s n at) in
+      let d = scanned t s n at q .0 in
       let e : eqb (length counted) n ≡ true = eq-eqb (length counted) n (omega arith) in
-      let f : some rejects (unknownOf (tableOf m) counted ++ missingOf (tableOf m) spans) ≡ false = rw e at (z .1) in
-      or-right (some rejects (unknownOf (tableOf m) counted)) _ (sym (some-append rejects (unknownOf (tableOf m) counted) (missingOf (tableOf m) spans)) ∙ f)
+      let f : some rejects (unknownOf t counted ++ missingOf t spans) ≡ false = rw e at (z .1) in
+      or-right (some rejects (unknownOf t counted)) _ (sym (some-append rejects (unknownOf t counted) (missingOf t spans)) ∙ f)
 
-  -- the value of a mandatory row of reject can be read
-  row-read : some rejects (missingOf (tableOf m) spans) ≡ false → (k : ℕ) → k < length (tableOf m) → getD (tableOf m) k noRow .mandatory ≡ true → getD (tableOf m) k noRow .crit ≡ 0
-      → got tt ≡ valueAt (getD (tableOf m) k noRow .kind) (take (rowIn spans k .to) s) (rowIn spans k .from)
-  row-read e k b x y = rows-readable k (row-present (tableOf m) spans k (read-rows (tableOf m) counted) b e x y)
+  -- a mandatory row of reject has a value, and it is seen
+  row-seen : outcomeBy n (elements.judgedOf t n (headsAt s n at)) ≡ outcome.Accepted → (k : ℕ) → k < length t → getD t k noRow .mandatory ≡ true → getD t k noRow .crit ≡ 0
+      → Has (getD t k noRow .kind) (seen (valuesIn t s spans))
+  unfolding valueIn
+  row-seen a k b x y =
+      let c : Kind = getD t k noRow .kind in
+      let p : Span = getD spans k noSpan in
+      let l = read-rows t counted in
+      let h = row-present t spans k l b (none-missing a) x y in
+      let v = read-as c s p (rows-readable k h) in
+      let w : getD (valuesIn t s spans) k absent ≡ given (v .0) = value-at t s spans k l b ∙ rw (h, ← v .1) in
+      rw (read-kind c s p (v .1)) at (seen-has (valuesIn t s spans) k (v .0) w)
 
--- ---- and so it was read
+-- ---- requests
 
-module _ (s : List ℕ) (v : Span) where
-  mme-read : got tt ≡ valueAt kind.Mme (take (v .to) s) (v .from) → IsMme (mmeIn s v)
-  unfolding valueAt mmeIn
-  mme-read q = by (within mmeAt s v) (then-got (mmeAt (take (v .to) s) (v .from)) _ q .1)
-    where
-      by : (r : Read MmeId) {a : MmeId} → got a ≡ r → IsMme (orElse mme.Absent mme.Is r)
-      by (got x) q = tt
-      by (stop x) q = got-stop q
+not-asked : {A : Type 0} → false ≡ true → A
+not-asked q = let z : _≡_ {A = ℕ} 0 1 = cc in absurd (omega arith)
 
-  mce-read : got tt ≡ valueAt kind.Mce (take (v .to) s) (v .from) → IsMce (mceIn s v)
-  unfolding valueAt mceIn
-  mce-read q = by (within mceAt s v) (then-got (mceAt (take (v .to) s) (v .from)) _ q .1)
-    where
-      by : (r : Read MceId) {a : MceId} → got a ≡ r → IsMce (orElse mce.Absent mce.Is r)
-      by (got x) q = tt
-      by (stop x) q = got-stop q
+-- which rows the rules look at, in each edition
+complete : (e : Edition) (m : Message) (s : List ℕ) (n at : ℕ) → asks m ≡ true → got tt ≡ scanAt (tableOf e m) s n at
+    → outcomeBy n (elements.judgedOf (tableOf e m) n (headsAt s n at)) ≡ outcome.Accepted
+    → Complete (requestOf m (seen (valuesIn (tableOf e m) s (elements.readOf (tableOf e m) (front (tableOf e m) 0 (headsAt s n at))))))
+unfolding release18
+complete Release18 message.StartRequest s n at a q o =
+    let r = row-seen (tableOf Release18 message.StartRequest) s n at q o in (r 0 (omega arith) refl refl, r 1 (omega arith) refl refl)
+complete Release18 message.StopRequest s n at a q o =
+    let r = row-seen (tableOf Release18 message.StopRequest) s n at q o in (r 0 (omega arith) refl refl, r 1 (omega arith) refl refl)
+complete Release18 message.Reset s n at a q o = row-seen (tableOf Release18 message.Reset) s n at q o 1 (omega arith) refl refl
+complete Release18 message.ErrorIndication s n at a q o = tt
+complete Release18 message.StartResponse s n at a q o = not-asked a
+complete Release18 message.StartFailure s n at a q o = not-asked a
+complete Release18 message.StopResponse s n at a q o = not-asked a
+complete Release18 message.ResetAcknowledge s n at a q o = not-asked a
 
-  tmgi-read : got tt ≡ valueAt kind.Tmgi (take (v .to) s) (v .from) → IsTmgi (tmgiIn s v)
-  unfolding valueAt tmgiIn
-  tmgi-read q = by (within tmgiAt s v) (then-got (tmgiAt (take (v .to) s) (v .from)) _ q .1)
-    where
-      by : (r : Read Tmgi) {a : Tmgi} → got a ≡ r → IsTmgi (orElse tmgi.Absent tmgi.Is r)
-      by (got x) q = tt
-      by (stop x) q = got-stop q
-
-  reset-read : got tt ≡ valueAt kind.ResetType (take (v .to) s) (v .from) → IsReset (resetIn s v .reset)
-  unfolding valueAt resetIn
-  reset-read q = by (within resetAt s v) (then-got (resetAt (take (v .to) s) (v .from)) _ q .1)
-    where
-      by : (r : Read ResetType) {a : ResetType} → got a ≡ r → IsReset (resetOf r .reset)
-      by (got whole) q = tt
-      by (got (part is)) q = tt
-      by (stop x) q = got-stop q
-
-module _ (s : List ℕ) (crit n at : ℕ) where
-  complete : (m : Message) → asks m ≡ true → got tt ≡ scanAt (tableOf m) s n at
-      → some rejects (missingOf (tableOf m) (elements.readOf (tableOf m) (front (tableOf m) 0 (headsAt s n at)))) ≡ false
-      → Complete (recordOf s (rowIn (elements.readOf (tableOf m) (front (tableOf m) 0 (headsAt s n at)))) crit m .body)
-  unfolding recordOf tableOf
-  complete message.StartRequest a q e =
-      let r = row-read message.StartRequest s n at q e in
-      (mme-read s _ (r 0 (omega arith) refl refl), tmgi-read s _ (r 1 (omega arith) refl refl))
-  complete message.StopRequest a q e =
-      let r = row-read message.StopRequest s n at q e in
-      (mme-read s _ (r 0 (omega arith) refl refl), mce-read s _ (r 1 (omega arith) refl refl))
-  complete message.Reset a q e = reset-read s _ (row-read message.Reset s n at q e 1 (omega arith) refl refl)
-  complete message.ErrorIndication a q e = tt
-  complete message.StartResponse a q e = let z : _≡_ {A = ℕ} 0 1 = cc in absurd (omega arith)
-  complete message.StartFailure a q e = let z : _≡_ {A = ℕ} 0 1 = cc in absurd (omega arith)
-  complete message.StopResponse a q e = let z : _≡_ {A = ℕ} 0 1 = cc in absurd (omega arith)
-  complete message.ResetAcknowledge a q e = let z : _≡_ {A = ℕ} 0 1 = cc in absurd (omega arith)
-
--- what is known of a verdict on what is inside the frame of a request
-pub record Judgement (v : Verdict) : Type 0 where
-  pub usual : Usual (v .outcome)
-  pub complete : v .outcome ≡ outcome.Accepted → Complete (v .message .body)
-
-pub inside-judged : (m : Message) (s : List ℕ) (from crit : ℕ) → asks m ≡ true → Judgement (insideOf m s from crit)
-unfolding elements.judgedOf elements.noted
-inside-judged m s from crit a =
-    inside-has m s from crit Judgement (λ x q. stopped) (λ n f q.
-    let g = elements-got m s n (from + 3) q in
-    let found : elements.Found = elements.judgedOf (tableOf m) n (headsAt s n (from + 3)) in
-    subst (λ (y : elements.Found). Judgement (takenOver m s crit (got (insideBy n y)))) (g .1) (record {
-      usual = usual-outcome n (found .place) (some rejects (found .listed));
-      complete = λ e. complete s crit n (from + 3) m a (g .0) (none-missing m s n (from + 3) (g .0) e);
-    }))
-  where
-    stopped : {x : Stop} → Judgement (without (outcome.Stopped x))
-    stopped = record { usual = tt; complete = λ e. let z : _≡_ {A = ℕ} 0 1 = cc in absurd (omega arith) }
+pub accepted-complete : (e : Edition) (s : List ℕ) (u : Understood) → readOf e asks s ≡ understood u → u .outcome ≡ outcome.Accepted → Complete (requestIn (u .what))
+unfolding elements.judgedOf
+accepted-complete e s u q =
+    let w = opened e asks s u q in
+    let m : Message = u .what .message in
+    let t : List Row = tableOf e m in
+    let j = judging t s (u .frame .from) (w .read) in
+    subst (λ (x : Understood). x .outcome ≡ outcome.Accepted → Complete (requestIn (x .what))) (w .is)
+    (subst (λ (y : Opening). y .outcome ≡ outcome.Accepted → Complete (requestOf m (seen (valuesIn t s (y .spans))))) (j .is)
+    (λ o. complete e m s (j .count) (u .frame .from + 3) (only-passed e asks s u q) (j .scan) o))

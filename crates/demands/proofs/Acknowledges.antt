@@ -1,66 +1,59 @@
 -- The reply to a partial reset, read back, lists every item that carries an identity, in received order.
 -- Assumes nothing.
-use Prim.Native.Nat.{ℕ, _-_, _+_, _≤_}
-use mathlib.Core.Path.{_≡_, refl, ap, sym, _∙_}
+use Prim.Native.Nat.{ℕ}
+use mathlib.Core.Path.{_≡_, refl, sym, _∙_}
 use mathlib.Core.Bool.{Bool, true, false}
-use mathlib.Core.List.{List, [], append-nil}
-use native.Mathlib.Omega.{arith}
+use mathlib.Core.List.{List, [], _∷_, _++_}
 use borrow.Author.Tests.{ltb-false}
-use lib.Dec.{ltb}
-use lib.ListN.{length, length-append, length-replicate, drop-of-length-le}
+use lib.ListN.{length, drop-of-length-le}
 use Rattle.lists.specs.Lists.{pick, keep}
-use Rattle.lists.proofs.Keep.{length-keep}
-use Rattle.lists.proofs.Fill.{take-fill}
+use Rattle.lists.proofs.Tests.{on-pick}
 use Rattle.octets.specs.Stands.{Octets}
 use Rattle.identity.specs.declared.Item.{Item}
-use Rattle.identity.specs.declared.Items.{Items}
-use Rattle.identity.specs.Items.{emptyItem, listed}
-use Rattle.entries.specs.declared.Entries.{Entries}
-use Rattle.entries.specs.Entries.{entriesOf}
-use Rattle.frames.specs.declared.Frame.{Frame}
-use Rattle.messages.specs.Verdict.{readOf}
-use Rattle.said.specs.Said.{itemsSaid}
+use Rattle.entries.specs.declared.Entry.{Entry}
+use Rattle.editions.specs.declared.Message.the-variants as message
+use Rattle.editions.specs.declared.Edition.{Edition}
+use Rattle.editions.specs.declared.Edition.the-variants.{Release18}
+use Rattle.editions.specs.Ids.{id-MBMS-Service-associatedLogicalM3-ConnectionListResAck}
+use Rattle.editions.specs.Editions.{release18}
+use Rattle.meaning.specs.Value as value
+use Rattle.verdicts.specs.Verdict.{Understood}
+use Rattle.layout.specs.Record.{listsOf}
+use Rattle.requests.specs.Requests.{itemsIn, asks}
 use Rattle.replies.specs.declared.Reply.the-variants as reply
-use Rattle.replies.specs.Replies.{hasIdentity, replied}
-use Rattle.judge.specs.Judge.{judgedOf}
-use Rattle.unit.specs.Unit.{replyOctets}
-use Rattle.demands.specs.Words.{PartialReset, _acknowledges_}
-use Rattle.demands.proofs.Written.{listSaid, part-written}
-use Rattle.demands.proofs.Sound.{judged-sound}
-use Rattle.demands.proofs.Bodies.{says-acknowledged}
-use Rattle.demands.proofs.Verdicts.{Filled, read-filled}
+use Rattle.replies.specs.Replies.{Element, _is_, valueOf, saying, someOf, listOnly, hasIdentity, listing, replied}
+use Rattle.calls.specs.Call.{judged}
+use Rattle.demands.specs.Words.{PartialReset, Acknowledges}
+use Rattle.demands.proofs.Taken.{Written}
+use Rattle.demands.proofs.Written.{spoken}
+use Rattle.demands.proofs.Seen.{asking}
+use Rattle.demands.proofs.Sound.{read-sound}
 use Rattle.demands.proofs.Runs.{acknowledgement}
 
--- an array that a list fills, and that says at most 256 items, is of the items that it says
-pub said-listed : (a : Items) → Filled a → (is : List Item) → length is ≤ 256 → itemsSaid a ≡ is → listed a ≡ is
-said-listed a (ks, e) is h q =
-    let l : listed a ≡ ks = ap listed e ∙ take-fill emptyItem 256 ks in
-    let n : a .count ≡ length ks = ap (λ (x : Items). x .count) e in
-    let k : length (listed a) ≡ length ks = ap length l in
-    let m : length (listed a) + (a .count - 256) ≡ length is = simp (length-append, length-replicate) at (ap length q) in
-    let z : a .count - 256 ≡ 0 = omega arith in
-    sym (append-nil (listed a)) ∙ rw z at q
+abbrev acknowledged : List Item → List Entry → List Element
+acknowledged kept es = listing kept ++ listOnly es
 
--- the list, or none where there is no item
-list-or-none : (a is : List Item) (t : Bool) → ltb 0 (length is) ≡ t → (t ≡ true → a ≡ is) → pick t a [] ≡ is
-list-or-none a is true e h = h refl
-list-or-none a is false e h = sym (drop-of-length-le is {i = 0} (ltb-false 0 (length is) e))
+-- what an acknowledgement lists, in each edition
+lists-kept : (e : Edition) (kept : List Item) (es : List Entry) → listsOf (saying e message.ResetAcknowledge (acknowledged kept es) .values) .items ≡ kept
+unfolding release18 valueOf listsOf listOnly
+lists-kept Release18 kept es = by (someOf kept) refl
+  where
+    by : (t : Bool) → someOf kept ≡ t
+        → listsOf (saying Release18 message.ResetAcknowledge (pick t (id-MBMS-Service-associatedLogicalM3-ConnectionListResAck is value.list kept ∷ []) [] ++ listOnly es) .values) .items ≡ kept
+    by true q = refl
+    by false q =
+        on-pick (λ (xs : List Element). listsOf (saying Release18 message.ResetAcknowledge xs .values) .items ≡ kept) (someOf es) none none
+      where
+        none : [] ≡ kept
+        none = sym (drop-of-length-le kept {i = 0} (ltb-false 0 (length kept) q))
 
-pub reply-acknowledges : (s : List ℕ) (is : List Item) → Octets s → PartialReset (judgedOf s .verdict) is → acknowledgement s acknowledges keep hasIdentity is
-reply-acknowledges s is o p =
-    let v = judged-sound s o .verdict in
-    let f : Frame = judgedOf s .frame in
-    let items : Items = judgedOf s .verdict .message .items in
-    let ks : List Item = keep hasIdentity (listed items) in
-    let w = part-written f items (v .list) (v .entries) (v .items) in
-    let os : List ℕ = replyOctets (replied f items (entriesOf (v .list)) reply.AcknowledgeItems) in
-    let n : acknowledgement s ≡ os = ap (λ (x : Entries). replyOctets (replied f items x reply.AcknowledgeItems)) (v .noted) in
-    let b : length ks ≤ 256 = omega (arith, length-keep hasIdentity (listed items), v .items .few) in
-    let l = says-acknowledged (readOf os .message) os ks (ltb 0 (length ks)) (listSaid (v .list)) (w .back .said ∙ w .says) in
-    rw (n, ← p .items) (record {
-      accepted = w .back .accepted;
-      list = ltb 0 (length ks);
-      diagnostics = l .diagnostics;
-      body = l .body;
-      items = list-or-none (listed (readOf os .message .items)) ks (ltb 0 (length ks)) refl (λ e. said-listed (readOf os .message .items) (read-filled os) ks b (l .items e));
-    })
+pub reply-acknowledges : (e : Edition) (s : List ℕ) (items : List Item) → Octets s → PartialReset (judged e s) items → Acknowledges e (acknowledgement e s) (keep hasIdentity items)
+unfolding replied
+reply-acknowledges e s items o p =
+    let u : Understood = p .what in
+    let z = read-sound e s o asks u (p .read) in
+    let kept : List Item = keep hasIdentity (itemsIn (u .what)) in
+    let w : Written e (saying e message.ResetAcknowledge (acknowledged kept (u .noted))) = spoken e (u .frame) (z .frame) (itemsIn (u .what)) (z .items .list) (u .noted) (z .noted) reply.AcknowledgeItems tt in
+    let b = w .back in
+    let a = asking _ (b .what .what) (saying e message.ResetAcknowledge (acknowledged kept (u .noted))) (b .said) in
+    rw (p .read, ← p .so .1) (record { what = b .what; read = b .read; accepted = b .accepted; so = (a .message, a .items ∙ lists-kept e kept (u .noted)) })

@@ -1,4 +1,4 @@
--- The answers are those of 01's table: the first that is due is given, or 10 where its reply does not fit.
+-- The table call answers as 01's table of answers says: the first that is due, or 10 where the reply does not fit.
 -- Assumes nothing.
 use Prim.Native.Nat.{ℕ}
 use mathlib.Core.Path.{_≡_, refl}
@@ -10,42 +10,33 @@ use Rattle.lists.specs.Lists.{pick}
 use Rattle.octets.specs.Read.{Read, got, stop}
 use Rattle.octets.specs.declared.Stop.the-variants.{Fault, Extension}
 use Rattle.identity.specs.declared.MceId.{MceId}
-use Rattle.identity.specs.declared.Mme.{Mme}
 use Rattle.identity.specs.declared.Mme.the-variants as mme
-use Rattle.identity.specs.declared.Mce.{Mce}
 use Rattle.identity.specs.declared.Mce.the-variants as mce
-use Rattle.identity.specs.declared.Items.{Items}
-use Rattle.entries.specs.declared.Entries.{Entries}
-use Rattle.tables.specs.declared.Message.{Message}
-use Rattle.tables.specs.declared.Named.{Named}
-use Rattle.tables.specs.declared.Named.the-variants as named
-use Rattle.tables.specs.Tables.{namedBy}
-use Rattle.row_values.specs.declared.MaybeTmgi.{MaybeTmgi}
-use Rattle.row_values.specs.declared.MaybeTmgi.the-variants as tmgi
-use Rattle.row_values.specs.declared.MaybeReset.{MaybeReset}
-use Rattle.row_values.specs.declared.MaybeReset.the-variants as reset
-use Rattle.records.specs.declared.Start.{Start}
-use Rattle.records.specs.declared.Stopping.{Stopping}
-use Rattle.records.specs.declared.Resetting.{Resetting}
-use Rattle.records.specs.declared.Body.{Body}
-use Rattle.records.specs.declared.Body.the-variants as body
+use Rattle.editions.specs.declared.Message.{Message}
+use Rattle.editions.specs.declared.Named.{Named}
+use Rattle.editions.specs.declared.Named.the-variants as named
+use Rattle.editions.specs.declared.Edition.{Edition}
+use Rattle.editions.specs.Editions.{tableOf, namedBy}
 use Rattle.frames.specs.declared.Frame.{Frame}
-use Rattle.opened.specs.declared.Outcome.{Outcome}
-use Rattle.opened.specs.declared.Outcome.the-variants as outcome
-use Rattle.messages.specs.declared.Verdict.{Verdict}
 use Rattle.frames.specs.Frame.{frameAt}
-use Rattle.messages.specs.Verdict.{without, insideOf}
-use Rattle.table.specs.Table.{State, full, holdsMme, holdsMce, holdsPair, standing}
+use Rattle.verdicts.specs.declared.Outcome.{Outcome}
+use Rattle.verdicts.specs.declared.Outcome.the-variants as outcome
+use Rattle.verdicts.specs.declared.Refusal.the-variants as refusal
+use Rattle.verdicts.specs.Verdict.{Opening, openedAt, Understood, Verdict, refused, understood, understoodBy, verdictOf, ofThose, framed, readOf}
+use Rattle.table.specs.Table.{State, full, holdsMme, holdsMce, holdsPair}
 use Rattle.lent.specs.Lent.{Lent, Held, NoTable, readTable}
-use Rattle.requests.specs.Requests.{asks, requestOf}
-use Rattle.judge.specs.Judge.{Judged, noFrame, judgedBy, verdictBy, judgedIn, judgedOf}
+use Rattle.requests.specs.declared.MaybeTmgi.the-variants as tmgi
+use Rattle.requests.specs.declared.MaybeReset.the-variants as reset
+use Rattle.requests.specs.declared.Request.{Request}
+use Rattle.requests.specs.declared.Request.the-variants as request
+use Rattle.requests.specs.Requests.{asks, requestIn, itemsIn}
 use Rattle.carry.specs.declared.Decision.{Decision}
-use Rattle.carry.specs.Carry.{started, stopped, decision, asked}
-use Rattle.unit.specs.Decided.{Decided, applied, decided}
+use Rattle.carry.specs.Carry.{started, stopped}
 use Rattle.answers.specs.Answers.{numbered}
-use Rattle.unit.specs.Unit.{answerOf, settledIf, fits, settled, onTable, call}
+use Rattle.calls.specs.Decided.{Decided, applied, decided}
+use Rattle.calls.specs.Call.{answerOf, settledIf, fits, settled, onTable, call, judged}
 use Rattle.demands.specs.Due.{firstDue, dueFor, due, fitsIn, AnswersAs}
-use Rattle.demands.proofs.Accepted.{IsMme, IsMce, IsTmgi, IsReset, Complete, Usual, inside-judged}
+use Rattle.demands.proofs.Accepted.{Complete, accepted-complete}
 
 abbrev number : Decided → ℕ
 number x = numbered (answerOf x) .number
@@ -64,107 +55,90 @@ module _ (g : Decision → ℕ) where
   of-two false x y = refl
 
 -- over a table that holds l; of a message of at most 8,192 octets with the frame of a request
-module _ (l : State) (c : MceId) (s : List ℕ) (small : ltb 8192 (length s) ≡ false)
-    (f : Frame) (m : Message) (name : namedBy (f .kind) (f .code) ≡ named.Is m) (request : asks m ≡ true) (items : Items) (noted : Entries) where
-  abbrev numberBy : Decision → ℕ
-  numberBy d = number (applied l f items noted d)
+module _ (e : Edition) (l : State) (c : MceId) (s : List ℕ) where
+  -- the first that is due, by the frame and the verdict
+  abbrev first : Read Frame → Verdict → ℕ
+  first r v = firstDue (dueFor e (Held l) s r v c)
 
-  abbrev ruledBy : Body → Outcome → Decision
-  ruledBy b o = let q = requestOf b in decision (standing (asked c q) l) c q o
+  abbrev numberBy : Verdict → ℕ
+  numberBy v = number (decided e l c v)
 
-  start-due : (b : Start) (x : Mme) (i : MaybeTmgi) → IsMme x → IsTmgi i
-      → numberBy (ruledBy (body.StartRequest (record { mme = x; tmgi = i; session = b .session; carried = b .carried })) outcome.Accepted)
-      ≡ firstDue (dueFor (Held l) s (got f) outcome.Accepted (body.StartRequest (record { mme = x; tmgi = i; session = b .session; carried = b .carried })) c)
-  unfolding started
-  start-due b (mme.Is x) (tmgi.Is i) g h = rw (small, name, request) (of-three numberBy (holdsMme x l) (holdsMce c l) (full l) _ _ _ _)
-  start-due b (mme.Is x) tmgi.Absent g h = absurd h
-  start-due b mme.Absent i g h = absurd g
+  module _ (small : ltb 8192 (length s) ≡ false) (f : Frame) (m : Message) (name : namedBy e (f .kind) (f .code) ≡ named.Is m) (asking : asks m ≡ true) (u : Understood) where
+    -- what is decided
+    abbrev meant : Decision → ℕ
+    meant d = number (applied e l (u .frame) (itemsIn (u .what)) (u .noted) d)
 
-  stop-due : (b : Stopping) (x : Mme) (y : Mce) → IsMme x → IsMce y
-      → numberBy (ruledBy (body.StopRequest (record { mme = x; mce = y; time = b .time })) outcome.Accepted)
-      ≡ firstDue (dueFor (Held l) s (got f) outcome.Accepted (body.StopRequest (record { mme = x; mce = y; time = b .time })) c)
-  unfolding stopped
-  stop-due b (mme.Is x) (mce.Is y) g h = rw (small, name, request) (of-two numberBy (holdsPair x y l) _ _)
-  stop-due b (mme.Is x) mce.Absent g h = absurd h
-  stop-due b mme.Absent y g h = absurd g
+    asked-due : (q : Request) → requestIn (u .what) ≡ q → u .outcome ≡ outcome.Accepted → Complete q → numberBy (understood u) ≡ first (got f) (understood u)
+    unfolding decided started stopped
+    asked-due (request.Start (mme.Is x) (tmgi.Is i) v) p o g = rw (small, name, asking, o, p) (of-three meant (holdsMme x l) (holdsMce c l) (full l) _ _ _ _)
+    asked-due (request.Start (mme.Is x) tmgi.Absent v) p o g = absurd (g .1)
+    asked-due (request.Start mme.Absent i v) p o g = absurd (g .0)
+    asked-due (request.Stop (mme.Is x) (mce.Is y)) p o g = rw (small, name, asking, o, p) (of-two meant (holdsPair x y l) _ _)
+    asked-due (request.Stop (mme.Is x) mce.Absent) p o g = absurd (g .1)
+    asked-due (request.Stop mme.Absent y) p o g = absurd (g .0)
+    asked-due (request.Reset reset.Whole) p o g = rw (small, name, asking, o, p)
+    asked-due (request.Reset reset.Part) p o g = rw (small, name, asking, o, p)
+    asked-due (request.Reset reset.Absent) p o g = absurd g
+    asked-due request.Indication p o g = rw (small, name, asking, o, p)
+    asked-due request.None p o g = absurd g
 
-  reset-due : (b : Resetting) (x : MaybeReset) → IsReset x
-      → numberBy (ruledBy (body.Reset (record { cause = b .cause; reset = x })) outcome.Accepted)
-      ≡ firstDue (dueFor (Held l) s (got f) outcome.Accepted (body.Reset (record { cause = b .cause; reset = x })) c)
-  reset-due b reset.Whole g = rw (small, name, request)
-  reset-due b reset.Part g = rw (small, name, request)
-  reset-due b reset.Absent g = absurd g
+    understood-due : (o : Outcome) → u .outcome ≡ o → (u .outcome ≡ outcome.Accepted → Complete (requestIn (u .what))) → numberBy (understood u) ≡ first (got f) (understood u)
+    unfolding decided
+    understood-due outcome.Accepted p g = asked-due (requestIn (u .what)) refl p (g p)
+    understood-due (outcome.Misplaced k) p g = rw (small, name, asking, p)
+    understood-due outcome.Rejected p g = rw (small, name, asking, p)
 
-  asked-due : (b : Body) → Complete b → numberBy (ruledBy b outcome.Accepted) ≡ firstDue (dueFor (Held l) s (got f) outcome.Accepted b c)
-  asked-due (body.StartRequest b) g = start-due b (b .mme) (b .tmgi) (g .0) (g .1)
-  asked-due (body.StopRequest b) g = stop-due b (b .mme) (b .mce) (g .0) (g .1)
-  asked-due (body.Reset b) g = reset-due b (b .reset) g
-  asked-due (body.ErrorIndication b) g = rw (small, name, request)
-  asked-due (body.StartResponse b) g = absurd g
-  asked-due (body.StartFailure b) g = absurd g
-  asked-due (body.StopResponse b) g = absurd g
-  asked-due (body.ResetAcknowledge b) g = absurd g
-  asked-due body.None g = absurd g
-
-  ruled-due : (b : Body) (o : Outcome) → Usual o → (o ≡ outcome.Accepted → Complete b) → numberBy (ruledBy b o) ≡ firstDue (dueFor (Held l) s (got f) o b c)
-  ruled-due b outcome.Accepted u g = asked-due b (g refl)
-  ruled-due b outcome.TooLong u g = absurd u
-  ruled-due b (outcome.Stopped (Fault p)) u g = rw (small, name, request)
-  ruled-due b (outcome.Stopped (Extension p)) u g = rw (small, name, request)
-  ruled-due b outcome.NotAmong u g = absurd u
-  ruled-due b (outcome.Misplaced k) u g = rw (small, name, request)
-  ruled-due b outcome.Rejected u g = rw (small, name, request)
-
--- ---- what is judged
-
-module _ (l : State) (c : MceId) (s : List ℕ) where
-  -- the first that is due, by what is judged
-  abbrev first : Read Frame → Judged → ℕ
-  first r j = firstDue (dueFor (Held l) s r (j .verdict .outcome) (j .verdict .message .body) c)
+  -- ---- what is judged
 
   module _ (small : ltb 8192 (length s) ≡ false) (f : Frame) where
-    asking-due : (m : Message) → namedBy (f .kind) (f .code) ≡ named.Is m → (b : Bool) → asks m ≡ b
-        → number (decided l c (judgedBy f (pick b (insideOf m s (f .from) (f .crit)) (without outcome.NotAmong)))) ≡ first (got f) (judgedBy f (pick b (insideOf m s (f .from) (f .crit)) (without outcome.NotAmong)))
-    unfolding decided
-    asking-due m name true a =
-        let v : Verdict = insideOf m s (f .from) (f .crit) in
-        let g = inside-judged m s (f .from) (f .crit) a in
-        ruled-due l c s small f m name a (v .message .items) (v .noted) (v .message .body) (v .outcome) (g .usual) (g .complete)
-    asking-due m name false a = rw (small, name, a)
+    module _ (m : Message) (name : namedBy e (f .kind) (f .code) ≡ named.Is m) where
+      opened-due : asks m ≡ true → (o : Read Opening) → judged e s ≡ verdictOf (tableOf e m) m f s o → numberBy (verdictOf (tableOf e m) m f s o) ≡ first (got f) (verdictOf (tableOf e m) m f s o)
+      unfolding decided
+      opened-due a (got o) q =
+          let u : Understood = understoodBy (tableOf e m) m f s o in
+          understood-due small f m name a u (o .outcome) refl (accepted-complete e s u q)
+      opened-due a (stop (Fault p)) q = rw (small, name, a)
+      opened-due a (stop (Extension p)) q = rw (small, name, a)
 
-    named-due : (n : Named) → namedBy (f .kind) (f .code) ≡ n → number (decided l c (judgedBy f (verdictBy s f n))) ≡ first (got f) (judgedBy f (verdictBy s f n))
-    unfolding decided
-    named-due (named.Is m) name = asking-due m name (asks m) refl
-    named-due named.Other name = rw (small, name)
+      asking-due : (b : Bool) → asks m ≡ b → judged e s ≡ pick b (verdictOf (tableOf e m) m f s (openedAt (tableOf e m) s (f .from))) (refused refusal.NotAmong)
+          → numberBy (pick b (verdictOf (tableOf e m) m f s (openedAt (tableOf e m) s (f .from))) (refused refusal.NotAmong))
+          ≡ first (got f) (pick b (verdictOf (tableOf e m) m f s (openedAt (tableOf e m) s (f .from))) (refused refusal.NotAmong))
+      unfolding decided
+      asking-due true a q = opened-due a (openedAt (tableOf e m) s (f .from)) q
+      asking-due false a q = rw (small, name, a)
 
-  framed-due : ltb 8192 (length s) ≡ false → (r : Read Frame) → number (decided l c (judgedIn s r)) ≡ first r (judgedIn s r)
+    named-due : (n : Named) → namedBy e (f .kind) (f .code) ≡ n → judged e s ≡ ofThose e asks s f n → numberBy (ofThose e asks s f n) ≡ first (got f) (ofThose e asks s f n)
+    unfolding decided
+    named-due (named.Is m) name q = asking-due m name (asks m) refl q
+    named-due named.Other name q = rw (small, name)
+
+  framed-due : ltb 8192 (length s) ≡ false → (r : Read Frame) → judged e s ≡ framed e asks s r → numberBy (framed e asks s r) ≡ first r (framed e asks s r)
   unfolding decided
-  framed-due small (got f) = named-due small f (namedBy (f .kind) (f .code)) refl
-  framed-due small (stop (Fault p)) = rw small
-  framed-due small (stop (Extension p)) = rw small
+  framed-due small (got f) q = named-due small f (namedBy e (f .kind) (f .code)) refl q
+  framed-due small (stop (Fault p)) q = rw small
+  framed-due small (stop (Extension p)) q = rw small
 
-  judged-due : number (decided l c (judgedOf s)) ≡ first (frameAt s) (judgedOf s)
-  unfolding judgedOf decided
-  judged-due = by (ltb 8192 (length s)) refl
+  judged-due : numberBy (judged e s) ≡ first (frameAt s) (judged e s)
+  unfolding readOf decided
+  judged-due = by (ltb 8192 (length s)) refl refl
     where
-      by : (b : Bool) → ltb 8192 (length s) ≡ b
-          → number (decided l c (pick b (judgedBy noFrame (without outcome.TooLong)) (judgedIn s (frameAt s)))) ≡ first (frameAt s) (pick b (judgedBy noFrame (without outcome.TooLong)) (judgedIn s (frameAt s)))
-      by true e = rw e
-      by false e = framed-due e (frameAt s)
+      by : (b : Bool) → ltb 8192 (length s) ≡ b → judged e s ≡ pick b (refused refusal.TooLong) (framed e asks s (frameAt s))
+          → numberBy (pick b (refused refusal.TooLong) (framed e asks s (frameAt s))) ≡ first (frameAt s) (pick b (refused refusal.TooLong) (framed e asks s (frameAt s)))
+      by true z q = rw z
+      by false z q = framed-due z (frameAt s) q
 
 -- ---- the call
 
-settled-due : (t d : List ℕ) (b : Bool) (x : Decided) {n : ℕ} → number x ≡ n → numbered (settledIf b t d x .answer) .number ≡ pick b n 10
-settled-due t d true x e = e
-settled-due t d false x e = refl
+settled-due : (e : Edition) (t d : List ℕ) (b : Bool) (x : Decided) {n : ℕ} → number x ≡ n → numbered (settledIf e b t d x .answer) .number ≡ pick b n 10
+settled-due e t d true x q = q
+settled-due e t d false x q = refl
 
-pub answers-as : AnswersAs
+pub answers-as : (e : Edition) → AnswersAs e
 unfolding call settled due
-answers-as t c = by (readTable t)
+answers-as e t c = by (readTable t)
   where
-    by : (x : Lent) → numbered (onTable t c x .answer) .number
-        ≡ pick (fitsIn x c) (firstDue (dueFor x (c .message) (frameAt (c .message)) (judgedOf (c .message) .verdict .outcome) (judgedOf (c .message) .verdict .message .body) (c .offered))) 10
+    by : (x : Lent) → numbered (onTable e t c x .answer) .number ≡ pick (fitsIn e x c) (firstDue (dueFor e x (c .message) (frameAt (c .message)) (judged e (c .message)) (c .offered))) 10
     by (Held l) =
-        let x : Decided = decided l (c .offered) (judgedOf (c .message)) in
-        settled-due t (c .room) (fits (c .room) x) x (judged-due l (c .offered) (c .message))
+        let x : Decided = decided e l (c .offered) (judged e (c .message)) in
+        settled-due e t (c .room) (fits e (c .room) x) x (judged-due e l (c .offered) (c .message))
     by NoTable = refl

@@ -1,84 +1,88 @@
 -- There are messages: for 1 to 256 items a partial reset that carries them, for an association a start of it, and for a pair of identities a stop.
+-- Their elements suit their tables, so they are read back as what they say: one line for each edition and message.
 -- Assumes nothing.
-use Prim.Native.Nat.{ℕ, _<_, _≤_}
-use mathlib.Core.Path.{_≡_, refl, ap}
-use mathlib.Core.Bool.{true, false}
+use Prim.Native.Nat.{ℕ, _<_}
+use mathlib.Core.Path.{_≡_, refl, ap, _∙_}
+use mathlib.Core.Bool.{true}
 use mathlib.Core.List.{List, [], _∷_}
 use native.Mathlib.Omega.{arith}
-use borrow.Author.Tests.{le-leb}
 use lib.ListN.{length}
-use Rattle.lists.specs.Lists.{fill}
-use Rattle.lists.proofs.Fill.{length-fill, take-fill}
 use Rattle.octets.specs.Stands.{Octets}
+use Rattle.octets.specs.Many.{Each}
 use Rattle.octets.proofs.Back.{length-number}
 use Rattle.identity.specs.declared.MmeId.{MmeId}
 use Rattle.identity.specs.declared.MceId.{MceId}
+use Rattle.identity.specs.declared.Mme.the-variants as mme
+use Rattle.identity.specs.declared.Mce.the-variants as mce
 use Rattle.identity.specs.declared.Tmgi.{Tmgi}
 use Rattle.identity.specs.declared.Session.{Session}
 use Rattle.identity.specs.declared.Session.the-variants as session
 use Rattle.identity.specs.declared.Item.{Item}
-use Rattle.identity.specs.Items.{emptyItem}
 use Rattle.values.specs.declared.Cause.{Cause}
 use Rattle.values.specs.Written.{tmgiOctets, GoodCause}
 use Rattle.items.specs.Items.{part}
-use Rattle.items.specs.Written.{reject, itemsOctets, resetOctets, GoodItems}
-use Rattle.put_values.proofs.Put.{list-small}
+use Rattle.items.specs.Written.{reject, resetOctets, GoodItems}
 use Rattle.rows.specs.declared.Kind.the-variants as kind
 use Rattle.rows.specs.declared.Row.{Row}
-use Rattle.tables.specs.declared.Message.{Message}
-use Rattle.tables.specs.declared.Message.the-variants as message
-use Rattle.tables.specs.declared.Named.the-variants as named
-use Rattle.tables.specs.Tables.{tableOf}
-use Rattle.messages.specs.Verdict.{readOf}
-use Rattle.said.specs.Value as value
-use Rattle.said.specs.Value.{Given, given, absent, octetsOf, hasOctets}
-use Rattle.said.specs.Said.{messageOf, givenSession}
-use Rattle.said.specs.Octets.{messageOctets}
-use Rattle.said.specs.Ranges.{InRange}
-use Rattle.said.specs.Written.{isWritten}
-use Rattle.ties.specs.Ties.{ReadAs}
-use Rattle.ties.proofs.Back.{message-back}
-use Rattle.ties.proofs.ValueAgain.{counted-good}
-use Rattle.judge.specs.Judge.{judgedOf}
-use Rattle.demands.specs.Words.{PartialReset, Starts, Stops, resetMessage}
-use Rattle.demands.proofs.Taken.{Takes, Taken, taken-none, taken-more, takes-value, takes-absent, message-size}
-use Rattle.demands.proofs.Written.{takes-mme, takes-mce, takes-cause}
-use Rattle.demands.proofs.Bodies.{says-reset, says-start, says-stop}
-use Rattle.demands.proofs.Verdicts.{read-filled, judged-as-read}
-use Rattle.demands.proofs.Acknowledges.{said-listed}
+use Rattle.editions.specs.declared.Message.the-variants as message
+use Rattle.editions.specs.declared.Edition.{Edition}
+use Rattle.editions.specs.declared.Edition.the-variants.{Release18}
+use Rattle.editions.specs.Ids.{id-MME-MBMS-M3AP-ID, id-MCE-MBMS-M3AP-ID, id-TMGI, id-MBMS-Session-ID, id-MBMS-E-RAB-QoS-Parameters, id-MBMS-Session-Duration, id-MBMS-Service-Area, id-TNL-Information, id-Cause, id-ResetType, id-MinimumTimeToMBMSDataTransfer}
+use Rattle.editions.specs.Editions.{release18, tableOf}
+use Rattle.meaning.specs.Value as value
+use Rattle.meaning.specs.Value.{given, Said}
+use Rattle.meaning.specs.Written.{octetsOf, hasOctets, messageOctets}
+use Rattle.meaning.specs.Ranges.{InRange}
+use Rattle.round_trips.specs.Ties.{ReadAs}
+use Rattle.round_trips.proofs.ValueAgain.{counted-good}
+use Rattle.layout.specs.Record.{listsOf}
+use Rattle.requests.specs.declared.MaybeTmgi.the-variants as tmgi
+use Rattle.requests.specs.declared.MaybeReset.the-variants as reset
+use Rattle.requests.specs.declared.Request.the-variants as request
+use Rattle.requests.specs.Requests.{seen, requestOf, asks}
+use Rattle.replies.specs.Replies.{Element, _is_, valueOf, saying}
+use Rattle.calls.specs.Call.{judged}
+use Rattle.demands.specs.Words.{Accepts, PartialReset, Starts, Stops, resetMessage}
 use Rattle.demands.proofs.AllOctets.{all-none, all-more}
-use Rattle.demands.proofs.MessageOctets.{message-octets, given-cause, given-part, given-mme, given-mce, given-tmgi, given-session, given-carried}
+use Rattle.demands.proofs.Taken.{Takes, Taken, taken-none, taken-more, takes-value, takes-absent, taken-back}
+use Rattle.demands.proofs.Written.{items-size, takes-mme, takes-mce, takes-cause}
+use Rattle.demands.proofs.Seen.{Asking, asking}
+use Rattle.demands.proofs.Verdicts.{judged-as-read}
+use Rattle.demands.proofs.MessageOctets.{AllElement, message-octets, value-cause, value-part, value-mme, value-mce, value-tmgi, value-session, value-carried}
 
--- values that suit the rows, in few octets, are read back
-taken-back : (m : Message) (vs : List Given) (n : ℕ) → Taken (tableOf m) vs n → n ≤ 8184 → ReadAs (messageOctets m vs) (record { message = named.Is m; values = vs })
-taken-back m vs n g b =
-    let s = message-size m vs in
-    let k = g .size in
-    let e : isWritten m vs ≡ true = rw (g .good) (le-leb (length (messageOctets m vs)) 8192 (omega arith)) in
-    message-back m vs (g .range) e
+-- what is read back and asks is judged so
+asked-so : (e : Edition) (os : List ℕ) (w : Said) → ReadAs e os w → asks (w .message) ≡ true → Accepts (judged e os) (λ r. Asking r w)
+asked-so e os w b a =
+    let k = asking os (b .what .what) w (b .said) in
+    record { what = b .what; read = judged-as-read e asks os (b .what) (ap asks (k .message) ∙ a) (b .read); accepted = b .accepted; so = k }
 
 -- ---- partial resets
 
-module _ (k : Cause) (is : List Item) (g : GoodCause k) where
-  pub reset-octets : Octets (resetMessage k is)
-  reset-octets = message-octets message.Reset (given (value.cause k) ∷ given (value.reset (part is)) ∷ []) (given-cause k g, (given-part is, tt))
+abbrev resetElements : Cause → List Item → List Element
+resetElements k items = id-Cause is value.cause k ∷ id-ResetType is value.reset (part items) ∷ []
 
-  reset-back : GoodItems is → ReadAs (resetMessage k is) (record { message = named.Is message.Reset; values = given (value.cause k) ∷ given (value.reset (part is)) ∷ [] })
-  unfolding tableOf hasOctets octetsOf resetOctets
-  reset-back h =
-      let b = h .1 in
-      let n : length (itemsOctets reject is) ≤ 2305 = rw (take-fill emptyItem 256 is) at (list-small reject (fill emptyItem 256 is) (length is) (length-fill emptyItem 256 is b)) in
-      taken-back message.Reset _ 2317
-      (taken-more (takes-cause k refl g)
-      (taken-more (takes-value (value.reset (part is)) 2306 refl (h .2) (counted-good (length is) (h .0) b) (omega arith)) taken-none)) (omega arith)
+reset-suits : (e : Edition) (k : Cause) (items : List Item) → GoodCause k → GoodItems items → Taken (tableOf e message.Reset) (saying e message.Reset (resetElements k items) .values) 2317
+unfolding release18 valueOf hasOctets octetsOf resetOctets
+reset-suits Release18 k items g h =
+    let n = items-size reject items (h .1) in
+    taken-more (takes-cause k refl g)
+    (taken-more (takes-value (value.reset (part items)) 2306 refl (h .2) (counted-good (length items) (h .0) (h .1)) (omega arith)) taken-none)
 
-  pub reset-carries : GoodItems is → PartialReset (judgedOf (resetMessage k is) .verdict) is
+reset-asks : (e : Edition) (k : Cause) (items : List Item)
+    → (requestOf message.Reset (seen (saying e message.Reset (resetElements k items) .values)) ≡ request.Reset reset.Part) × (listsOf (saying e message.Reset (resetElements k items) .values) .items ≡ items)
+unfolding release18 valueOf seen listsOf
+reset-asks Release18 k items = (refl, refl)
+
+module _ (e : Edition) (k : Cause) (items : List Item) (g : GoodCause k) where
+  pub reset-octets : Octets (resetMessage e k items)
+  reset-octets = message-octets (resetElements k items) (value-cause k g, (value-part items, tt)) e message.Reset
+
+  pub reset-carries : GoodItems items → PartialReset (judged e (resetMessage e k items)) items
   reset-carries h =
-      let b = reset-back h in
-      let os : List ℕ = resetMessage k is in
-      let x = says-reset (readOf os .message) os is _ (b .said) in
-      let j = judged-as-read os message.Reset refl (ap messageOf (x .body)) in
-      rw j (record { accepted = b .accepted; cause = x .cause; body = x .body; items = said-listed (readOf os .message .items) (read-filled os) is (h .1) (x .items) })
+      let w : Said = saying e message.Reset (resetElements k items) in
+      let a = asked-so e (resetMessage e k items) w (taken-back e w 2317 (reset-suits e k items g h) (omega arith)) refl in
+      let q = reset-asks e k items in
+      record { what = a .what; read = a .read; accepted = a .accepted; so = (a .so .request ∙ q .0, a .so .items ∙ q .1) }
 
 -- ---- starts
 
@@ -87,76 +91,95 @@ abbrev pub GoodSession : Session → Type 0
 GoodSession (session.Is v) = v < 256
 GoodSession session.Absent = Unit
 
-takes-session : {r : Row} (e : Session) → kind.Session ≡ r .kind → r .mandatory ≡ false → GoodSession e → Takes r (givenSession e) 6
+abbrev sessionIf : Session → List Element
+sessionIf (session.Is v) = id-MBMS-Session-ID is value.session v ∷ []
+sessionIf session.Absent = []
+
+takes-session : {r : Row} (v : ℕ) → kind.Session ≡ r .kind → v < 256 → Takes r (given (value.session v)) 6
 unfolding hasOctets octetsOf
-takes-session (session.Is v) k n g = takes-value (value.session v) 1 k g refl (let l = length-number 1 v in omega arith)
-takes-session session.Absent k n g = takes-absent 6 n
+takes-session v k g = takes-value (value.session v) 1 k g refl (let l = length-number 1 v in omega arith)
 
 takes-carried : {r : Row} → kind.Carried ≡ r .kind → Takes r (given (value.carried (0 ∷ []))) 6
 unfolding hasOctets octetsOf
 takes-carried k = takes-value (value.carried (0 ∷ [])) 1 k (all-more (omega arith) all-none .octets) refl (omega arith)
 
-module _ (m : MmeId) (t : Tmgi) (e : Session) where
+takes-tmgi : {r : Row} (t : Tmgi) → kind.Tmgi ≡ r .kind → InRange (value.tmgi t) → Takes r (given (value.tmgi t)) 12
+unfolding hasOctets octetsOf tmgiOctets
+takes-tmgi t k h = takes-value (value.tmgi t) 7 k h refl (omega arith)
+
+module _ (m : MmeId) (t : Tmgi) where
   -- with one octet for each mandatory element that is carried
-  abbrev startValues : List Given
-  startValues =
-      given (value.mme m)
-      ∷ given (value.tmgi t)
-      ∷ givenSession e
-      ∷ given (value.carried (0 ∷ []))
-      ∷ given (value.carried (0 ∷ []))
-      ∷ given (value.carried (0 ∷ []))
-      ∷ given (value.carried (0 ∷ []))
-      ∷ given (value.carried (0 ∷ [])) ∷ absent ∷ absent ∷ absent ∷ absent ∷ []
+  abbrev startElements : Session → List Element
+  startElements v =
+      id-MME-MBMS-M3AP-ID is value.mme m
+      ∷ id-TMGI is value.tmgi t
+      ∷ id-MBMS-E-RAB-QoS-Parameters is value.carried (0 ∷ [])
+      ∷ id-MBMS-Session-Duration is value.carried (0 ∷ [])
+      ∷ id-MBMS-Service-Area is value.carried (0 ∷ [])
+      ∷ id-MinimumTimeToMBMSDataTransfer is value.carried (0 ∷ [])
+      ∷ id-TNL-Information is value.carried (0 ∷ []) ∷ sessionIf v
 
+  start-suits : (e : Edition) (v : Session) → m .0 < 65536 → InRange (value.tmgi t) → GoodSession v
+      → Taken (tableOf e message.StartRequest) (saying e message.StartRequest (startElements v) .values) 55
+  unfolding release18 valueOf
+  start-suits Release18 (session.Is v) g h f =
+      taken-more (takes-mme m refl g) (taken-more (takes-tmgi t refl h) (taken-more (takes-session v refl f)
+      (taken-more (takes-carried refl) (taken-more (takes-carried refl) (taken-more (takes-carried refl) (taken-more (takes-carried refl) (taken-more (takes-carried refl)
+      (taken-more (takes-absent 0 refl) (taken-more (takes-absent 0 refl) (taken-more (takes-absent 0 refl) (taken-more (takes-absent 0 refl) taken-none)))))))))))
+  start-suits Release18 session.Absent g h f =
+      taken-more (takes-mme m refl g) (taken-more (takes-tmgi t refl h) (taken-more (takes-absent 6 refl)
+      (taken-more (takes-carried refl) (taken-more (takes-carried refl) (taken-more (takes-carried refl) (taken-more (takes-carried refl) (taken-more (takes-carried refl)
+      (taken-more (takes-absent 0 refl) (taken-more (takes-absent 0 refl) (taken-more (takes-absent 0 refl) (taken-more (takes-absent 0 refl) taken-none)))))))))))
+
+  start-asks : (e : Edition) (v : Session)
+      → requestOf message.StartRequest (seen (saying e message.StartRequest (startElements v) .values)) ≡ request.Start (mme.Is m) (tmgi.Is t) v
+  unfolding release18 valueOf seen
+  start-asks Release18 (session.Is v) = refl
+  start-asks Release18 session.Absent = refl
+
+  all-session : (v : Session) → Each AllElement (sessionIf v)
+  all-session (session.Is v) = (value-session v, tt)
+  all-session session.Absent = tt
+
+module _ (e : Edition) (m : MmeId) (t : Tmgi) (v : Session) where
   abbrev pub startMessage : List ℕ
-  startMessage = messageOctets message.StartRequest startValues
+  startMessage = messageOctets e (saying e message.StartRequest (startElements m t v))
 
-  module _ (g : m .0 < 65536) (h : InRange (value.tmgi t)) (f : GoodSession e) where
+  module _ (g : m .0 < 65536) (h : InRange (value.tmgi t)) (f : GoodSession v) where
     pub start-octets : Octets startMessage
     start-octets =
-        let c = given-carried 0 (omega arith) in
-        message-octets message.StartRequest startValues
-        (given-mme m, (given-tmgi t h, (given-session e, (c, (c, (c, (c, (c, (tt, (tt, (tt, (tt, tt))))))))))))
+        let c = value-carried 0 (omega arith) in
+        message-octets (startElements m t v) (value-mme m, (value-tmgi t h, (c, (c, (c, (c, (c, all-session m t v))))))) e message.StartRequest
 
-    start-back : ReadAs startMessage (record { message = named.Is message.StartRequest; values = startValues })
-    unfolding tableOf hasOctets octetsOf tmgiOctets
-    start-back =
-        taken-back message.StartRequest startValues 55
-        (taken-more (takes-mme m refl g) (taken-more (takes-value (value.tmgi t) 7 refl h refl (omega arith)) (taken-more (takes-session e refl refl f)
-        (taken-more (takes-carried refl) (taken-more (takes-carried refl) (taken-more (takes-carried refl) (taken-more (takes-carried refl) (taken-more (takes-carried refl)
-        (taken-more (takes-absent 0 refl) (taken-more (takes-absent 0 refl) (taken-more (takes-absent 0 refl) (taken-more (takes-absent 0 refl) taken-none)))))))))))) (omega arith)
-
-    pub start-carries : Starts (judgedOf startMessage .verdict) m t e
+    pub start-carries : Starts (judged e startMessage) m t v
     start-carries =
-        let b = start-back in
-        let x = says-start (readOf startMessage .message) startMessage m t e _ (b .said) in
-        let j = judged-as-read startMessage message.StartRequest refl (ap messageOf (x .1)) in
-        rw j (record { accepted = b .accepted; carried = x .0; body = x .1 })
+        let w : Said = saying e message.StartRequest (startElements m t v) in
+        let a = asked-so e startMessage w (taken-back e w 55 (start-suits m t e v g h f) (omega arith)) refl in
+        record { what = a .what; read = a .read; accepted = a .accepted; so = a .so .request ∙ start-asks m t e v }
 
 -- ---- stops
 
 module _ (m : MmeId) (c : MceId) where
-  abbrev stopValues : List Given
-  stopValues = given (value.mme m) ∷ given (value.mce c) ∷ absent ∷ []
+  abbrev stopElements : List Element
+  stopElements = id-MME-MBMS-M3AP-ID is value.mme m ∷ id-MCE-MBMS-M3AP-ID is value.mce c ∷ []
 
+  stop-suits : (e : Edition) → m .0 < 65536 → c .0 < 65536 → Taken (tableOf e message.StopRequest) (saying e message.StopRequest stopElements .values) 14
+  unfolding release18 valueOf
+  stop-suits Release18 g h = taken-more (takes-mme m refl g) (taken-more (takes-mce c refl h) (taken-more (takes-absent 0 refl) taken-none))
+
+  stop-asks : (e : Edition) → requestOf message.StopRequest (seen (saying e message.StopRequest stopElements .values)) ≡ request.Stop (mme.Is m) (mce.Is c)
+  unfolding release18 valueOf seen
+  stop-asks Release18 = refl
+
+module _ (e : Edition) (m : MmeId) (c : MceId) where
   abbrev pub stopMessage : List ℕ
-  stopMessage = messageOctets message.StopRequest stopValues
+  stopMessage = messageOctets e (saying e message.StopRequest (stopElements m c))
 
   pub stop-octets : Octets stopMessage
-  stop-octets = message-octets message.StopRequest stopValues (given-mme m, (given-mce c, (tt, tt)))
+  stop-octets = message-octets (stopElements m c) (value-mme m, (value-mce c, tt)) e message.StopRequest
 
-  module _ (g : m .0 < 65536) (h : c .0 < 65536) where
-    stop-back : ReadAs stopMessage (record { message = named.Is message.StopRequest; values = stopValues })
-    unfolding tableOf hasOctets octetsOf
-    stop-back =
-        taken-back message.StopRequest stopValues 14
-        (taken-more (takes-mme m refl g) (taken-more (takes-mce c refl h) (taken-more (takes-absent 0 refl) taken-none)))
-        (omega arith)
-
-    pub stop-carries : Stops (judgedOf stopMessage .verdict) m c
-    stop-carries =
-        let b = stop-back in
-        let x = says-stop (readOf stopMessage .message) stopMessage m c _ (b .said) in
-        let j = judged-as-read stopMessage message.StopRequest refl (ap messageOf (x .1)) in
-        rw j (record { accepted = b .accepted; time = x .0; body = x .1 })
+  pub stop-carries : m .0 < 65536 → c .0 < 65536 → Stops (judged e stopMessage) m c
+  stop-carries g h =
+      let w : Said = saying e message.StopRequest (stopElements m c) in
+      let a = asked-so e stopMessage w (taken-back e w 14 (stop-suits m c e g h) (omega arith)) refl in
+      record { what = a .what; read = a .read; accepted = a .accepted; so = a .so .request ∙ stop-asks m c e }

@@ -2,11 +2,11 @@
 -- Assumes nothing.
 use Prim.Native.Nat.{_<_}
 use mathlib.Core.Logic.{_⊎_, inl, inr}
-use mathlib.Core.Path.{_≡_, refl, sym, subst}
+use mathlib.Core.Path.{_≡_, refl}
 use mathlib.Core.Bool.{Bool, true, false}
 use mathlib.Core.List.{List, [], _∷_, List·Memᴰ, List·Memᴰ·append-cases, List·Memᴰ·eq-of-singleton, List·Memᴰ·not-nil}
 use native.Mathlib.Omega.{arith}
-use Rattle.lists.specs.Lists.{pick}
+use Rattle.lists.specs.Lists.{pick, keep}
 use Rattle.lists.proofs.Tests.{on-pick}
 use Rattle.lists.proofs.Keep.{mem-keep}
 use Rattle.identity.specs.declared.MmeId.{MmeId}
@@ -18,41 +18,29 @@ use Rattle.identity.specs.declared.Mce.the-variants as mce
 use Rattle.identity.specs.declared.Session.{Session}
 use Rattle.identity.specs.declared.Tmgi.{Tmgi}
 use Rattle.identity.specs.declared.Item.{Item}
-use Rattle.identity.specs.declared.Items.{Items}
-use Rattle.identity.specs.Items.{listed}
 use Rattle.values.specs.declared.Cause.{Cause}
 use Rattle.values.specs.Written.{GoodCause}
-use Rattle.entries.specs.declared.Entry.{Entry}
-use Rattle.entries.specs.declared.Entries.{Entries}
-use Rattle.entries.specs.Entries.{entriesOf}
-use Rattle.tables.specs.declared.Message.{Message}
-use Rattle.row_values.specs.declared.MaybeTmgi.the-variants as tmgi
-use Rattle.row_values.specs.declared.MaybeReset.the-variants as reset
-use Rattle.records.specs.declared.Record.{Record}
-use Rattle.records.specs.Records.{noRecord}
-use Rattle.frames.specs.declared.Frame.{Frame}
-use Rattle.opened.specs.declared.Outcome.{Outcome}
-use Rattle.opened.specs.declared.Outcome.the-variants as outcome
-use Rattle.said.specs.Value.{Given}
+use Rattle.editions.specs.declared.Edition.{Edition}
+use Rattle.verdicts.specs.declared.Outcome.{Outcome}
+use Rattle.verdicts.specs.declared.Outcome.the-variants as outcome
+use Rattle.verdicts.specs.Verdict.{Verdict, refused, understood, Understood}
 use Rattle.table.specs.declared.Association.{Association}
 use Rattle.table.specs.declared.Standing.{Standing}
 use Rattle.table.specs.Table.{State, without, full, starting, stopping, holdsMme, holdsMce, holdsPair, standing, distinctHeld}
 use Rattle.table.proofs.Rules.{always}
 use Rattle.lent.specs.Lent.{InRange, Good}
-use Rattle.replies.specs.declared.Reply.{Reply}
-use Rattle.replies.specs.declared.Reply.the-variants as reply
-use Rattle.replies.specs.Replies.{abstractSyntax, falselyConstructed, bodyOf, replied}
-use Rattle.judge.specs.Judge.{Judged}
+use Rattle.replies.specs.Replies.{abstractSyntax, falselyConstructed, hasIdentity, Replied, replied}
+use Rattle.requests.specs.declared.MaybeTmgi.the-variants as tmgi
+use Rattle.requests.specs.declared.MaybeReset.the-variants as reset
 use Rattle.requests.specs.declared.Request.{Request}
 use Rattle.requests.specs.declared.Request.the-variants as request
-use Rattle.requests.specs.Requests.{requestOf}
+use Rattle.requests.specs.Requests.{requestIn, itemsIn}
 use Rattle.carry.specs.declared.Change.{Change}
 use Rattle.carry.specs.declared.Change.the-variants as change
 use Rattle.carry.specs.declared.Decision.{Decision}
 use Rattle.carry.specs.Carry.{rejection, started, stopped, carriedOut, decision, asked}
-use Rattle.unit.specs.Decided.{Decided, keeps, changes, changed, applied, decided}
-use Rattle.demands.proofs.Taken.{Written}
-use Rattle.demands.proofs.Written.{GoodEntries, GoodFrame, GoodMme, GoodMce, GoodList, start-response-written, stop-response-written, start-failure-written, whole-written, part-written, rejection-written, pair-not-held-written}
+use Rattle.calls.specs.Decided.{Decided, keeps, changes, changed, decided}
+use Rattle.demands.proofs.Written.{GoodReply, Spoken, spoken}
 use Rattle.demands.proofs.Sound.{GoodRequest, Sound}
 
 -- ---- what a table can hold, after the rules
@@ -74,12 +62,12 @@ module _ (l : State) (g : Good l) where
       let f = g .few in
       record { few = omega arith; apart = always .stop-apart m c l (g .apart); each = λ a k. g .each a (mem-keep _ l .0 k .0) }
 
-  pub without-good : (is : List Item) → Good (without is l)
+  pub without-good : (items : List Item) → Good (without items l)
   unfolding without
-  without-good is =
-      let n = always .reset-size is l in
+  without-good items =
+      let n = always .reset-size items l in
       let f = g .few in
-      record { few = omega arith; apart = always .reset-apart is l (g .apart); each = λ a k. g .each a (mem-keep _ l .0 k .0) }
+      record { few = omega arith; apart = always .reset-apart items l (g .apart); each = λ a k. g .each a (mem-keep _ l .0 k .0) }
 
   pub starting-good : (a : Association) → InRange a → holdsMme (a .mme) l ≡ false → holdsMce (a .mce) l ≡ false → Good (starting a l)
   unfolding starting
@@ -93,36 +81,6 @@ module _ (l : State) (g : Good l) where
       one x (inl m) = g .each x m
       one x (inr m) = rw (List·Memᴰ·eq-of-singleton m) r
 
--- ---- replies
-
--- no record, or one that is written
-pub data Spoken (r : Record) : Type 0 where
-  nothing : r ≡ noRecord → Spoken r
-  says : (m : Message) (vs : List Given) → Written r m vs → Spoken r
-
--- what a reply says of its own is in range
-abbrev GoodReply : Reply → Type 0
-GoodReply reply.None = Unit
-GoodReply (reply.StartResponse m c) = (m .0 < 65536) × (c .0 < 65536)
-GoodReply (reply.StartFailure m why) = (m .0 < 65536) × GoodCause why
-GoodReply (reply.StopResponse m c) = (m .0 < 65536) × (c .0 < 65536)
-GoodReply reply.Acknowledge = Unit
-GoodReply reply.AcknowledgeItems = Unit
-GoodReply (reply.Rejection x y why) = GoodMme x × GoodMce y × GoodCause why
-GoodReply (reply.PairNotHeld m c) = (m .0 < 65536) × (c .0 < 65536)
-
-module _ (f : Frame) (u : GoodFrame f) (items : Items) (i : GoodList items) (es : List Entry) (n : GoodEntries es) where
-  spoken : (r : Reply) → GoodReply r → Spoken (replied f items (entriesOf es) r)
-  unfolding replied bodyOf
-  spoken reply.None g = nothing refl
-  spoken (reply.StartResponse m c) g = says _ _ (start-response-written f items es n m c (g .0) (g .1))
-  spoken (reply.StartFailure m why) g = says _ _ (start-failure-written f items es n m why (g .0) (g .1))
-  spoken (reply.StopResponse m c) g = says _ _ (stop-response-written f items es n m c (g .0) (g .1))
-  spoken reply.Acknowledge g = says _ _ (whole-written f items es n)
-  spoken reply.AcknowledgeItems g = says _ _ (part-written f items es n i)
-  spoken (reply.Rejection x y why) g = says _ _ (rejection-written f items es n x y why u (g .0) (g .1) (g .2))
-  spoken (reply.PairNotHeld m c) g = says _ _ (pair-not-held-written f items es n m c u (g .0) (g .1))
-
 -- ---- the rules
 
 rejection-good : (q : Request) (why : Cause) → GoodRequest q → GoodCause why → GoodReply (rejection q why)
@@ -135,9 +93,9 @@ rejection-good request.Indication why g k = tt
 rejection-good request.None why g k = tt
 
 -- what is decided: a reply, and what the table then holds
-abbrev pub Sure : Decided → Type 0
-Sure (keeps a r) = Spoken r
-Sure (changes l r) = Spoken r × Good l
+abbrev pub Sure : Edition → Decided → Type 0
+Sure e (keeps a r) = Spoken e r
+Sure e (changes l r) = Spoken e r × Good l
 
 module _ (l : State) (t : Good l) where
   -- only a start asks for something
@@ -151,12 +109,12 @@ module _ (l : State) (t : Good l) where
   abbrev GoodDecision : Decision → Type 0
   GoodDecision d = GoodReply (d .reply) × GoodChange (d .change)
 
-  changed-sure : (items : Items) {r : Record} → Spoken r → (x : Change) → GoodChange x → Sure (changed l items r x)
-  changed-sure items s (change.Stays a) g = s
-  changed-sure items s (change.Starts a) g = (s, g)
-  changed-sure items s (change.Stops m c) g = (s, stopping-good l t m c)
-  changed-sure items s change.Empties g = (s, none-good)
-  changed-sure items s change.Resets g = (s, without-good l t (listed items))
+  changed-sure : (e : Edition) (items : List Item) (r : Replied) → Spoken e r → (x : Change) → GoodChange x → Sure e (changed l items r x)
+  changed-sure e items r s (change.Stays a) g = s
+  changed-sure e items r s (change.Starts a) g = (s, g)
+  changed-sure e items r s (change.Stops m c) g = (s, stopping-good l t m c)
+  changed-sure e items r s change.Empties g = (s, none-good)
+  changed-sure e items r s change.Resets g = (s, without-good l t items)
 
   -- of a message that asks about two identities
   abbrev about : Mme → Mce → Standing
@@ -189,19 +147,15 @@ module _ (l : State) (t : Good l) where
 
     ruled-good : (q : Request) (x : Outcome) → GoodRequest q → GoodDecision (decision (standing (asked c q) l) c q x)
     ruled-good q outcome.Accepted g = carried-good q g
-    ruled-good q outcome.TooLong g = (tt, tt)
-    ruled-good q (outcome.Stopped x) g = (tt, tt)
-    ruled-good q outcome.NotAmong g = (tt, tt)
     ruled-good q (outcome.Misplaced k) g = (rejection-good q falselyConstructed g (omega arith), tt)
     ruled-good q outcome.Rejected g = (rejection-good q abstractSyntax g (omega arith), tt)
 
-pub decided-sure : (l : State) (c : MceId) (j : Judged) → Good l → c .0 < 65536 → Sound j → Sure (decided l c j)
+pub decided-sure : (e : Edition) (l : State) (c : MceId) (v : Verdict) → Good l → c .0 < 65536 → ((u : Understood) → v ≡ understood u → Sound u) → Sure e (decided e l c v)
 unfolding decided
-decided-sure l c j t o s =
-    let v = s .verdict in
-    let r = j .verdict .message in
-    let q : Request = requestOf (r .body) in
-    let d : Decision = decision (standing (asked c q) l) c q (j .verdict .outcome) in
-    let g = ruled-good l t c o q (j .verdict .outcome) (v .body) in
-    subst (λ (a : Entries). Sure (applied l (j .frame) (r .items) a d)) (sym (v .noted))
-    (changed-sure l t (r .items) (spoken (j .frame) (s .frame) (r .items) (v .items) (v .list) (v .entries) (d .reply) (g .0)) (d .change) (g .1))
+decided-sure e l c (refused x) t o s = tt
+decided-sure e l c (understood u) t o s =
+    let z = s u refl in
+    let q : Request = requestIn (u .what) in
+    let d : Decision = decision (standing (asked c q) l) c q (u .outcome) in
+    let g = ruled-good l t c o q (u .outcome) (z .request) in
+    changed-sure l t e (itemsIn (u .what)) (replied e (u .frame) (keep hasIdentity (itemsIn (u .what))) (u .noted) (d .reply)) (spoken e (u .frame) (z .frame) (itemsIn (u .what)) (z .items .list) (u .noted) (z .noted) (d .reply) (g .0)) (d .change) (g .1)

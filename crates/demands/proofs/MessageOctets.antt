@@ -2,10 +2,12 @@
 -- Assumes nothing.
 use Prim.Native.Nat.{ℕ, _-_, _<_}
 use mathlib.Core.Bool.{Bool, true, false}
-use mathlib.Core.List.{List, [], _∷_, _++_}
+use mathlib.Core.List.{List, [], _∷_, _++_, map}
 use native.Mathlib.Omega.{arith}
 use native.Mathlib.Nat.{lt-of-lt-of-le}
+use lib.Dec.{eqb}
 use lib.ListN.{length}
+use Rattle.lists.proofs.Tests.{on-pick}
 use Rattle.octets.specs.Stands.{Octets}
 use Rattle.packed.specs.Packed.{Field, _bits_, bit, packed, Fit}
 use Rattle.octets.specs.Write.{lengthOctets}
@@ -13,8 +15,6 @@ use Rattle.octets.specs.Many.{Each}
 use Rattle.identity.specs.declared.MmeId.{MmeId}
 use Rattle.identity.specs.declared.MceId.{MceId}
 use Rattle.identity.specs.declared.Tmgi.{Tmgi}
-use Rattle.identity.specs.declared.Session.{Session}
-use Rattle.identity.specs.declared.Session.the-variants as session
 use Rattle.identity.specs.declared.Item.{Item}
 use Rattle.values.specs.declared.Cause.{Cause}
 use Rattle.values.specs.Values.{bitsOfRoot}
@@ -26,24 +26,25 @@ use Rattle.item.specs.declared.Maybe.the-variants as maybe
 use Rattle.items.specs.Items.{part}
 use Rattle.items.specs.Written.{mmeIn, mceIn, isThere, maybeOctets, itemOctets, itemElementOctets, itemsOctets, reject, resetOctets}
 use Rattle.rows.specs.declared.Row.{Row}
-use Rattle.tables.specs.declared.Code.{Code}
-use Rattle.tables.specs.declared.Message.{Message}
-use Rattle.tables.specs.declared.Message.the-variants as message
-use Rattle.tables.specs.Tables.{tableOf, codeOf}
-use Rattle.said.specs.Value as value
-use Rattle.said.specs.Value.{Given, given, absent, octetsOf}
-use Rattle.said.specs.Octets.{envelopeOctets, elementsOctets, present, insideOctets, frameOctets, messageOctets}
-use Rattle.said.specs.Said.{givenSession}
-use Rattle.said.specs.Ranges.{InRange}
-use Rattle.ties.proofs.Placed.{Fits, table-lawful}
+use Rattle.editions.specs.declared.Message.{Message}
+use Rattle.editions.specs.declared.Code.{Code}
+use Rattle.editions.specs.declared.Edition.{Edition}
+use Rattle.editions.specs.Editions.{tableOf, codeOf}
+use Rattle.meaning.specs.Value as value
+use Rattle.meaning.specs.Value.{Value, Given, given, absent}
+use Rattle.meaning.specs.Written.{octetsOf, elementOctets, elementsOctets, howMany, insideOctets, frameOctets, messageOctets}
+use Rattle.meaning.specs.Ranges.{InRange}
+use Rattle.editions.proofs.Tables.{Fits, rows-fit}
+use Rattle.editions.proofs.Names.{bounds}
+use Rattle.replies.specs.Replies.{Element, valueOf, saying}
 use Rattle.demands.proofs.AllOctets.{All, all-none, all-more, all-join, all-number, all-packed, all-length, all-each}
 
 -- a criticality in two bits, a length, and as many octets
 all-crit : (crit : ℕ) {os : List ℕ} → crit < 4 → All os → All (packed (2 bits crit ∷ []) ∷ (lengthOctets (length os) ++ os))
 all-crit crit {os} h o = all-packed (2 bits crit ∷ []) (omega arith, h, tt) (all-join (all-length (length os)) o)
 
-all-envelope : (r : Row) {os : List ℕ} → r .crit < 4 → All os → All (envelopeOctets r os)
-all-envelope r h o = all-join (all-number 2 (r .id)) (all-crit (r .crit) h o)
+all-value : (r : Row) (v : Value (List ℕ)) → r .crit < 4 → All (octetsOf v) → All (elementOctets r (given v))
+all-value r v h o = all-join (all-number 2 (r .id)) (all-crit (r .crit) h o)
 
 all-frame : (c : Code) {os : List ℕ} → c .kind < 4 → c .code < 256 → c .crit < 4 → All os → All (frameOctets c os)
 all-frame c h k l o = all-packed (bit false ∷ 2 bits (c .kind) ∷ []) (omega arith, omega arith, (omega arith, h, tt)) (all-more k (all-crit (c .crit) l o))
@@ -88,66 +89,74 @@ all-reset is =
 
 -- ---- the message
 
-abbrev pub AllGiven : Given → Type 0
+abbrev AllGiven : Given (List ℕ) → Type 0
 AllGiven (given v) = All (octetsOf v)
 AllGiven absent = Unit
 
-all-elements : (t : List Row) (vs : List Given) → Each Fits t → Each AllGiven vs → All (elementsOctets t vs)
+all-elements : (t : List Row) (vs : List (Given (List ℕ))) → Each Fits t → Each AllGiven vs → All (elementsOctets t vs)
 unfolding elementsOctets
 all-elements [] vs f h = all-none
 all-elements (r ∷ t) [] f h = all-none
-all-elements (r ∷ t) (given v ∷ vs) f h = let c = f .0 .crit in all-join (all-envelope r (omega arith) (h .0)) (all-elements t vs (f .1) (h .1))
+all-elements (r ∷ t) (given v ∷ vs) f h = let c = f .0 .crit in all-join (all-value r v (omega arith) (h .0)) (all-elements t vs (f .1) (h .1))
 all-elements (r ∷ t) (absent ∷ vs) f h = all-elements t vs (f .1) (h .1)
 
-all-inside : (m : Message) (vs : List Given) → Each AllGiven vs → All (insideOctets (tableOf m) vs)
-unfolding insideOctets
-all-inside m vs h =
-    all-packed (bit false ∷ []) (omega arith, omega arith, tt) (all-join (all-number 2 (present vs)) (all-elements (tableOf m) vs (table-lawful m .rows) h))
+-- of elements whose values are octets
+abbrev pub AllElement : Element → Type 0
+AllElement x = All (octetsOf (x .value))
 
-code-small : (m : Message) → (codeOf m .kind < 4) × (codeOf m .code < 256) × (codeOf m .crit < 4)
-code-small message.StartRequest = (omega arith, omega arith, omega arith)
-code-small message.StartResponse = (omega arith, omega arith, omega arith)
-code-small message.StartFailure = (omega arith, omega arith, omega arith)
-code-small message.StopRequest = (omega arith, omega arith, omega arith)
-code-small message.StopResponse = (omega arith, omega arith, omega arith)
-code-small message.Reset = (omega arith, omega arith, omega arith)
-code-small message.ResetAcknowledge = (omega arith, omega arith, omega arith)
-code-small message.ErrorIndication = (omega arith, omega arith, omega arith)
+module _ (xs : List Element) (h : Each AllElement xs) where
+  all-of : (id : ℕ) → AllGiven (valueOf xs id)
+  unfolding valueOf
+  all-of id = by xs h
+    where
+      by : (ys : List Element) → Each AllElement ys → AllGiven (valueOf ys id)
+      by [] g = tt
+      by (y ∷ ys) g = on-pick AllGiven (eqb (y .id) id) (g .0) (by ys (g .1))
 
-pub message-octets : (m : Message) (vs : List Given) → Each AllGiven vs → Octets (messageOctets m vs)
-unfolding messageOctets
-message-octets m vs h = let c = code-small m in all-frame (codeOf m) (c .0) (c .1) (c .2) (all-inside m vs h) .octets
+  all-rows : (t : List Row) → Each AllGiven (map (λ (r : Row). valueOf xs (r .id)) t)
+  all-rows [] = tt
+  all-rows (r ∷ t) = (all-of (r .id), all-rows t)
 
--- ---- given values
+  pub message-octets : (e : Edition) (m : Message) → Octets (messageOctets e (saying e m xs))
+  unfolding messageOctets insideOctets
+  message-octets e m =
+      let c = bounds e m in
+      let k = c .kind in
+      let l = c .crit in
+      let vs : List (Given (List ℕ)) = saying e m xs .values in
+      let inside : All (insideOctets (tableOf e m) vs) =
+      all-packed (bit false ∷ []) (omega arith, omega arith, tt) (all-join (all-number 2 (howMany vs)) (all-elements (tableOf e m) vs (rows-fit e m) (all-rows (tableOf e m)))) in
+      all-frame (codeOf e m) (omega arith) (c .code) (omega arith) inside .octets
 
-pub given-cause : (k : Cause) → GoodCause k → AllGiven (given (value.cause k))
+-- ---- values
+
+pub value-cause : (k : Cause) → GoodCause k → All (octetsOf (value.cause k))
 unfolding octetsOf
-given-cause k g = all-cause k g
+value-cause k g = all-cause k g
 
-pub given-part : (is : List Item) → AllGiven (given (value.reset (part is)))
+pub value-part : (items : List Item) → All (octetsOf (value.reset (part items)))
 unfolding octetsOf
-given-part is = all-reset is
+value-part items = all-reset items
 
-pub given-mme : (m : MmeId) → AllGiven (given (value.mme m))
+pub value-mme : (m : MmeId) → All (octetsOf (value.mme m))
 unfolding octetsOf
-given-mme m = all-number 2 (m .0)
+value-mme m = all-number 2 (m .0)
 
-pub given-mce : (c : MceId) → AllGiven (given (value.mce c))
+pub value-mce : (c : MceId) → All (octetsOf (value.mce c))
 unfolding octetsOf
-given-mce c = all-number 2 (c .0)
+value-mce c = all-number 2 (c .0)
 
-pub given-tmgi : (t : Tmgi) → InRange (value.tmgi t) → AllGiven (given (value.tmgi t))
+pub value-tmgi : (t : Tmgi) → InRange (value.tmgi t) → All (octetsOf (value.tmgi t))
 unfolding octetsOf tmgiOctets
-given-tmgi t g =
+value-tmgi t g =
     all-packed (bit false ∷ []) (omega arith, omega arith, tt)
     (all-more (g .0) (all-more (g .1) (all-more (g .2) (all-more (g .3) (all-more (g .4) (all-more (g .5) all-none))))))
 
-pub given-session : (e : Session) → AllGiven (givenSession e)
+pub value-session : (v : ℕ) → All (octetsOf (value.session v))
 unfolding octetsOf
-given-session (session.Is v) = all-number 1 v
-given-session session.Absent = tt
+value-session v = all-number 1 v
 
 -- one octet that is carried
-pub given-carried : (v : ℕ) → v < 256 → AllGiven (given (value.carried (v ∷ [])))
+pub value-carried : (v : ℕ) → v < 256 → All (octetsOf (value.carried (v ∷ [])))
 unfolding octetsOf
-given-carried v h = all-more h all-none
+value-carried v h = all-more h all-none

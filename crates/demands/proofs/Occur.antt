@@ -8,13 +8,13 @@ use native.Mathlib.Omega.{arith}
 use borrow.Author.Tests.{ltb-true, lt-ltb, le-leb, lt-leb, not-false}
 use lib.Dec.{ltb}
 use lib.ListN.{length}
+use Rattle.packed.specs.Packed.{bitsOf, packedIn}
 use Rattle.lists.specs.Lists.{some}
 use Rattle.lists.proofs.Tests.{or-left, or-right}
-use Rattle.octets.specs.Read.{_>>=_, cutShort, noMeaning, leftOver, extended}
-use Rattle.packed.specs.Packed.{bitsOf, packedIn}
-use Rattle.octets.specs.Field.{flagAt, plainAt, choiceAt, padAt, numberAt, stringAt, longLengthAt, lengthAt, openAt, endsAt}
-use Rattle.octets.specs.Write.{numberOctets, lengthOctets}
 use Rattle.octets.specs.Stands.{Octets}
+use Rattle.octets.specs.Read.{_>>=_, cutShort, noMeaning, leftOver, extended}
+use Rattle.octets.specs.Field.{flagAt, plainAt, choiceAt, padAt, numberAt, stringAt, openAt, lengthAt, longLengthAt, endsAt}
+use Rattle.octets.specs.Write.{numberOctets, lengthOctets}
 use Rattle.identity.specs.declared.MceId.{MceId}
 use Rattle.values.specs.Values.{mmeAt, mceAt, tmgiAt}
 use Rattle.items.specs.Items.{resetAt}
@@ -23,59 +23,56 @@ use Rattle.rows.specs.Table.{find}
 use Rattle.envelopes.specs.Envelope.{criticalityAt, envelopeAt, scanAt, headsAt}
 use Rattle.elements.specs.Judge as elements
 use Rattle.elements.specs.Judge.{front, readInto, unknownOf, missingOf, elementsAt}
-use Rattle.tables.specs.Tables.{tableOf, namedBy}
-use Rattle.records.specs.declared.Record.{Record}
-use Rattle.row_values.specs.Values.{mmeIn, mceIn, tmgiIn, resetIn}
-use Rattle.identity.specs.Items.{noItems}
-use Rattle.records.specs.Records.{recordOf}
-use Rattle.entries.specs.Entries.{noEntries}
+use Rattle.editions.specs.declared.Edition.{Edition}
+use Rattle.editions.specs.declared.Edition.the-variants.{Release18}
+use Rattle.editions.specs.Editions.{release18, firstOf, namedBy}
 use Rattle.frames.specs.Frame.{kindAt, frameAt, countAt}
-use Rattle.opened.specs.declared.Outcome.the-variants as outcome
-use Rattle.opened.specs.Opened.{openedAt}
-use Rattle.messages.specs.Verdict.{without, insideOf}
-use Rattle.said.specs.Said.{saidBy}
-use Rattle.said.specs.Octets.{elementsOctets, present, insideOctets, messageOctets}
-use Rattle.said.specs.Written.{elementsGood, encoded}
+use Rattle.meaning.specs.Reading.{readAs, valueIn, valuesIn}
+use Rattle.meaning.specs.Written.{elementsOctets, howMany, insideOctets, messageOctets, elementsGood, encoded}
+use Rattle.verdicts.specs.declared.Refusal.the-variants as refusal
+use Rattle.verdicts.specs.Verdict.{openedAt, Verdict, refused, readOf}
+use Rattle.layout.specs.Record.{listsOf}
 use Rattle.table.specs.declared.Association.{Association}
 use Rattle.table.specs.Table.{State, full, holdsMme, holdsMce, distinctHeld}
 use Rattle.lent.specs.Lent.{rowsOctets, tableOctets, rowsOf, same, Lent, Held, NoTable, readTable, InRange, Good}
 use Rattle.lent.proofs.OneForm.{one-form}
-use Rattle.replies.specs.declared.Reply.the-variants as reply
-use Rattle.replies.specs.Replies.{listOnly, bodyOf, withIdentity, replied}
-use Rattle.judge.specs.Judge.{Judged, noFrame, judgedBy, judgedOf}
+use Rattle.requests.specs.Requests.{seen, asks}
+use Rattle.replies.specs.Replies.{valueOf, listOnly, Replied, silent, says, replied, replyOctets}
 use Rattle.carry.specs.declared.Answer.{Answer}
 use Rattle.carry.specs.declared.Answer.the-variants as answer
 use Rattle.carry.specs.Carry.{started, stopped}
-use Rattle.unit.specs.Decided.{Decided, keeps, changes, decided}
 use Rattle.answers.specs.Answers.{numbered}
-use Rattle.unit.specs.Unit.{Back, replyOctets, replyOf, answerOf, fits, settled, onTable, call}
+use Rattle.calls.specs.Decided.{Decided, keeps, changes, decided}
+use Rattle.calls.specs.Call.{Back, replyOf, answerOf, fits, settled, onTable, call, judged}
 use Rattle.demands.specs.Occur.{offer, Gives, pair, many, start, stop, whole, error, numberOf, EveryAnswer}
-use Rattle.demands.proofs.Settle.{no-record, none-said}
-use Rattle.demands.proofs.Sound.{judged-sound}
-use Rattle.demands.proofs.Decisions.{none-good, Spoken, nothing, says, Sure, decided-sure}
+use Rattle.demands.proofs.Settle.{none-said}
+use Rattle.demands.proofs.Written.{Spoken}
+use Rattle.demands.proofs.Sound.{read-sound}
+use Rattle.demands.proofs.Decisions.{none-good, Sure, decided-sure}
 use Rattle.demands.proofs.TableOut.{call-on}
 
 -- ---- a room of 3,200 octets is enough
 
-reply-small : (r : Record) → Spoken r → length (replyOctets r) ≤ 3200
-reply-small r (nothing e) = rw (e, none-said) (omega arith)
-reply-small r (says m vs w) = w .size
-
-decided-small : (x : Decided) → Sure x → length (replyOf x) ≤ 3200
-decided-small (keeps a r) s = reply-small r s
-decided-small (changes l r) s = reply-small r (s .0)
-
 abbrev number : Decided → ℕ
 number x = numbered (answerOf x) .number
 
-pub with-room : (l : State) (s : List ℕ) (o : MceId) (d : List ℕ) → Good l → Octets s → o .0 < 65536 → 3200 ≤ length d
-    → numbered (call (tableOctets l) (record { message = s; offered = o; room = d }) .answer) .number ≡ number (decided l o (judgedOf s))
-unfolding settled
-with-room l s o d g m w h =
-    let x : Decided = decided l o (judgedOf s) in
-    let k = decided-small x (decided-sure l o (judgedOf s) g w (judged-sound s m)) in
-    let f : fits d x ≡ true = le-leb (length (replyOf x)) (length d) (omega arith) in
-    ap (λ (b : Back). numbered (b .answer) .number) (call-on (tableOctets l) (record { message = s; offered = o; room = d }) l (one-form .back l g)) ∙ rw f
+module _ (e : Edition) where
+  reply-small : (r : Replied) → Spoken e r → length (replyOctets e r) ≤ 3200
+  reply-small silent s = rw (none-said e) (omega arith)
+  reply-small (says w) s = s .size
+
+  decided-small : (x : Decided) → Sure e x → length (replyOf e x) ≤ 3200
+  decided-small (keeps a r) s = reply-small r s
+  decided-small (changes l r) s = reply-small r (s .0)
+
+  pub with-room : (l : State) (s : List ℕ) (o : MceId) (d : List ℕ) → Good l → Octets s → o .0 < 65536 → 3200 ≤ length d
+      → numbered (call e (tableOctets l) (record { message = s; offered = o; room = d }) .answer) .number ≡ number (decided e l o (judged e s))
+  unfolding settled
+  with-room l s o d g m w h =
+      let x : Decided = decided e l o (judged e s) in
+      let k = decided-small x (decided-sure e l o (judged e s) g w (read-sound e s m asks)) in
+      let f : fits e d x ≡ true = le-leb (length (replyOf e x)) (length d) (omega arith) in
+      ap (λ (b : Back). numbered (b .answer) .number) (call-on e (tableOctets l) (record { message = s; offered = o; room = d }) l (one-form .back l g)) ∙ rw f
 
 -- ---- octets, by a test
 
@@ -84,8 +81,8 @@ octets-by [] e i = omega arith
 octets-by (x ∷ s) e zero = ltb-true x 256 (not-false (ltb x 256) (or-left (not (ltb x 256)) (some (λ (y : ℕ). not (ltb y 256)) s) e))
 octets-by (x ∷ s) e (suc i) = octets-by s (or-right (not (ltb x 256)) (some (λ (y : ℕ). not (ltb y 256)) s) e) i
 
-gives : (l : State) (s : List ℕ) {n : ℕ} → Good l → some (λ (x : ℕ). not (ltb x 256)) s ≡ false → number (decided l offer (judgedOf s)) ≡ n → Gives l s n
-gives l s g m e d h = with-room l s offer d g (octets-by s m) (omega arith) h ∙ e
+gives : (l : State) (s : List ℕ) {n : ℕ} → Good l → some (λ (x : ℕ). not (ltb x 256)) s ≡ false → number (decided Release18 l offer (judged Release18 s)) ≡ n → Gives l s n
+gives l s g m e d h = with-room Release18 l s offer d g (octets-by s m) (omega arith) h ∙ e
 
 pub one-good : (m c : ℕ) → m < 65536 → c < 65536 → Good (pair m c ∷ [])
 unfolding distinctHeld
@@ -102,30 +99,30 @@ unfolding many distinctHeld
 many-good = record { few = omega arith; apart = refl; each = many-range 256 (omega arith) }
 
 -- a decision without a reply is settled in any room
-silent-number : (t d : List ℕ) (a : Answer) → numbered (settled t d (keeps a (replied noFrame noItems noEntries reply.None)) .answer) .number ≡ numbered a .number
+silent-number : (t d : List ℕ) (a : Answer) → numbered (settled Release18 t d (keeps a silent) .answer) .number ≡ numbered a .number
 unfolding settled
-silent-number t d a = rw (no-record noFrame noItems noEntries, le-leb 0 (length d) (omega arith))
+silent-number t d a = rw (none-said Release18, le-leb 0 (length d) (omega arith))
 
 long-number : (t s d : List ℕ) (l : State) → readTable t ≡ Held l → 8192 < length s → numberOf t s d ≡ 1
-unfolding decided judgedOf
+unfolding decided readOf
 long-number t s d l q h =
-    let e : judgedOf s ≡ judgedBy noFrame (without outcome.TooLong) = rw (lt-ltb 8192 (length s) h) in
-    ap (λ (b : Back). numbered (b .answer) .number) (call-on t (record { message = s; offered = offer; room = d }) l q)
-    ∙ (ap (λ (j : Judged). numbered (settled t d (decided l offer j) .answer) .number) e ∙ silent-number t d answer.TooLong)
+    let e : judged Release18 s ≡ refused refusal.TooLong = rw (lt-ltb 8192 (length s) h) in
+    ap (λ (b : Back). numbered (b .answer) .number) (call-on Release18 t (record { message = s; offered = offer; room = d }) l q)
+    ∙ (ap (λ (v : Verdict). numbered (settled Release18 t d (decided Release18 l offer v) .answer) .number) e ∙ silent-number t d answer.TooLong)
 
 none-number : (t s d : List ℕ) → readTable t ≡ NoTable → numberOf t s d ≡ 21
 unfolding call
-none-number t s d q = ap (λ (x : Lent). numbered (onTable t (record { message = s; offered = offer; room = d }) x .answer) .number) q
+none-number t s d q = ap (λ (x : Lent). numbered (onTable Release18 t (record { message = s; offered = offer; room = d }) x .answer) .number) q
 
-pub room-number : (s : List ℕ) {n : ℕ} → length (replyOf (decided [] offer (judgedOf s))) ≡ n → (d : List ℕ) → length d < n → numberOf (tableOctets []) s d ≡ 10
+pub room-number : (s : List ℕ) {n : ℕ} → length (replyOf Release18 (decided Release18 [] offer (judged Release18 s))) ≡ n → (d : List ℕ) → length d < n → numberOf (tableOctets []) s d ≡ 10
 unfolding settled
 room-number s k d h =
-    let f : fits d (decided [] offer (judgedOf s)) ≡ false = lt-leb _ (length d) (omega arith) in
-    ap (λ (b : Back). numbered (b .answer) .number) (call-on (tableOctets []) (record { message = s; offered = offer; room = d }) [] (one-form .back [] none-good)) ∙ rw f
+    let f : fits Release18 d (decided Release18 [] offer (judged Release18 s)) ≡ false = lt-leb _ (length d) (omega arith) in
+    ap (λ (b : Back). numbered (b .answer) .number) (call-on Release18 (tableOctets []) (record { message = s; offered = offer; room = d }) [] (one-form .back [] none-good)) ∙ rw f
 
 -- the rest is computed
 pub every-answer : EveryAnswer
-unfolding many decided started stopped full judgedOf frameAt kindAt countAt openedAt insideOf elementsAt elements.judgedOf elements.noted front find readInto unknownOf missingOf scanAt headsAt envelopeAt criticalityAt valueAt mmeAt mceAt tmgiAt resetAt recordOf mmeIn mceIn tmgiIn resetIn tableOf namedBy flagAt plainAt choiceAt padAt numberAt stringAt openAt lengthAt longLengthAt endsAt bitsOf cutShort noMeaning leftOver extended _>>=_ readTable same rowsOf rowsOctets numberOctets distinctHeld replyOctets saidBy encoded replied bodyOf withIdentity listOnly elementsGood elementsOctets messageOctets insideOctets present lengthOctets packedIn
+unfolding many decided started stopped full readOf frameAt kindAt countAt openedAt elementsAt elements.judgedOf front find readInto unknownOf missingOf scanAt headsAt envelopeAt criticalityAt valueAt mmeAt mceAt tmgiAt resetAt readAs valueIn valuesIn seen listsOf release18 firstOf namedBy flagAt plainAt choiceAt padAt numberAt stringAt openAt lengthAt longLengthAt endsAt bitsOf cutShort noMeaning leftOver extended _>>=_ readTable same rowsOf rowsOctets numberOctets distinctHeld replyOctets encoded replied listOnly valueOf elementsGood elementsOctets messageOctets insideOctets howMany lengthOctets packedIn
 every-answer = record {
   carried-out = gives [] start none-good refl refl;
   too-long = long-number;
@@ -143,5 +140,5 @@ every-answer = record {
   not-a-table = refl;
 }
   where
-    nine : (l : State) → length l ≡ 256 → holdsMme (record { 0 = 5 }) l ≡ false → holdsMce offer l ≡ false → number (decided l offer (judgedOf start)) ≡ 9
+    nine : (l : State) → length l ≡ 256 → holdsMme (record { 0 = 5 }) l ≡ false → holdsMce offer l ≡ false → number (decided Release18 l offer (judged Release18 start)) ≡ 9
     nine l n h k = rw (h, k, n)

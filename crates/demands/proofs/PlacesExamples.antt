@@ -10,6 +10,7 @@ use Rattle.identity.specs.declared.Mce.the-variants as mce
 use Rattle.identity.specs.declared.Session.the-variants as session
 use Rattle.identity.specs.declared.Item.{Item}
 use Rattle.items.specs.Written.{GoodItems}
+use Rattle.editions.specs.declared.Edition.the-variants.{Release18}
 use Rattle.table.specs.declared.Association.{Association}
 use Rattle.table.specs.Table.{State, named, without, distinctHeld}
 use Rattle.lent.specs.Lent.{rowOctets, tableOctets, InRange, Good}
@@ -58,11 +59,11 @@ lent = held-lent two good (in-two (λ (a : Association). Octets (rowOctets a)) (
 one-item : GoodItems items
 one-item = (omega arith, omega arith, ((omega arith, tt), tt))
 
-example-start : SomeNeighbours (tableOctets two) two (start (record { 0 = 3 }) (pair 3 13 .tmgi) session.Absent) items
+example-start : SomeNeighbours Release18 (tableOctets two) two (start (record { 0 = 3 }) (pair 3 13 .tmgi) session.Absent) items
 unfolding named
 example-start =
-    changing-places-is-real .starts (tableOctets two) two (pair 3 13) items lent (record { mme = omega arith; mce = omega arith }) (row-octets 3 13) (omega arith) refl refl one-item refl
+    changing-places-is-real Release18 .starts (tableOctets two) two (pair 3 13) items lent (record { mme = omega arith; mce = omega arith }) (row-octets 3 13) (omega arith) refl refl one-item refl
 
-example-stop : SomeNeighbours (tableOctets two) two (stop (record { 0 = 2 }) (record { 0 = 12 })) items
+example-stop : SomeNeighbours Release18 (tableOctets two) two (stop (record { 0 = 2 }) (record { 0 = 12 })) items
 unfolding named
-example-stop = changing-places-is-real .stops (tableOctets two) two (pair 2 12) items lent (List·Memᴰ·tail (List·Memᴰ·head refl)) one-item refl
+example-stop = changing-places-is-real Release18 .stops (tableOctets two) two (pair 2 12) items lent (List·Memᴰ·tail (List·Memᴰ·head refl)) one-item refl

@@ -8,6 +8,7 @@ use mathlib.Core.List.{List, [], _++_}
 use native.Mathlib.Omega.{arith}
 use borrow.Author.Tests.{leb-true}
 use lib.ListN.{length, drop}
+use Rattle.lists.specs.Lists.{keep}
 use Rattle.lists.proofs.Tests.{on-pick}
 use Rattle.octets.specs.declared.Stop.the-variants.{Fault, Extension}
 use Rattle.identity.specs.declared.MmeId.{MmeId}
@@ -16,32 +17,30 @@ use Rattle.identity.specs.declared.Mme.the-variants as mme
 use Rattle.identity.specs.declared.Mce.the-variants as mce
 use Rattle.identity.specs.declared.Session.{Session}
 use Rattle.identity.specs.declared.Tmgi.{Tmgi}
-use Rattle.identity.specs.declared.Items.{Items}
-use Rattle.entries.specs.declared.Entries.{Entries}
-use Rattle.row_values.specs.declared.MaybeTmgi.the-variants as tmgi
-use Rattle.row_values.specs.declared.MaybeReset.the-variants as reset
-use Rattle.records.specs.Records.{noRecord}
+use Rattle.identity.specs.declared.Item.{Item}
+use Rattle.entries.specs.declared.Entry.{Entry}
+use Rattle.editions.specs.declared.Edition.{Edition}
 use Rattle.frames.specs.declared.Frame.{Frame}
-use Rattle.opened.specs.declared.Outcome.{Outcome}
-use Rattle.opened.specs.declared.Outcome.the-variants as outcome
-use Rattle.said.specs.Said.{saidBy}
-use Rattle.said.specs.Written.{encoded}
+use Rattle.verdicts.specs.declared.Outcome.{Outcome}
+use Rattle.verdicts.specs.declared.Outcome.the-variants as outcome
+use Rattle.verdicts.specs.Verdict.{Verdict, refused, understood}
 use Rattle.table.specs.declared.Standing.{Standing}
 use Rattle.table.specs.Table.{State, standing}
 use Rattle.lent.specs.Lent.{Lent, Held, NoTable, readTable}
 use Rattle.replies.specs.declared.Reply.the-variants as reply
-use Rattle.replies.specs.Replies.{bodyOf, replied}
-use Rattle.judge.specs.Judge.{Judged, judgedOf}
-use Rattle.carry.specs.declared.Answer.{Answer}
-use Rattle.carry.specs.declared.Answer.the-variants as answer
+use Rattle.replies.specs.Replies.{hasIdentity, silent, replied, replyOctets}
+use Rattle.requests.specs.declared.MaybeTmgi.the-variants as tmgi
+use Rattle.requests.specs.declared.MaybeReset.the-variants as reset
 use Rattle.requests.specs.declared.Request.{Request}
 use Rattle.requests.specs.declared.Request.the-variants as request
-use Rattle.requests.specs.Requests.{requestOf}
+use Rattle.requests.specs.Requests.{requestIn, itemsIn}
+use Rattle.carry.specs.declared.Answer.{Answer}
+use Rattle.carry.specs.declared.Answer.the-variants as answer
 use Rattle.carry.specs.declared.Decision.{Decision}
 use Rattle.carry.specs.Carry.{started, stopped, carriedOut, decision, asked}
-use Rattle.unit.specs.Decided.{Decided, keeps, changes, applied, decided}
 use Rattle.answers.specs.Answers.{numbered}
-use Rattle.unit.specs.Unit.{Call, Back, replyOctets, replyOf, answerOf, settledIf, fits, settled, onTable, call}
+use Rattle.calls.specs.Decided.{Decided, keeps, changes, applied, decided}
+use Rattle.calls.specs.Call.{Call, Back, replyOf, answerOf, settledIf, fits, settled, onTable, call, judged}
 use Rattle.demands.specs.Answered.{isAmong, numbers, silentNumbers, Answered}
 
 -- ---- answers
@@ -79,114 +78,112 @@ no-place answer.NoTable h k = refl
 abbrev number : Back → ℕ
 number b = numbered (b .answer) .number
 
-module _ (t d : List ℕ) where
-  refused-table : (b : Bool) (x : Decided) → (number (settledIf b t d x) ≡ 0 → ⊥) → settledIf b t d x .table ≡ t
-  refused-table true (keeps a r) h = refl
-  refused-table true (changes l r) h = absurd (h refl)
-  refused-table false x h = refl
+module _ (e : Edition) where
+  module _ (t d : List ℕ) where
+    refused-table : (b : Bool) (x : Decided) → (number (settledIf e b t d x) ≡ 0 → ⊥) → settledIf e b t d x .table ≡ t
+    refused-table true (keeps a r) h = refl
+    refused-table true (changes l r) h = absurd (h refl)
+    refused-table false x h = refl
 
-  reply-fits : (b : Bool) (x : Decided) → fits d x ≡ b → length (settledIf b t d x .reply) ≤ length d
-  reply-fits true x e = leb-true (length (replyOf x)) (length d) e
-  reply-fits false x e = omega arith
+    reply-fits : (b : Bool) (x : Decided) → fits e d x ≡ b → length (settledIf e b t d x .reply) ≤ length d
+    reply-fits true x q = leb-true (length (replyOf e x)) (length d) q
+    reply-fits false x q = omega arith
 
-  reply-front : (b : Bool) (x : Decided) → settledIf b t d x .room ≡ settledIf b t d x .reply ++ drop (length (settledIf b t d x .reply)) d
-  reply-front true x = refl
-  reply-front false x = refl
+    reply-front : (b : Bool) (x : Decided) → settledIf e b t d x .room ≡ settledIf e b t d x .reply ++ drop (length (settledIf e b t d x .reply)) d
+    reply-front true x = refl
+    reply-front false x = refl
 
-  no-reply : (b : Bool) (x : Decided) → (isAmong silentNumbers (numbered (answerOf x) .number) ≡ true → replyOf x ≡ [])
-      → isAmong silentNumbers (number (settledIf b t d x)) ≡ true → settledIf b t d x .reply ≡ []
-  no-reply true x h e = h e
-  no-reply false x h e = refl
+    no-reply : (b : Bool) (x : Decided) → (isAmong silentNumbers (numbered (answerOf x) .number) ≡ true → replyOf e x ≡ [])
+        → isAmong silentNumbers (number (settledIf e b t d x)) ≡ true → settledIf e b t d x .reply ≡ []
+    no-reply true x h q = h q
+    no-reply false x h q = refl
 
--- ---- decisions: an answer of those that never have a reply has none
+  -- ---- decisions: an answer of those that never have a reply has none
 
-abbrev Silent : Decided → Type 0
-Silent x = isAmong silentNumbers (numbered (answerOf x) .number) ≡ true → replyOf x ≡ []
+  abbrev Silent : Decided → Type 0
+  Silent x = isAmong silentNumbers (numbered (answerOf x) .number) ≡ true → replyOf e x ≡ []
 
-pub no-record : (f : Frame) (items : Items) (noted : Entries) → replyOctets (replied f items noted reply.None) ≡ []
-unfolding replyOctets encoded saidBy replied bodyOf
-no-record f items noted = refl
+  pub none-said : replyOctets e silent ≡ []
+  unfolding replyOctets
+  none-said = refl
 
-pub none-said : replyOctets noRecord ≡ []
-unfolding replyOctets encoded saidBy
-none-said = refl
+  pub no-record : (f : Frame) (kept : List Item) (noted : List Entry) → replied e f kept noted reply.None ≡ silent
+  unfolding replied
+  no-record f kept noted = refl
 
-module _ (l : State) (f : Frame) (items : Items) (noted : Entries) where
-  abbrev SilentBy : Decision → Type 0
-  SilentBy d = Silent (applied l f items noted d)
+  module _ (l : State) (f : Frame) (items : List Item) (noted : List Entry) where
+    abbrev SilentBy : Decision → Type 0
+    SilentBy d = Silent (applied e l f items noted d)
 
-  -- no reply
-  none : replyOctets (replied f items noted reply.None) ≡ []
-  none = no-record f items noted
+    -- no reply
+    none : replyOctets e (replied e f (keep hasIdentity items) noted reply.None) ≡ []
+    none = rw (no-record f (keep hasIdentity items) noted) none-said
 
-  module _ (k : Standing) (c : MceId) where
-    started-silent : (m : MmeId) (t : Tmgi) (s : Session) → SilentBy (started k c m t s)
-    unfolding started
-    started-silent m t s = on-pick SilentBy (k .mme) (λ e. cc) (on-pick SilentBy (k .mce) (λ e. none) (on-pick SilentBy (k .full) (λ e. cc) (λ e. cc)))
+    module _ (k : Standing) (c : MceId) where
+      started-silent : (m : MmeId) (t : Tmgi) (s : Session) → SilentBy (started k c m t s)
+      unfolding started
+      started-silent m t s = on-pick SilentBy (k .mme) (λ e. cc) (on-pick SilentBy (k .mce) (λ e. none) (on-pick SilentBy (k .full) (λ e. cc) (λ e. cc)))
 
-    stopped-silent : (m : MmeId) (x : MceId) → SilentBy (stopped k m x)
-    unfolding stopped
-    stopped-silent m x = on-pick SilentBy (k .pair) (λ e. cc) (λ e. cc)
+      stopped-silent : (m : MmeId) (x : MceId) → SilentBy (stopped k m x)
+      unfolding stopped
+      stopped-silent m x = on-pick SilentBy (k .pair) (λ e. cc) (λ e. cc)
 
-    carried-silent : (q : Request) → SilentBy (carriedOut k c q)
-    carried-silent (request.Start (mme.Is m) (tmgi.Is t) s) = started-silent m t s
-    carried-silent (request.Start (mme.Is m) tmgi.Absent s) = λ e. cc
-    carried-silent (request.Start mme.Absent t s) = λ e. cc
-    carried-silent (request.Stop (mme.Is m) (mce.Is x)) = stopped-silent m x
-    carried-silent (request.Stop (mme.Is m) mce.Absent) = λ e. cc
-    carried-silent (request.Stop mme.Absent y) = λ e. cc
-    carried-silent (request.Reset reset.Whole) = λ e. cc
-    carried-silent (request.Reset reset.Part) = λ e. cc
-    carried-silent (request.Reset reset.Absent) = λ e. cc
-    carried-silent request.Indication = λ e. none
-    carried-silent request.None = λ e. none
+      carried-silent : (q : Request) → SilentBy (carriedOut k c q)
+      carried-silent (request.Start (mme.Is m) (tmgi.Is t) s) = started-silent m t s
+      carried-silent (request.Start (mme.Is m) tmgi.Absent s) = λ e. cc
+      carried-silent (request.Start mme.Absent t s) = λ e. cc
+      carried-silent (request.Stop (mme.Is m) (mce.Is x)) = stopped-silent m x
+      carried-silent (request.Stop (mme.Is m) mce.Absent) = λ e. cc
+      carried-silent (request.Stop mme.Absent y) = λ e. cc
+      carried-silent (request.Reset reset.Whole) = λ e. cc
+      carried-silent (request.Reset reset.Part) = λ e. cc
+      carried-silent (request.Reset reset.Absent) = λ e. cc
+      carried-silent request.Indication = λ e. none
+      carried-silent request.None = λ e. none
 
-    ruled-silent : (q : Request) (o : Outcome) → SilentBy (decision k c q o)
-    ruled-silent q outcome.Accepted = carried-silent q
-    ruled-silent q outcome.TooLong = λ e. none
-    ruled-silent q (outcome.Stopped x) = λ e. none
-    ruled-silent q outcome.NotAmong = λ e. none
-    ruled-silent q (outcome.Misplaced p) = λ e. cc
-    ruled-silent q outcome.Rejected = λ e. cc
+      ruled-silent : (q : Request) (o : Outcome) → SilentBy (decision k c q o)
+      ruled-silent q outcome.Accepted = carried-silent q
+      ruled-silent q (outcome.Misplaced p) = λ e. cc
+      ruled-silent q outcome.Rejected = λ e. cc
 
-pub decided-silent : (l : State) (c : MceId) (j : Judged) → Silent (decided l c j)
-unfolding decided
-decided-silent l c j =
-    let v = j .verdict in
-    let q : Request = requestOf (v .message .body) in
-    ruled-silent l (j .frame) (v .message .items) (v .noted) (standing (asked c q) l) c q (v .outcome)
+  pub decided-silent : (l : State) (c : MceId) (v : Verdict) → Silent (decided e l c v)
+  unfolding decided
+  decided-silent l c (refused x) = λ q. none-said
+  decided-silent l c (understood u) =
+      let q : Request = requestIn (u .what) in
+      ruled-silent l (u .frame) (itemsIn (u .what)) (u .noted) (standing (asked c q) l) c q (u .outcome)
 
--- ---- the call
+  -- ---- the call
 
-module _ (t : List ℕ) (c : Call) where
-  record Left (b : Back) : Type 0 where
-    refused : (number b ≡ 0 → ⊥) → b .table ≡ t
-    fits : length (b .reply) ≤ length (c .room)
-    room : b .room ≡ b .reply ++ drop (length (b .reply)) (c .room)
-    silent : isAmong silentNumbers (number b) ≡ true → b .reply ≡ []
+  module _ (t : List ℕ) (c : Call) where
+    record Left (b : Back) : Type 0 where
+      refused : (number b ≡ 0 → ⊥) → b .table ≡ t
+      fits : length (b .reply) ≤ length (c .room)
+      room : b .room ≡ b .reply ++ drop (length (b .reply)) (c .room)
+      silent : isAmong silentNumbers (number b) ≡ true → b .reply ≡ []
 
-  left : (x : Lent) → Left (onTable t c x)
-  unfolding settled
-  left (Held l) =
-      let x : Decided = decided l (c .offered) (judgedOf (c .message)) in
-      let b : Bool = fits (c .room) x in
-      record {
-        refused = refused-table t (c .room) b x;
-        fits = reply-fits t (c .room) b x refl;
-        room = reply-front t (c .room) b x;
-        silent = no-reply t (c .room) b x (decided-silent l (c .offered) (judgedOf (c .message)));
-      }
-  left NoTable = record { refused = λ h. refl; fits = omega arith; room = refl; silent = λ e. refl }
+    left : (x : Lent) → Left (onTable e t c x)
+    unfolding settled
+    left (Held l) =
+        let x : Decided = decided e l (c .offered) (judged e (c .message)) in
+        let b : Bool = fits e (c .room) x in
+        record {
+          refused = refused-table t (c .room) b x;
+          fits = reply-fits t (c .room) b x refl;
+          room = reply-front t (c .room) b x;
+          silent = no-reply t (c .room) b x (decided-silent l (c .offered) (judged e (c .message)));
+        }
+    left NoTable = record { refused = λ h. refl; fits = omega arith; room = refl; silent = λ e. refl }
 
-  pub answered : Answered t c
-  unfolding call
-  answered =
-      let x = left (readTable t) in
-      record {
-        answer = listed (call t c .answer);
-        refused = x .refused;
-        fits = x .fits;
-        room = x .room;
-        silent = λ e. (x .silent e, x .room ∙ ap (λ (r : List ℕ). r ++ drop (length r) (c .room)) (x .silent e));
-        place = no-place (call t c .answer);
-      }
+    pub answered : Answered e t c
+    unfolding call
+    answered =
+        let x = left (readTable t) in
+        record {
+          answer = listed (call e t c .answer);
+          refused = x .refused;
+          fits = x .fits;
+          room = x .room;
+          silent = λ q. (x .silent q, x .room ∙ ap (λ (r : List ℕ). r ++ drop (length r) (c .room)) (x .silent q));
+          place = no-place (call e t c .answer);
+        }

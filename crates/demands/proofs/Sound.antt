@@ -1,14 +1,14 @@
--- What is judged of octets is in range: the frame's numbers, the identities, the items, and the entries of the list of diagnostics.
+-- What is understood of octets is in range: the frame's numbers, the values that the rules look at, and the entries that are noted.
 -- Assumes nothing.
-use Prim.Native.Nat.{ℕ, zero, suc, _+_, _^_, _<_, _≤_}
+use Prim.Native.Nat.{ℕ, zero, suc, _+_, _^_, _<_}
 use mathlib.Core.Path.{_≡_, refl, sym, subst}
+use mathlib.Core.Bool.{Bool}
 use mathlib.Core.List.{List, [], _∷_}
 use native.Mathlib.Omega.{arith}
 use lib.Dec.{ltb, eqb}
 use lib.ListN.{length, take, length-take}
 use Rattle.lists.proofs.Tests.{on-pick}
-use Rattle.lists.proofs.Fill.{take-fill}
-use Rattle.octets.specs.Read.{Read, got, stop}
+use Rattle.octets.specs.Read.{Read, got, stop, _>>=_}
 use Rattle.octets.specs.Field.{plainAt, choiceAt, padAt, numberAt, openAt, endsAt}
 use Rattle.octets.specs.Stands.{Octets}
 use Rattle.octets.specs.declared.Span.{Span}
@@ -18,49 +18,40 @@ use Rattle.octets.proofs.Got.{number-got, choice-got}
 use Rattle.octets.proofs.Again.{value-below}
 use Rattle.octets.proofs.Stood.{octets-front}
 use Rattle.octets.specs.Many.{Each}
-use Rattle.identity.specs.declared.MmeId.{MmeId}
-use Rattle.identity.specs.declared.MceId.{MceId}
-use Rattle.identity.specs.declared.Mme.the-variants as mme
-use Rattle.identity.specs.declared.Mce.the-variants as mce
-use Rattle.identity.specs.declared.Item.{Item}
-use Rattle.identity.specs.Items.{emptyItem, listed, itemsOf}
-use Rattle.values.specs.Values.{mmeAt, mceAt}
+use Rattle.values.specs.Values.{mmeAt, mceAt, tmgiAt, sessionAt, causeAt}
 use Rattle.values.proofs.Good.{mme-good, mce-good}
-use Rattle.items.specs.Items.{ResetType, whole, part, itemsAt, resetAt}
-use Rattle.items.specs.Written.{GoodItem, GoodReset}
+use Rattle.items.specs.Items.{itemsAt, resetAt}
 use Rattle.items.proofs.Good.{items-good, reset-good}
-use Rattle.entries.specs.declared.Entry.{Entry}
-use Rattle.entries.specs.Entries.{entriesOf}
+use Rattle.diagnostics.specs.Diagnostics.{diagnosticsAt}
 use Rattle.diagnostics.specs.Written.{GoodEntry}
+use Rattle.rows.specs.declared.Kind.{Kind}
+use Rattle.rows.specs.declared.Kind.the-variants as kind
 use Rattle.rows.specs.declared.Row.{Row}
-use Rattle.envelopes.specs.declared.Head.{Head}
 use Rattle.rows.specs.Table.{find, known}
-use Rattle.envelopes.specs.Envelope.{criticalityAt, envelopeAt, scanAt, onHead, headsAt}
+use Rattle.envelopes.specs.declared.Head.{Head}
+use Rattle.envelopes.specs.Envelope.{criticalityAt, envelopeAt, onHead, headsAt}
 use Rattle.elements.specs.Judge as elements
-use Rattle.elements.specs.Judge.{Found, front, ignored, unknownEntry, unknownOf, missingEntry, missingOf, elementsAt}
-use Rattle.tables.specs.declared.Message.{Message}
-use Rattle.tables.specs.declared.Message.the-variants as message
-use Rattle.tables.specs.declared.Named.{Named}
-use Rattle.tables.specs.declared.Named.the-variants as named
-use Rattle.tables.specs.Tables.{tableOf, namedBy}
-use Rattle.records.specs.declared.Body.{Body}
-use Rattle.row_values.specs.Values.{orElse, within, mmeIn, mceIn, resetOf, resetIn, listedBy, listIn}
-use Rattle.records.specs.Records.{rowIn, recordOf}
+use Rattle.elements.specs.Judge.{Found, front, ignored, unknownEntry, unknownOf, missingEntry, missingOf}
+use Rattle.editions.specs.declared.Message.{Message}
+use Rattle.editions.specs.declared.Edition.{Edition}
+use Rattle.editions.specs.Editions.{tableOf}
 use Rattle.frames.specs.declared.Frame.{Frame}
-use Rattle.opened.specs.declared.Outcome.{Outcome}
-use Rattle.opened.specs.declared.Outcome.the-variants as outcome
-use Rattle.messages.specs.declared.Verdict.{Verdict}
 use Rattle.frames.specs.Frame.{kindAt, frameAt}
-use Rattle.opened.specs.Opened.{insideBy}
-use Rattle.messages.specs.Verdict.{without, takenOver, insideOf}
-use Rattle.messages.proofs.InsideLaws.{inside-has}
-use Rattle.ties.proofs.Each.{each-append}
-use Rattle.judge.specs.Judge.{Judged, noFrame, verdictBy, judgedIn, judgedOf}
+use Rattle.meaning.specs.Value as value
+use Rattle.meaning.specs.Value.{Value}
+use Rattle.meaning.specs.Reading.{readAs, orAbsent, valueIn, valuesIn}
+use Rattle.verdicts.specs.Verdict.{Opening, Understood, understood, understoodBy, readOf}
+use Rattle.round_trips.proofs.Each.{each-append}
+use Rattle.editions.proofs.Tables.{Fits, rows-fit}
+use Rattle.round_trips.proofs.Accepted.{opened}
 use Rattle.requests.specs.declared.Request.{Request}
 use Rattle.requests.specs.declared.Request.the-variants as request
-use Rattle.requests.specs.Requests.{asks, requestOf}
-use Rattle.ties.proofs.Placed.{Fits, table-lawful}
-use Rattle.demands.proofs.Written.{GoodEntries, GoodFrame, GoodMme, GoodMce, GoodList}
+use Rattle.editions.specs.declared.Message.the-variants as message
+use Rattle.requests.specs.declared.Seen.{Seen}
+use Rattle.requests.specs.Requests.{requestOf, requestIn}
+use Rattle.demands.proofs.Written.{GoodEntries, GoodFrame, GoodMme, GoodMce}
+use Rattle.demands.proofs.Seen.{GoodValue, GoodGiven, GoodSeen, seen-good, GoodListed, listed-good}
+use Rattle.demands.proofs.Verdicts.{Judging, judging}
 
 -- ---- what is said
 
@@ -72,19 +63,11 @@ GoodRequest (request.Reset x) = Unit
 GoodRequest request.Indication = Unit
 GoodRequest request.None = Unit
 
-abbrev pub GoodBody : Body → Type 0
-GoodBody b = GoodRequest (requestOf b)
-
-pub record SoundVerdict (v : Verdict) : Type 0 where
-  pub body : GoodBody (v .message .body)
-  pub items : GoodList (v .message .items)
-  pub list : List Entry
-  pub noted : v .noted ≡ entriesOf list
-  pub entries : GoodEntries list
-
-pub record Sound (j : Judged) : Type 0 where
-  pub frame : GoodFrame (j .frame)
-  pub verdict : SoundVerdict (j .verdict)
+pub record Sound (u : Understood) : Type 0 where
+  pub frame : GoodFrame (u .frame)
+  pub request : GoodRequest (requestIn (u .what))
+  pub items : GoodListed (u .what .values)
+  pub noted : GoodEntries (u .noted)
 
 -- ---- each of a list
 
@@ -176,114 +159,84 @@ missing-good (r ∷ t) (v ∷ l) g =
     (on-pick (Each GoodEntry) (ignored (r .crit)) tt (record { crit = g .0 .crit; id = g .0 .id; error = omega arith }, tt)) tt))
     (missing-good t l (g .1))
 
-listed-good : (m : Message) (n : ℕ) (hs : List Head) → Each GoodHead hs → Each GoodEntry (elements.judgedOf (tableOf m) n hs .listed)
+listed-entries : (t : List Row) (n : ℕ) (hs : List Head) → Each Fits t → Each GoodHead hs → Each GoodEntry (elements.judgedOf t n hs .listed)
 unfolding elements.judgedOf
-listed-good m n hs g =
-    let t : List Row = tableOf m in
+listed-entries t n hs l g =
     let f : List Head = front t 0 hs in
     each-append GoodEntry (unknownOf t f) _ (unknown-good t f (front-each GoodHead t 0 hs g))
-    (on-pick (Each GoodEntry) (eqb (length f) n) (missing-good t (elements.readOf t f) (table-lawful m .rows)) tt)
+    (on-pick (Each GoodEntry) (eqb (length f) n) (missing-good t (elements.readOf t f) l) tt)
 
 -- ---- values of the record
 
-items-held : (is : List Item) → length is ≤ 256 → Each GoodItem is → GoodList (itemsOf is)
-items-held is b g = let e = take-fill emptyItem 256 is in record { few = rw e b; each = rw e g }
+-- what holds of each value that a reading gives holds of the value that was read
+pub of-read : {A : Type 0} (P : Value Span → Type 0) (put : A → Value Span) (r : Read A) {v : Value Span} → got v ≡ r >>= (λ x. got (put x)) → ((a : A) → got a ≡ r → P (put a)) → P v
+of-read P put r q h = let a = then-got r _ q in subst P (sym (same-got (a .2))) (h (a .0) (a .1))
 
-none-held : GoodList (itemsOf [])
-none-held = items-held [] (omega arith) tt
+module _ (s : List ℕ) (o : Octets s) where
+  module _ (p : Span) where
+    cut : Octets (take (p .to) s)
+    cut = octets-front s (p .to) o
 
-module _ (s : List ℕ) (o : Octets s) (v : Span) where
-  cut : Octets (take (v .to) s)
-  cut = octets-front s (v .to) o
+    read-good : (k : Kind) {v : Value Span} → got v ≡ readAs k s p → GoodValue v
+    unfolding readAs
+    read-good kind.Carried q = subst GoodValue (sym (same-got q)) tt
+    read-good kind.Mme q = of-read GoodValue value.mme (mmeAt (take (p .to) s) (p .from)) q (λ a h. mme-good (take (p .to) s) (p .from) cut h)
+    read-good kind.Mce q = of-read GoodValue value.mce (mceAt (take (p .to) s) (p .from)) q (λ a h. mce-good (take (p .to) s) (p .from) cut h)
+    read-good kind.Tmgi q = of-read GoodValue value.tmgi (tmgiAt (take (p .to) s) (p .from)) q (λ a h. tt)
+    read-good kind.Session q = of-read GoodValue value.session (sessionAt (take (p .to) s) (p .from)) q (λ a h. tt)
+    read-good kind.Cause q = of-read GoodValue value.cause (causeAt (take (p .to) s) (p .from)) q (λ a h. tt)
+    read-good kind.ResetType q = of-read GoodValue value.reset (resetAt (take (p .to) s) (p .from)) q (λ a h. reset-good (take (p .to) s) (p .from) cut h)
+    read-good kind.Acknowledged q = of-read GoodValue value.list (itemsAt (take (p .to) s) (p .from)) q (λ a h. items-good (take (p .to) s) (p .from) cut h)
+    read-good kind.Diagnostics q = of-read GoodValue value.diagnostics (diagnosticsAt (take (p .to) s) (p .from)) q (λ a h. tt)
 
-  mme-in : GoodMme (mmeIn s v)
-  unfolding mmeIn
-  mme-in = by (within mmeAt s v) refl
-    where
-      by : (r : Read MmeId) → r ≡ within mmeAt s v → GoodMme (orElse mme.Absent mme.Is r)
-      by (got m) q = mme-good (take (v .to) s) (v .from) cut q
-      by (stop x) q = tt
+    value-good : (k : Kind) → GoodGiven (valueIn k s p)
+    unfolding valueIn
+    value-good k = on-pick GoodGiven (present p) (by (readAs k s p) refl) tt
+      where
+        by : (r : Read (Value Span)) → r ≡ readAs k s p → GoodGiven (orAbsent r)
+        by (got v) q = read-good k q
+        by (stop x) q = tt
 
-  mce-in : GoodMce (mceIn s v)
-  unfolding mceIn
-  mce-in = by (within mceAt s v) refl
-    where
-      by : (r : Read MceId) → r ≡ within mceAt s v → GoodMce (orElse mce.Absent mce.Is r)
-      by (got c) q = mce-good (take (v .to) s) (v .from) cut q
-      by (stop x) q = tt
+  pub values-good : (t : List Row) (l : List Span) → Each GoodGiven (valuesIn t s l)
+  unfolding valuesIn
+  values-good [] l = tt
+  values-good (r ∷ t) [] = tt
+  values-good (r ∷ t) (p ∷ l) = (value-good p (r .kind), values-good t l)
 
-  reset-in : GoodList (resetIn s v .items)
-  unfolding resetIn
-  reset-in = by (within resetAt s v) refl
-    where
-      one : (x : ResetType) → GoodReset x → GoodList (resetOf (got x) .items)
-      one whole g = none-held
-      one (part is) g = items-held is (g .1) (g .2)
-
-      by : (r : Read ResetType) → r ≡ within resetAt s v → GoodList (resetOf r .items)
-      by (got x) q = one x (reset-good (take (v .to) s) (v .from) cut q)
-      by (stop x) q = none-held
-
-  list-in : GoodList (listIn s v .items)
-  unfolding listIn
-  list-in = by (within itemsAt s v) refl
-    where
-      by : (r : Read (List Item)) → r ≡ within itemsAt s v → GoodList (listedBy r .items)
-      by (got is) q = let g = items-good (take (v .to) s) (v .from) cut q in items-held is (g .1) (g .2)
-      by (stop x) q = none-held
-
-record-good : (s : List ℕ) → Octets s → (row : ℕ → Span) (crit : ℕ) (m : Message) → GoodBody (recordOf s row crit m .body) × GoodList (recordOf s row crit m .items)
-unfolding recordOf
-record-good s o row crit message.StartRequest = (mme-in s o (row 0), none-held)
-record-good s o row crit message.StartResponse = (tt, none-held)
-record-good s o row crit message.StartFailure = (tt, none-held)
-record-good s o row crit message.StopRequest = ((mme-in s o (row 0), mce-in s o (row 1)), none-held)
-record-good s o row crit message.StopResponse = (tt, none-held)
-record-good s o row crit message.Reset = (tt, reset-in s o (row 1))
-record-good s o row crit message.ResetAcknowledge = (tt, list-in s o (row 0))
-record-good s o row crit message.ErrorIndication = (tt, none-held)
+request-good : (m : Message) {x : Seen} → GoodSeen x → GoodRequest (requestOf m x)
+request-good message.StartRequest g = g .mme
+request-good message.StopRequest g = (g .mme, g .mce)
+request-good message.Reset g = tt
+request-good message.ErrorIndication g = tt
+request-good message.StartResponse g = tt
+request-good message.StartFailure g = tt
+request-good message.StopResponse g = tt
+request-good message.ResetAcknowledge g = tt
 
 -- ---- verdicts
 
--- what was found of the elements: they can be read, and were judged
-pub elements-got : (m : Message) (s : List ℕ) (n at : ℕ) {f : Found} → got f ≡ elementsAt (tableOf m) s n at → (got tt ≡ scanAt (tableOf m) s n at) × (elements.judgedOf (tableOf m) n (headsAt s n at) ≡ f)
-unfolding elementsAt
-elements-got m s n at q = let c = then-got (scanAt (tableOf m) s n at) _ q in (c .1, sym (same-got (c .2)))
-
-without-sound : (x : Outcome) → SoundVerdict (without x)
-without-sound x = record { body = tt; items = none-held; list = []; noted = refl; entries = record { few = omega arith; each = tt } }
-
-module _ (s : List ℕ) (o : Octets s) where
-  verdict-sound : (m : Message) (crit n at : ℕ) → SoundVerdict (takenOver m s crit (got (insideBy n (elements.judgedOf (tableOf m) n (headsAt s n at)))))
-  unfolding elements.noted
-  verdict-sound m crit n at =
-      let f : Found = elements.judgedOf (tableOf m) n (headsAt s n at) in
-      let r = record-good s o (rowIn (f .spans)) crit m in
+module _ (e : Edition) (s : List ℕ) (o : Octets s) where
+  noted-good : (m : Message) (from : ℕ) {x : Opening} → Judging (tableOf e m) s from x → GoodEntries (x .noted)
+  noted-good m from {x} j =
+      let t : List Row = tableOf e m in
+      let f : Found = elements.judgedOf t (j .count) (headsAt s (j .count) (from + 3)) in
       let l = length-take 256 (f .listed) in
+      subst (λ (y : Opening). GoodEntries (y .noted)) (j .is) (record {
+        few = omega arith;
+        each = each-take GoodEntry 256 (f .listed) (listed-entries t (j .count) (headsAt s (j .count) (from + 3)) (rows-fit e m) (heads-good s o (j .count) (from + 3)));
+      })
+
+  opened-sound : (m : Message) (f : Frame) (x : Opening) → GoodFrame f → Judging (tableOf e m) s (f .from) x → Sound (understoodBy (tableOf e m) m f s x)
+  opened-sound m f x g j =
+      let v = values-good s o (tableOf e m) (x .spans) in
       record {
-        body = r .0;
-        items = r .1;
-        list = take 256 (f .listed);
-        noted = refl;
-        entries = record { few = omega arith; each = each-take GoodEntry 256 (f .listed) (listed-good m n (headsAt s n at) (heads-good s o n at)) };
+        frame = g;
+        request = request-good m (seen-good (valuesIn (tableOf e m) s (x .spans)) v);
+        items = listed-good (valuesIn (tableOf e m) s (x .spans)) v;
+        noted = noted-good m (f .from) j;
       }
 
-  pub inside-sound : (m : Message) (from crit : ℕ) → SoundVerdict (insideOf m s from crit)
-  inside-sound m from crit =
-      inside-has m s from crit SoundVerdict (λ x q. without-sound (outcome.Stopped x)) (λ n f q.
-      subst (λ (y : Found). SoundVerdict (takenOver m s crit (got (insideBy n y)))) (elements-got m s n (from + 3) q .1) (verdict-sound m crit n (from + 3)))
-
-  by-sound : (f : Frame) (m : Named) → SoundVerdict (verdictBy s f m)
-  by-sound f (named.Is m) = on-pick SoundVerdict (asks m) (inside-sound m (f .from) (f .crit)) (without-sound outcome.NotAmong)
-  by-sound f named.Other = without-sound outcome.NotAmong
-
-  no-frame : GoodFrame noFrame
-  no-frame = record { kind = omega arith; code = omega arith; crit = omega arith }
-
-  in-sound : (r : Read Frame) → r ≡ frameAt s → Sound (judgedIn s r)
-  in-sound (got f) q = record { frame = frame-good s o q; verdict = by-sound f (namedBy (f .kind) (f .code)) }
-  in-sound (stop x) q = record { frame = no-frame; verdict = without-sound (outcome.Stopped x) }
-
-  pub judged-sound : Sound (judgedOf s)
-  unfolding judgedOf
-  judged-sound = on-pick Sound (ltb 8192 (length s)) (record { frame = no-frame; verdict = without-sound outcome.TooLong }) (in-sound (frameAt s) refl)
+  pub read-sound : (among : Message → Bool) (u : Understood) → readOf e among s ≡ understood u → Sound u
+  read-sound among u q =
+      let w = opened e among s u q in
+      subst Sound (w .is) (opened-sound (u .what .message) (u .frame) (w .opening) (frame-good s o (w .framed)) (judging (tableOf e (u .what .message)) s (u .frame .from) (w .read)))

@@ -13,11 +13,12 @@ use Rattle.table.specs.Table.{State}
 use Rattle.lent.specs.Lent.{Held, readTable, tableOctets}
 use Rattle.lent.proofs.Rows.{value-back}
 use Rattle.lent.proofs.OneForm.{one-form}
-use Rattle.judge.specs.Judge.{judgedOf}
-use Rattle.unit.specs.Decided.{Decided, keeps, changes, decided}
-use Rattle.unit.specs.Unit.{Call, Back, settledIf, fits, settled, onTable, call}
-use Rattle.demands.specs.Answered.{Handed, TableOut}
-use Rattle.demands.proofs.Sound.{judged-sound}
+use Rattle.editions.specs.declared.Edition.{Edition}
+use Rattle.requests.specs.Requests.{asks}
+use Rattle.calls.specs.Decided.{Decided, keeps, changes}
+use Rattle.calls.specs.Call.{Call, Back, settledIf, fits, settled, onTable, call, judged}
+use Rattle.demands.specs.Answered.{Handed, TableOut, decidedOn}
+use Rattle.demands.proofs.Sound.{read-sound}
 use Rattle.demands.proofs.Decisions.{Sure, decided-sure}
 
 -- the first two octets of a table say how many it holds
@@ -28,25 +29,26 @@ first-two s l q =
     let e : valueAt 2 (tableOctets l) 0 ≡ length l = value-back (length l) [] ∙ mod-eq-of-lt (omega arith) in
     subst (λ (x : List ℕ). valueAt 2 x 0 ≡ length l) (one-form .again s l q) e
 
--- what is decided about a message on a table in this state
-pub sure : (t : List ℕ) (c : Call) (l : State) → Handed t c → readTable t ≡ Held l → Sure (decided l (c .offered) (judgedOf (c .message)))
-sure t c l h q = decided-sure l (c .offered) (judgedOf (c .message)) (one-form .table t l q) (h .offered) (judged-sound (c .message) (h .message))
+module _ (e : Edition) where
+  -- what is decided about a message on a table in this state
+  pub sure : (t : List ℕ) (c : Call) (l : State) → Handed t c → readTable t ≡ Held l → Sure e (decidedOn e l c)
+  sure t c l h q = decided-sure e l (c .offered) (judged e (c .message)) (one-form .table t l q) (h .offered) (read-sound e (c .message) (h .message) asks)
 
--- a call on a table settles what is decided
-pub call-on : (t : List ℕ) (c : Call) (l : State) → readTable t ≡ Held l → call t c ≡ settled t (c .room) (decided l (c .offered) (judgedOf (c .message)))
-unfolding call
-call-on t c l q = ap (onTable t c) q
+  -- a call on a table settles what is decided
+  pub call-on : (t : List ℕ) (c : Call) (l : State) → readTable t ≡ Held l → call e t c ≡ settled e t (c .room) (decidedOn e l c)
+  unfolding call
+  call-on t c l q = ap (onTable e t c) q
 
-module _ (t : List ℕ) (l : State) (q : readTable t ≡ Held l) (d : List ℕ) where
-  settled-table : (b : Bool) (x : Decided) → Sure x → (k : State) × (readTable (settledIf b t d x .table) ≡ Held k)
-  settled-table true (keeps a r) s = (l, q)
-  settled-table true (changes k r) s = (k, one-form .back k (s .1))
-  settled-table false x s = (l, q)
+  module _ (t : List ℕ) (l : State) (q : readTable t ≡ Held l) (d : List ℕ) where
+    settled-table : (b : Bool) (x : Decided) → Sure e x → (k : State) × (readTable (settledIf e b t d x .table) ≡ Held k)
+    settled-table true (keeps a r) s = (l, q)
+    settled-table true (changes k r) s = (k, one-form .back k (s .1))
+    settled-table false x s = (l, q)
 
-pub table-out : (t : List ℕ) (c : Call) (l : State) → Handed t c → readTable t ≡ Held l → TableOut t c
-unfolding settled
-table-out t c l h q =
-    let x : Decided = decided l (c .offered) (judgedOf (c .message)) in
-    let k = settled-table t l q (c .room) (fits (c .room) x) x (sure t c l h q) in
-    let e : readTable (call t c .table) ≡ Held (k .0) = ap (λ (b : Back). readTable (b .table)) (call-on t c l q) ∙ k .1 in
-    record { state = k .0; held = e; count = first-two (call t c .table) (k .0) e }
+  pub table-out : (t : List ℕ) (c : Call) (l : State) → Handed t c → readTable t ≡ Held l → TableOut e t c
+  unfolding settled
+  table-out t c l h q =
+      let x : Decided = decidedOn e l c in
+      let k = settled-table t l q (c .room) (fits e (c .room) x) x (sure t c l h q) in
+      let z : readTable (call e t c .table) ≡ Held (k .0) = ap (λ (b : Back). readTable (b .table)) (call-on t c l q) ∙ k .1 in
+      record { state = k .0; held = z; count = first-two (call e t c .table) (k .0) z }

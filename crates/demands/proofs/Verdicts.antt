@@ -1,133 +1,94 @@
--- What holds of a message that was not read and of every one that was holds of each verdict; so a record's items are an array that a list fills,
--- and octets that are read as a request are judged as they are read.
+-- What is among those that are read is read the same whatever else is among them; and what a verdict with a record is made of.
 -- Assumes nothing.
-use Prim.Native.Nat.{ℕ}
-use mathlib.Core.Path.{_≡_, refl}
+use Prim.Native.Nat.{ℕ, _+_}
+use mathlib.Core.Path.{_≡_, _∙_, refl, sym, ap}
 use mathlib.Core.Bool.{Bool, true, false}
-use mathlib.Core.List.{List, []}
+use mathlib.Core.List.{List}
+use native.Mathlib.Omega.{arith}
 use lib.Dec.{ltb}
 use lib.ListN.{length}
 use Rattle.lists.specs.Lists.{pick}
-use Rattle.lists.proofs.Tests.{on-pick}
 use Rattle.octets.specs.Read.{Read, got, stop}
-use Rattle.octets.specs.declared.Span.{Span}
-use Rattle.identity.specs.declared.Item.{Item}
-use Rattle.identity.specs.declared.Items.{Items}
-use Rattle.identity.specs.Items.{itemsOf}
-use Rattle.items.specs.Items.{ResetType, whole, part, itemsAt, resetAt}
-use Rattle.elements.specs.Judge.{Found}
-use Rattle.tables.specs.declared.Message.{Message}
-use Rattle.tables.specs.declared.Message.the-variants as message
-use Rattle.tables.specs.declared.Named.{Named}
-use Rattle.tables.specs.declared.Named.the-variants as named
-use Rattle.tables.specs.Tables.{namedBy}
-use Rattle.row_values.specs.Values.{within, resetOf, resetIn, listedBy, listIn}
-use Rattle.records.specs.Records.{rowIn, recordOf}
+use Rattle.octets.proofs.Chain.{then-got, same-got}
+use Rattle.rows.specs.declared.Row.{Row}
+use Rattle.envelopes.specs.Envelope.{scanAt, headsAt}
+use Rattle.elements.specs.Judge as elements
+use Rattle.editions.specs.declared.Message.{Message}
+use Rattle.editions.specs.declared.Named.{Named}
+use Rattle.editions.specs.declared.Named.the-variants as named
+use Rattle.editions.specs.declared.Edition.{Edition}
+use Rattle.editions.specs.Editions.{tableOf, namedBy}
 use Rattle.frames.specs.declared.Frame.{Frame}
-use Rattle.opened.specs.declared.Outcome.{Outcome}
-use Rattle.opened.specs.declared.Outcome.the-variants as outcome
-use Rattle.messages.specs.declared.Verdict.{Verdict}
-use Rattle.frames.specs.Frame.{frameAt}
-use Rattle.opened.specs.Opened.{insideBy}
-use Rattle.messages.specs.Verdict.{without, takenOver, insideOf, ofEight, framed, readOf}
-use Rattle.messages.proofs.InsideLaws.{inside-has}
-use Rattle.requests.specs.Requests.{asks}
-use Rattle.judge.specs.Judge.{Judged, noFrame, judgedBy, verdictBy, judgedIn, judgedOf}
-use Rattle.said.specs.Said.{messageOf}
+use Rattle.frames.specs.Frame.{frameAt, countAt}
+use Rattle.verdicts.specs.declared.Refusal.{Refusal}
+use Rattle.verdicts.specs.declared.Refusal.the-variants as refusal
+use Rattle.verdicts.specs.Verdict.{Opening, openingBy, openedAt, Understood, refused, understood, understoodBy, verdictOf, every, ofThose, framed, readOf}
 
-module _ (P : Verdict → Type 0) (s : List ℕ) (none : (x : Outcome) → P (without x)) (one : (m : Message) (crit n : ℕ) (f : Found) → P (takenOver m s crit (got (insideBy n f)))) where
-  within-has : (m : Message) (from crit : ℕ) → P (insideOf m s from crit)
-  within-has m from crit = inside-has m s from crit P (λ x q. none (outcome.Stopped x)) (λ n f q. one m crit n f)
+-- ---- what passes the test
 
-  eight-has : (f : Frame) (m : Named) → P (ofEight s f m)
-  eight-has f (named.Is m) = within-has m (f .from) (f .crit)
-  eight-has f named.Other = none outcome.NotAmong
+not-refused : {B : Type 0} {x : Refusal} {u : Understood} → refused x ≡ understood u → B
+not-refused q = let z : _≡_ {A = ℕ} 0 1 = cc in absurd (omega arith)
 
-  asked-has : (f : Frame) (m : Named) → P (verdictBy s f m)
-  asked-has f (named.Is m) = on-pick P (asks m) (within-has m (f .from) (f .crit)) (none outcome.NotAmong)
-  asked-has f named.Other = none outcome.NotAmong
+-- what is understood is of the message that was opened
+opened-message : (t : List Row) (m : Message) (f : Frame) (s : List ℕ) (o : Read Opening) (u : Understood) → verdictOf t m f s o ≡ understood u → m ≡ u .what .message
+opened-message t m f s (got o) u q = let z : understoodBy t m f s o ≡ u = cc in ap (λ (x : Understood). x .what .message) z
+opened-message t m f s (stop x) u q = not-refused q
 
-  pub read-has : P (readOf s)
+module _ (e : Edition) (among : Message → Bool) (s : List ℕ) (u : Understood) (a : among (u .what .message) ≡ true) where
+  those-same : (f : Frame) (n : Named) → ofThose e every s f n ≡ understood u → ofThose e among s f n ≡ understood u
+  those-same f (named.Is m) q =
+      let z = opened-message (tableOf e m) m f s (openedAt (tableOf e m) s (f .from)) u q in
+      let b : among m ≡ true = ap among z ∙ a in
+      rw b q
+  those-same f named.Other q = not-refused q
+
+  framed-same : (r : Read Frame) → framed e every s r ≡ understood u → framed e among s r ≡ understood u
+  framed-same (got f) q = those-same f (namedBy e (f .kind) (f .code)) q
+  framed-same (stop x) q = not-refused q
+
+  pub judged-as-read : readOf e every s ≡ understood u → readOf e among s ≡ understood u
   unfolding readOf
-  read-has = on-pick P (ltb 8192 (length s)) (none outcome.TooLong) (by (frameAt s))
+  judged-as-read q = by (ltb 8192 (length s)) q
     where
-      by : (r : Read Frame) → P (framed s r)
-      by (got f) = eight-has f (namedBy (f .kind) (f .code))
-      by (stop x) = none (outcome.Stopped x)
+      by : (b : Bool) → pick b (refused refusal.TooLong) (framed e every s (frameAt s)) ≡ understood u → pick b (refused refusal.TooLong) (framed e among s (frameAt s)) ≡ understood u
+      by true q = not-refused q
+      by false q = framed-same (frameAt s) q
 
-  pub judged-has : P (judgedOf s .verdict)
-  unfolding judgedOf
-  judged-has = on-pick (λ (j : Judged). P (j .verdict)) (ltb 8192 (length s)) (none outcome.TooLong) (by (frameAt s))
+-- and only what passes is understood
+module _ (e : Edition) (among : Message → Bool) (s : List ℕ) (u : Understood) where
+  passed : (m : Message) (f : Frame) (b : Bool) → among m ≡ b
+      → pick b (verdictOf (tableOf e m) m f s (openedAt (tableOf e m) s (f .from))) (refused refusal.NotAmong) ≡ understood u → among (u .what .message) ≡ true
+  passed m f true a q = ap among (sym (opened-message (tableOf e m) m f s (openedAt (tableOf e m) s (f .from)) u q)) ∙ a
+  passed m f false a q = not-refused q
+
+  framed-passed : (r : Read Frame) → framed e among s r ≡ understood u → among (u .what .message) ≡ true
+  framed-passed (got f) q = by (namedBy e (f .kind) (f .code)) q
     where
-      by : (r : Read Frame) → P (judgedIn s r .verdict)
-      by (got f) = asked-has f (namedBy (f .kind) (f .code))
-      by (stop x) = none (outcome.Stopped x)
+      by : (n : Named) → ofThose e among s f n ≡ understood u → among (u .what .message) ≡ true
+      by (named.Is m) q = passed m f (among m) refl q
+      by named.Other q = not-refused q
+  framed-passed (stop x) q = not-refused q
 
--- ---- items
+  pub only-passed : readOf e among s ≡ understood u → among (u .what .message) ≡ true
+  unfolding readOf
+  only-passed q = by (ltb 8192 (length s)) q
+    where
+      by : (b : Bool) → pick b (refused refusal.TooLong) (framed e among s (frameAt s)) ≡ understood u → among (u .what .message) ≡ true
+      by true q = not-refused q
+      by false q = framed-passed (frameAt s) q
 
-abbrev pub Filled : Items → Type 0
-Filled a = (is : List Item) × (a ≡ itemsOf is)
+-- ---- the opening: elements that were scanned, and judged
 
-reset-filled : (s : List ℕ) (v : Span) → Filled (resetIn s v .items)
-unfolding resetIn
-reset-filled s v = by (within resetAt s v)
-  where
-    by : (r : Read ResetType) → Filled (resetOf r .items)
-    by (got whole) = ([], refl)
-    by (got (part is)) = (is, refl)
-    by (stop x) = ([], refl)
+pub record Judging (t : List Row) (s : List ℕ) (from : ℕ) (o : Opening) : Type 0 where
+  pub count : ℕ
+  pub scan : got tt ≡ scanAt t s count (from + 3)
+  pub is : openingBy count (elements.judgedOf t count (headsAt s count (from + 3))) ≡ o
 
-list-filled : (s : List ℕ) (v : Span) → Filled (listIn s v .items)
-unfolding listIn
-list-filled s v = by (within itemsAt s v)
-  where
-    by : (r : Read (List Item)) → Filled (listedBy r .items)
-    by (got is) = (is, refl)
-    by (stop x) = ([], refl)
-
-record-filled : (s : List ℕ) (row : ℕ → Span) (crit : ℕ) (m : Message) → Filled (recordOf s row crit m .items)
-unfolding recordOf
-record-filled s row crit message.StartRequest = ([], refl)
-record-filled s row crit message.StartResponse = ([], refl)
-record-filled s row crit message.StartFailure = ([], refl)
-record-filled s row crit message.StopRequest = ([], refl)
-record-filled s row crit message.StopResponse = ([], refl)
-record-filled s row crit message.Reset = reset-filled s (row 1)
-record-filled s row crit message.ResetAcknowledge = list-filled s (row 0)
-record-filled s row crit message.ErrorIndication = ([], refl)
-
-pub read-filled : (s : List ℕ) → Filled (readOf s .message .items)
-read-filled s = read-has (λ v. Filled (v .message .items)) s (λ x. ([], refl)) (λ m crit n f. record-filled s (rowIn (f .spans)) crit m)
-
--- ---- a request is judged as it is read
-
-record-message : (s : List ℕ) (row : ℕ → Span) (crit : ℕ) (m : Message) → messageOf (recordOf s row crit m .body) ≡ named.Is m
-unfolding recordOf
-record-message s row crit message.StartRequest = refl
-record-message s row crit message.StartResponse = refl
-record-message s row crit message.StartFailure = refl
-record-message s row crit message.StopRequest = refl
-record-message s row crit message.StopResponse = refl
-record-message s row crit message.Reset = refl
-record-message s row crit message.ResetAcknowledge = refl
-record-message s row crit message.ErrorIndication = refl
-
--- what is inside is the message's own record, or none
-inside-message : (s : List ℕ) (m n : Message) (from crit : ℕ) → messageOf (insideOf n s from crit .message .body) ≡ named.Is m → n ≡ m
-inside-message s m n from crit =
-    inside-has n s from crit (λ v. messageOf (v .message .body) ≡ named.Is m → n ≡ m) (λ x q e. cc)
-    (λ k f q e. let r = record-message s (rowIn (f .spans)) crit n in cc)
-
-pub judged-as-read : (s : List ℕ) (m : Message) → asks m ≡ true → messageOf (readOf s .message .body) ≡ named.Is m → judgedOf s .verdict ≡ readOf s
-unfolding readOf judgedOf
-judged-as-read s m a q = by (ltb 8192 (length s)) (frameAt s) q
-  where
-    asked : (f : Frame) (n : Named) → messageOf (ofEight s f n .message .body) ≡ named.Is m → verdictBy s f n ≡ ofEight s f n
-    asked f named.Other q = refl
-    asked f (named.Is n) q = rw (inside-message s m n (f .from) (f .crit) q, a)
-
-    by : (b : Bool) (r : Read Frame) → messageOf (pick b (without outcome.TooLong) (framed s r) .message .body) ≡ named.Is m
-        → pick b (judgedBy noFrame (without outcome.TooLong)) (judgedIn s r) .verdict ≡ pick b (without outcome.TooLong) (framed s r)
-    by true r q = refl
-    by false (got f) q = asked f (namedBy (f .kind) (f .code)) q
-    by false (stop x) q = refl
+pub judging : (t : List Row) (s : List ℕ) (from : ℕ) {o : Opening} → got o ≡ openedAt t s from → Judging t s from o
+unfolding openedAt elements.elementsAt
+judging t s from {o} q =
+    let a = then-got (countAt s from) _ q in
+    let b = then-got (elements.elementsAt t s (a .0) (from + 3)) _ (a .2) in
+    let d = then-got (scanAt t s (a .0) (from + 3)) _ (b .1) in
+    let x : b .0 ≡ elements.judgedOf t (a .0) (headsAt s (a .0) (from + 3)) = same-got (d .2) in
+    record { count = a .0; scan = d .1; is = sym (same-got (b .2) ∙ ap (openingBy (a .0)) x) }

@@ -1,19 +1,21 @@
--- Every reply is written, whatever identities, items, entries and frame it is made of, if they are in range: what it says, and that its octets read back.
+-- Every reply is written, whatever identities, items, entries and frame it is made of, if they are in range; and so its octets read back as what it says.
+-- Its elements suit the rows of its message's table: one line for each edition and reply.
 -- Assumes nothing.
-use Prim.Native.Nat.{ℕ, _+_, _<_, _≤_}
+use Prim.Native.Nat.{ℕ, _+_, _*_, _-_, _<_, _≤_}
 use mathlib.Core.Path.{_≡_, _∙_, refl, sym}
 use mathlib.Core.Bool.{Bool, true, false}
 use mathlib.Core.List.{List, [], _∷_, _++_}
 use native.Mathlib.Omega.{arith}
 use borrow.Author.Tests.{lt-ltb, ltb-true, ltb-false}
-use lib.Dec.{ltb}
+use lib.Dec.{eqb}
 use lib.ListN.{length, length-append, drop-of-length-le}
-use Rattle.lists.specs.Lists.{pick, keep, fill}
+use Rattle.lists.specs.Lists.{pick, keep}
 use Rattle.lists.proofs.Tests.{on-pick}
 use Rattle.lists.proofs.Keep.{length-keep}
-use Rattle.lists.proofs.Fill.{length-fill, take-fill}
 use Rattle.octets.proofs.Back.{length-number}
-use Rattle.octets.specs.Many.{Each}
+use Rattle.octets.proofs.Writing.{length-short}
+use Rattle.octets.specs.Write.{numberOctets, lengthOctets}
+use Rattle.octets.specs.Many.{Each, eachOctets}
 use Rattle.identity.specs.declared.MmeId.{MmeId}
 use Rattle.identity.specs.declared.MceId.{MceId}
 use Rattle.identity.specs.declared.Mme.{Mme}
@@ -21,35 +23,33 @@ use Rattle.identity.specs.declared.Mme.the-variants as mme
 use Rattle.identity.specs.declared.Mce.{Mce}
 use Rattle.identity.specs.declared.Mce.the-variants as mce
 use Rattle.identity.specs.declared.Item.{Item}
-use Rattle.identity.specs.declared.Items.{Items}
-use Rattle.identity.specs.Items.{emptyItem, listed}
 use Rattle.values.specs.declared.Cause.{Cause}
 use Rattle.values.specs.Written.{GoodCause, causeOctets}
-use Rattle.items.specs.Written.{ignore, itemsOctets, mmeIn, mceIn, GoodMaybe, GoodItem}
+use Rattle.items.proofs.Back.{item-size}
+use Rattle.packed.specs.Packed.{_bits_, packed}
+use Rattle.items.specs.Written.{ignore, itemOctets, itemElementOctets, itemsOctets, mmeIn, mceIn, GoodMaybe, GoodItem}
 use Rattle.entries.specs.declared.Entry.{Entry}
 use Rattle.diagnostics.specs.declared.Head.{Head}
 use Rattle.diagnostics.specs.declared.Number.the-variants as number
 use Rattle.diagnostics.specs.Diagnostics.{Diagnostics}
-use Rattle.entries.specs.Entries.{emptyEntry, entriesOf}
-use Rattle.diagnostics.specs.Written.{headOctets, listOctets, diagnosticsOctets, GoodEntry, GoodHead, Good}
-use Rattle.put_values.proofs.Put.{list-small}
+use Rattle.diagnostics.specs.Written.{headOctets, listOctets, diagnosticsOctets, GoodEntry, Good}
 use Rattle.put_diagnostics.proofs.Sizes.{head-small, list-size}
 use Rattle.rows.specs.declared.Kind.the-variants as kind
 use Rattle.rows.specs.declared.Row.{Row}
-use Rattle.tables.specs.declared.Message.the-variants as message
-use Rattle.tables.specs.Tables.{tableOf}
-use Rattle.row_values.specs.declared.MaybeDiagnostics.{MaybeDiagnostics}
-use Rattle.row_values.specs.declared.MaybeDiagnostics.the-variants as diagnosed
-use Rattle.records.specs.declared.Record.{Record}
+use Rattle.editions.specs.declared.Message.{Message}
+use Rattle.editions.specs.declared.Message.the-variants as message
+use Rattle.editions.specs.declared.Edition.{Edition}
+use Rattle.editions.specs.declared.Edition.the-variants.{Release18}
+use Rattle.editions.specs.Ids.{id-MME-MBMS-M3AP-ID, id-MCE-MBMS-M3AP-ID, id-Cause, id-CriticalityDiagnostics, id-MBMS-Service-associatedLogicalM3-ConnectionListResAck}
+use Rattle.editions.specs.Editions.{release18, tableOf}
 use Rattle.frames.specs.declared.Frame.{Frame}
-use Rattle.said.specs.Value as value
-use Rattle.said.specs.Value.{Given, given, absent, octetsOf, hasOctets}
-use Rattle.said.specs.Said.{saidBy, entriesSaid, givenMme, givenMce, givenList, givenDiagnostics}
-use Rattle.ties.proofs.ValueAgain.{counted-good, diagnostics-has}
-use Rattle.ties.proofs.Bridge.{said-fill}
+use Rattle.meaning.specs.Value as value
+use Rattle.meaning.specs.Value.{Given, given, absent}
+use Rattle.meaning.specs.Written.{octetsOf, hasOctets}
+use Rattle.round_trips.proofs.ValueAgain.{counted-good, diagnostics-has}
 use Rattle.replies.specs.declared.Reply.{Reply}
 use Rattle.replies.specs.declared.Reply.the-variants as reply
-use Rattle.replies.specs.Replies.{unknownPair, listOnly, ofFrame, frameIfListed, bodyOf, hasIdentity, withIdentity, replied}
+use Rattle.replies.specs.Replies.{Element, _is_, valueOf, saying, unknownPair, mmeIf, mceIf, someOf, listOnly, ofFrame, hasIdentity, listing, Replied, silent, says, replied}
 use Rattle.demands.proofs.Taken.{Takes, Taken, taken-none, taken-more, takes-value, takes-absent, Written, written}
 
 -- ---- what is in range
@@ -71,10 +71,20 @@ GoodMme x = GoodMaybe (mmeIn x)
 abbrev pub GoodMce : Mce → Type 0
 GoodMce y = GoodMaybe (mceIn y)
 
--- items as an array has them
-pub record GoodList (items : Items) : Type 0 where
-  pub few : length (listed items) ≤ 256
-  pub each : Each GoodItem (listed items)
+pub record GoodList (items : List Item) : Type 0 where
+  pub few : length items ≤ 256
+  pub each : Each GoodItem items
+
+-- what a reply says of its own
+abbrev pub GoodReply : Reply → Type 0
+GoodReply reply.None = Unit
+GoodReply (reply.StartResponse m c) = (m .0 < 65536) × (c .0 < 65536)
+GoodReply (reply.StartFailure m why) = (m .0 < 65536) × GoodCause why
+GoodReply (reply.StopResponse m c) = (m .0 < 65536) × (c .0 < 65536)
+GoodReply reply.Acknowledge = Unit
+GoodReply reply.AcknowledgeItems = Unit
+GoodReply (reply.Rejection x y why) = GoodMme x × GoodMce y × GoodCause why
+GoodReply (reply.PairNotHeld m c) = (m .0 < 65536) × (c .0 < 65536)
 
 -- ---- values
 
@@ -82,11 +92,27 @@ pub record GoodList (items : Items) : Type 0 where
 abbrev listHead : Head
 listHead = record { code = number.Absent; trigger = number.Absent; crit = number.Absent; listed = true }
 
-abbrev frameHead : Frame → ℕ → Head
-frameHead f n = record { code = number.Is (f .code); trigger = number.Is (f .kind); crit = number.Is (f .crit); listed = ltb 0 n }
+abbrev frameHead : Frame → List Entry → Head
+frameHead f es = record { code = number.Is (f .code); trigger = number.Is (f .kind); crit = number.Is (f .crit); listed = someOf es }
 
-items-size : (is : List Item) → length is ≤ 256 → length (itemsOctets ignore is) ≤ 2305
-items-size is h = rw (take-fill emptyItem 256 is) at (list-small ignore (fill emptyItem 256 is) (length is) (length-fill emptyItem 256 is h))
+each-small : (crit : ℕ) (items : List Item) → length (eachOctets (itemElementOctets crit) items) ≤ 9 * length items
+unfolding itemElementOctets
+each-small crit [] = omega arith
+each-small crit (i ∷ items) =
+    let n : ℕ = length (itemOctets i) in
+    let s = item-size i .1 in
+    let l : lengthOctets n ≡ n ∷ [] = length-short n (omega arith) in
+    let a : length (itemElementOctets crit i) ≡ 4 + n =
+    rw (length-append (numberOctets 2 14) (packed (2 bits crit ∷ []) ∷ (lengthOctets n ++ itemOctets i)), length-number 2 14, l) (omega arith) in
+    let b = each-small crit items in
+    rw (length-append (itemElementOctets crit i) (eachOctets (itemElementOctets crit) items)) (omega arith)
+
+pub items-size : (crit : ℕ) (items : List Item) → length items ≤ 256 → length (itemsOctets crit items) ≤ 2305
+unfolding itemsOctets
+items-size crit items h =
+    let a = length-number 1 (length items - 1) in
+    let b = each-small crit items in
+    rw (length-append (numberOctets 1 (length items - 1)) (eachOctets (itemElementOctets crit) items)) (omega arith)
 
 diagnostics-size : (d : Diagnostics) → Good d → length (diagnosticsOctets d) ≤ 773
 unfolding diagnosticsOctets
@@ -105,26 +131,13 @@ module _ {r : Row} where
   unfolding hasOctets octetsOf
   takes-mce c k g = takes-value (value.mce c) 2 k g refl (let n = length-number 2 (c .0) in omega arith)
 
-  maybe-mme : (x : Mme) → kind.Mme ≡ r .kind → r .mandatory ≡ false → GoodMme x → Takes r (givenMme x) 7
-  maybe-mme (mme.Is m) k e g = takes-mme m k g
-  maybe-mme mme.Absent k e g = takes-absent 7 e
-
-  maybe-mce : (y : Mce) → kind.Mce ≡ r .kind → r .mandatory ≡ false → GoodMce y → Takes r (givenMce y) 7
-  maybe-mce (mce.Is c) k e g = takes-mce c k g
-  maybe-mce mce.Absent k e g = takes-absent 7 e
-
   pub takes-cause : (c : Cause) → kind.Cause ≡ r .kind → GoodCause c → Takes r (given (value.cause c)) 6
   unfolding hasOctets octetsOf causeOctets
   takes-cause c k g = let e = lt-ltb _ _ g in takes-value (value.cause c) 1 k tt e (rw e (omega arith))
 
-  takes-list : (is : List Item) → kind.Acknowledged ≡ r .kind → r .mandatory ≡ false → length is ≤ 256 → Each GoodItem is
-      → Takes r (givenList is (ltb 0 (length is))) 2310
+  takes-list : (items : List Item) → kind.Acknowledged ≡ r .kind → 0 < length items → length items ≤ 256 → Each GoodItem items → Takes r (given (value.list items)) 2310
   unfolding hasOctets octetsOf
-  takes-list is k e b g = by (ltb 0 (length is)) refl
-    where
-      by : (t : Bool) → ltb 0 (length is) ≡ t → Takes r (givenList is t) 2310
-      by true q = takes-value (value.list is) 2305 k g (counted-good (length is) (ltb-true 0 (length is) q) b) (items-size is b)
-      by false q = takes-absent 2310 e
+  takes-list items k p b g = takes-value (value.list items) 2305 k g (counted-good (length items) p b) (items-size ignore items b)
 
   takes-diagnostics : (d : Diagnostics) → kind.Diagnostics ≡ r .kind → Good d → Takes r (given (value.diagnostics d)) 778
   unfolding hasOctets octetsOf
@@ -140,36 +153,20 @@ module _ {r : Row} where
       none : d .head .listed ≡ false → d .entries ≡ []
       none e = drop-of-length-le (d .entries) {i = 0} (ltb-false 0 (length (d .entries)) (sym (g .listed) ∙ e))
 
-  -- with entries where a list is there
-  takes-head : (h : Head) (es : List Entry) → kind.Diagnostics ≡ r .kind → GoodHead h → h .listed ≡ ltb 0 (length es) → GoodEntries es
-      → Takes r (givenDiagnostics es (diagnosed.Is h)) 778
-  takes-head h es k g e n = takes-diagnostics (record { head = h; entries = pick (h .listed) es [] }) k (by (h .listed) e)
-    where
-      by : (t : Bool) → t ≡ ltb 0 (length es) → Good (record { head = record { code = h .code; trigger = h .trigger; crit = h .crit; listed = t }; entries = pick t es [] })
-      by true q = record { head = record { code = g .code; trigger = g .trigger; crit = g .crit }; entries = n .each; listed = q; count = n .few }
-      by false q = record { head = record { code = g .code; trigger = g .trigger; crit = g .crit }; entries = tt; listed = refl; count = omega arith }
+  -- what comes to nothing
+  takes-none : {v : Given (List ℕ)} (n : ℕ) → v ≡ absent → r .mandatory ≡ false → Takes r v n
+  takes-none n q e = rw q (takes-absent n e)
 
-  takes-only : (es : List Entry) → kind.Diagnostics ≡ r .kind → r .mandatory ≡ false → GoodEntries es → Takes r (givenDiagnostics es (listOnly (length es))) 778
-  unfolding listOnly
-  takes-only es k e n = by (ltb 0 (length es)) refl
+  takes-only : (es : List Entry) → kind.Diagnostics ≡ r .kind → r .mandatory ≡ false → GoodEntries es → Takes r (valueOf (listOnly es) id-CriticalityDiagnostics) 778
+  unfolding listOnly valueOf
+  takes-only es k e n = by (someOf es) refl
     where
-      by : (t : Bool) → ltb 0 (length es) ≡ t → Takes r (givenDiagnostics es (pick t (diagnosed.Is listHead) diagnosed.Absent)) 778
-      by true q = takes-head listHead es k (record { code = tt; trigger = tt; crit = tt }) (sym q) n
+      by : (t : Bool) → someOf es ≡ t
+          → Takes r (valueOf (pick t (id-CriticalityDiagnostics is value.diagnostics (record { head = listHead; entries = es }) ∷ []) []) id-CriticalityDiagnostics) 778
+      by true q = takes-diagnostics (record { head = listHead; entries = es }) k (record { head = record { code = tt; trigger = tt; crit = tt }; entries = n .each; listed = sym q; count = n .few })
       by false q = takes-absent 778 e
 
-  takes-frame : (f : Frame) (es : List Entry) → kind.Diagnostics ≡ r .kind → GoodFrame f → GoodEntries es → Takes r (givenDiagnostics es (ofFrame f (length es))) 778
-  unfolding ofFrame
-  takes-frame f es k g n = takes-head (frameHead f (length es)) es k (record { code = g .code; trigger = g .kind; crit = g .crit }) refl n
-
--- an array that a list of entries fills says the list
-entries-said : (es : List Entry) → GoodEntries es → entriesSaid (entriesOf es) ≡ es
-entries-said es n = said-fill emptyEntry es (n .few)
-
--- ---- the replies, with the list of diagnostics es
-
--- what is said of the list: nothing, if it has no entry
-abbrev pub listSaid : List Entry → Given
-listSaid es = givenDiagnostics es (listOnly (length es))
+-- ---- the elements of each reply
 
 each-keep : {A : Type 0} (P : A → Type 0) (p : A → Bool) (l : List A) → Each P l → Each P (keep p l)
 each-keep P p [] g = tt
@@ -179,71 +176,93 @@ each-keep P p (a ∷ l) g = by (p a) (each-keep P p l (g .1))
     by true h = (g .0, h)
     by false h = h
 
--- what an ERROR INDICATION says, with whatever diagnostics suit its row
-error-taken : (es : List Entry) (x : Mme) (y : Mce) (why : Cause) (d : MaybeDiagnostics) → GoodMme x → GoodMce y → GoodCause why
-    → ((r : Row) → kind.Diagnostics ≡ r .kind → r .mandatory ≡ false → Takes r (givenDiagnostics es d) 778)
-    → Taken (tableOf message.ErrorIndication) (givenMme x ∷ givenMce y ∷ given (value.cause why) ∷ givenDiagnostics es d ∷ []) 798
-unfolding tableOf
-error-taken es x y why d g h k t = taken-more (maybe-mme x refl refl g) (taken-more (maybe-mce y refl refl h) (taken-more (takes-cause why refl k) (taken-more (t _ refl refl) taken-none)))
+-- elements suit the table of their message
+abbrev Suit : Edition → Message → List Element → ℕ → Type 0
+Suit e m xs n = Taken (tableOf e m) (saying e m xs .values) n
 
--- to a message with this frame and these items
-module _ (f : Frame) (items : Items) (es : List Entry) (n : GoodEntries es) where
-  abbrev repliedWith : Reply → Record
-  repliedWith r = replied f items (entriesOf es) r
+module _ (es : List Entry) (n : GoodEntries es) where
+  response-suits : (e : Edition) (m : MmeId) (c : MceId) → m .0 < 65536 → c .0 < 65536
+      → Suit e message.StartResponse (id-MME-MBMS-M3AP-ID is value.mme m ∷ id-MCE-MBMS-M3AP-ID is value.mce c ∷ listOnly es) 792
+  unfolding release18 valueOf
+  response-suits Release18 m c g h = taken-more (takes-mme m refl g) (taken-more (takes-mce c refl h) (taken-more (takes-only es refl refl n) taken-none))
 
-  pub start-response-written : (m : MmeId) (c : MceId) → m .0 < 65536 → c .0 < 65536
-      → Written (repliedWith (reply.StartResponse m c)) message.StartResponse (given (value.mme m) ∷ given (value.mce c) ∷ listSaid es ∷ [])
-  unfolding saidBy replied bodyOf tableOf
-  start-response-written m c g h =
-      written (repliedWith (reply.StartResponse m c)) message.StartResponse _ 792 (rw (entries-said es n))
-      (taken-more (takes-mme m refl g) (taken-more (takes-mce c refl h) (taken-more (takes-only es refl refl n) taken-none))) (omega arith)
+  stopped-suits : (e : Edition) (m : MmeId) (c : MceId) → m .0 < 65536 → c .0 < 65536
+      → Suit e message.StopResponse (id-MME-MBMS-M3AP-ID is value.mme m ∷ id-MCE-MBMS-M3AP-ID is value.mce c ∷ listOnly es) 792
+  unfolding release18 valueOf
+  stopped-suits Release18 m c g h = taken-more (takes-mme m refl g) (taken-more (takes-mce c refl h) (taken-more (takes-only es refl refl n) taken-none))
 
-  pub stop-response-written : (m : MmeId) (c : MceId) → m .0 < 65536 → c .0 < 65536
-      → Written (repliedWith (reply.StopResponse m c)) message.StopResponse (given (value.mme m) ∷ given (value.mce c) ∷ listSaid es ∷ [])
-  unfolding saidBy replied bodyOf tableOf
-  stop-response-written m c g h =
-      written (repliedWith (reply.StopResponse m c)) message.StopResponse _ 792 (rw (entries-said es n))
-      (taken-more (takes-mme m refl g) (taken-more (takes-mce c refl h) (taken-more (takes-only es refl refl n) taken-none))) (omega arith)
+  failure-suits : (e : Edition) (m : MmeId) (why : Cause) → m .0 < 65536 → GoodCause why
+      → Suit e message.StartFailure (id-MME-MBMS-M3AP-ID is value.mme m ∷ id-Cause is value.cause why ∷ listOnly es) 791
+  unfolding release18 valueOf
+  failure-suits Release18 m why g h = taken-more (takes-mme m refl g) (taken-more (takes-cause why refl h) (taken-more (takes-only es refl refl n) taken-none))
 
-  pub start-failure-written : (m : MmeId) (why : Cause) → m .0 < 65536 → GoodCause why
-      → Written (repliedWith (reply.StartFailure m why)) message.StartFailure (given (value.mme m) ∷ given (value.cause why) ∷ listSaid es ∷ [])
-  unfolding saidBy replied bodyOf tableOf
-  start-failure-written m why g h =
-      written (repliedWith (reply.StartFailure m why)) message.StartFailure _ 791 (rw (entries-said es n))
-      (taken-more (takes-mme m refl g) (taken-more (takes-cause why refl h) (taken-more (takes-only es refl refl n) taken-none))) (omega arith)
+  -- an id that the list of diagnostics does not have
+  other-absent : (id : ℕ) → eqb id-CriticalityDiagnostics id ≡ false → valueOf (listOnly es) id ≡ absent
+  unfolding listOnly valueOf
+  other-absent id q = on-pick (λ (xs : List Element). valueOf xs id ≡ absent) (someOf es) (rw q) refl
 
-  -- of a whole reset: whatever items there are, no list
-  pub whole-written : Written (repliedWith reply.Acknowledge) message.ResetAcknowledge (absent ∷ listSaid es ∷ [])
-  unfolding saidBy replied bodyOf tableOf
-  whole-written =
-      written (repliedWith reply.Acknowledge) message.ResetAcknowledge _ 3088 (rw (entries-said es n))
-      (taken-more (takes-absent 2310 refl) (taken-more (takes-only es refl refl n) taken-none)) (omega arith)
+  -- a list of items, if there are any
+  listed-suits : (e : Edition) (kept : List Item) → GoodList kept → Suit e message.ResetAcknowledge (listing kept ++ listOnly es) 3088
+  unfolding release18 valueOf
+  listed-suits Release18 kept g = by (someOf kept) refl
+    where
+      by : (t : Bool) → someOf kept ≡ t
+          → Suit Release18 message.ResetAcknowledge (pick t (id-MBMS-Service-associatedLogicalM3-ConnectionListResAck is value.list kept ∷ []) [] ++ listOnly es) 3088
+      by true q = taken-more (takes-list kept refl (ltb-true 0 (length kept) q) (g .few) (g .each)) (taken-more (takes-only es refl refl n) taken-none)
+      by false q = taken-more (takes-none 2310 (other-absent id-MBMS-Service-associatedLogicalM3-ConnectionListResAck refl) refl) (taken-more (takes-only es refl refl n) taken-none)
 
-  -- of a partial reset: it lists the items that have an identity, in received order; without one it has no list
-  pub part-written : GoodList items
-      → Written (repliedWith reply.AcknowledgeItems) message.ResetAcknowledge
-      (givenList (keep hasIdentity (listed items)) (ltb 0 (length (keep hasIdentity (listed items)))) ∷ listSaid es ∷ [])
-  unfolding saidBy replied bodyOf withIdentity tableOf
-  part-written g =
-      let is : List Item = keep hasIdentity (listed items) in
-      let k = length-keep hasIdentity (listed items) in
-      let b : length (keep hasIdentity (listed items)) ≤ 256 = omega (arith, g .few) in
-      written (repliedWith reply.AcknowledgeItems) message.ResetAcknowledge _ 3088 (rw (entries-said es n, said-fill emptyItem is b))
-      (taken-more (takes-list is refl refl b (each-keep GoodItem hasIdentity (listed items) (g .each))) (taken-more (takes-only es refl refl n) taken-none)) (omega arith)
+-- diagnostics behind the cause of an ERROR INDICATION, which has no other element there
+record Diagnosing (d : List Element) : Type 0 where
+  mme : valueOf d id-MME-MBMS-M3AP-ID ≡ absent
+  mce : valueOf d id-MCE-MBMS-M3AP-ID ≡ absent
+  list : (r : Row) → kind.Diagnostics ≡ r .kind → r .mandatory ≡ false → Takes r (valueOf d id-CriticalityDiagnostics) 778
 
-  pub rejection-written : (x : Mme) (y : Mce) (why : Cause) → GoodFrame f → GoodMme x → GoodMce y → GoodCause why
-      → Written (repliedWith (reply.Rejection x y why)) message.ErrorIndication (givenMme x ∷ givenMce y ∷ given (value.cause why) ∷ givenDiagnostics es (ofFrame f (length es)) ∷ [])
-  unfolding saidBy replied bodyOf
-  rejection-written x y why u g h k =
-      written (repliedWith (reply.Rejection x y why)) message.ErrorIndication _ 798 (rw (entries-said es n))
-      (error-taken es x y why (ofFrame f (length es)) g h k (λ r e z. takes-frame f es e u n)) (omega arith)
+error-suits : (e : Edition) (x : Mme) (y : Mce) (why : Cause) (d : List Element) → GoodMme x → GoodMce y → GoodCause why → Diagnosing d
+    → Suit e message.ErrorIndication (mmeIf x ++ (mceIf y ++ (id-Cause is value.cause why ∷ d))) 798
+unfolding release18 valueOf
+error-suits Release18 (mme.Is m) (mce.Is c) why d g h k t =
+    taken-more (takes-mme m refl g) (taken-more (takes-mce c refl h) (taken-more (takes-cause why refl k) (taken-more (t .list _ refl refl) taken-none)))
+error-suits Release18 (mme.Is m) mce.Absent why d g h k t =
+    taken-more (takes-mme m refl g) (taken-more (takes-none 7 (t .mce) refl) (taken-more (takes-cause why refl k) (taken-more (t .list _ refl refl) taken-none)))
+error-suits Release18 mme.Absent (mce.Is c) why d g h k t =
+    taken-more (takes-none 7 (t .mme) refl) (taken-more (takes-mce c refl h) (taken-more (takes-cause why refl k) (taken-more (t .list _ refl refl) taken-none)))
+error-suits Release18 mme.Absent mce.Absent why d g h k t =
+    taken-more (takes-none 7 (t .mme) refl) (taken-more (takes-none 7 (t .mce) refl) (taken-more (takes-cause why refl k) (taken-more (t .list _ refl refl) taken-none)))
 
-  -- diagnostics only with a list
-  pub pair-not-held-written : (m : MmeId) (c : MceId) → GoodFrame f → m .0 < 65536 → c .0 < 65536
-      → Written (repliedWith (reply.PairNotHeld m c)) message.ErrorIndication
-      (given (value.mme m) ∷ given (value.mce c) ∷ given (value.cause unknownPair) ∷ givenDiagnostics es (frameIfListed f (length es)) ∷ [])
-  unfolding saidBy replied bodyOf frameIfListed
-  pair-not-held-written m c u g h =
-      written (repliedWith (reply.PairNotHeld m c)) message.ErrorIndication _ 798 (rw (entries-said es n))
-      (error-taken es (mme.Is m) (mce.Is c) unknownPair (frameIfListed f (length es)) g h (omega arith)
-      (λ r e z. on-pick (λ (d : MaybeDiagnostics). Takes r (givenDiagnostics es d) 778) (ltb 0 (length es)) (takes-frame f es e u n) (takes-absent 778 z))) (omega arith)
+frame-diagnosing : (f : Frame) (es : List Entry) → GoodFrame f → GoodEntries es → Diagnosing (ofFrame f es)
+unfolding ofFrame valueOf
+frame-diagnosing f es u n = record {
+  mme = refl;
+  mce = refl;
+  list = λ r k m. takes-diagnostics (record { head = frameHead f es; entries = es }) k
+      (record { head = record { code = u .code; trigger = u .kind; crit = u .crit }; entries = n .each; listed = refl; count = n .few });
+}
+
+none-diagnosing : Diagnosing []
+unfolding valueOf
+none-diagnosing = record { mme = refl; mce = refl; list = λ r k m. takes-absent 778 m }
+
+-- ---- the replies, to a message with this frame, these items and the list of diagnostics es
+
+-- none, or what is written
+abbrev pub Spoken : Edition → Replied → Type 0
+Spoken e silent = Unit
+Spoken e (says w) = Written e w
+
+kept-good : (items : List Item) → GoodList items → GoodList (keep hasIdentity items)
+kept-good items g = let k = length-keep hasIdentity items in let b = g .few in record { few = omega arith; each = each-keep GoodItem hasIdentity items (g .each) }
+
+module _ (e : Edition) (f : Frame) (u : GoodFrame f) (items : List Item) (i : GoodList items) (es : List Entry) (n : GoodEntries es) where
+  pub spoken : (r : Reply) → GoodReply r → Spoken e (replied e f (keep hasIdentity items) es r)
+  unfolding replied
+  spoken reply.None g = tt
+  spoken (reply.StartResponse m c) g = written e _ 792 (response-suits es n e m c (g .0) (g .1)) (omega arith)
+  spoken (reply.StartFailure m why) g = written e _ 791 (failure-suits es n e m why (g .0) (g .1)) (omega arith)
+  spoken (reply.StopResponse m c) g = written e _ 792 (stopped-suits es n e m c (g .0) (g .1)) (omega arith)
+  spoken reply.Acknowledge g = written e _ 3088 (listed-suits es n e [] (record { few = omega arith; each = tt })) (omega arith)
+  spoken reply.AcknowledgeItems g = written e _ 3088 (listed-suits es n e (keep hasIdentity items) (kept-good items i)) (omega arith)
+  spoken (reply.Rejection x y why) g = written e _ 798 (error-suits e x y why (ofFrame f es) (g .0) (g .1) (g .2) (frame-diagnosing f es u n)) (omega arith)
+  spoken (reply.PairNotHeld m c) g =
+      written e _ 798
+      (error-suits e (mme.Is m) (mce.Is c) unknownPair (pick (someOf es) (ofFrame f es) []) (g .0) (g .1) (omega arith)
+      (on-pick Diagnosing (someOf es) (frame-diagnosing f es u n) none-diagnosing)) (omega arith)

@@ -10,17 +10,15 @@ use Rattle.octets.specs.Stands.{Octets}
 use Rattle.octets.specs.Field.{valueAt}
 use Rattle.table.specs.Table.{State}
 use Rattle.lent.specs.Lent.{Held, readTable}
-use Rattle.records.specs.declared.Record.{Record}
-use Rattle.records.specs.Records.{noRecord}
-use Rattle.entries.specs.Entries.{noEntries}
-use Rattle.opened.specs.declared.Outcome.the-variants as outcome
-use Rattle.messages.specs.Verdict.{readOf}
-use Rattle.said.specs.Said.{saidBy}
-use Rattle.ties.specs.Ties.{ReadAs}
-use Rattle.judge.specs.Judge.{judgedOf}
-use Rattle.unit.specs.Decided.{Decided, keeps, changes, decided}
+use Rattle.editions.specs.declared.Edition.{Edition}
+use Rattle.meaning.specs.Value.{Said}
+use Rattle.verdicts.specs.declared.Outcome.the-variants as outcome
+use Rattle.verdicts.specs.Verdict.{Understood, understood, every, readOf}
+use Rattle.round_trips.specs.Ties.{ReadAs}
+use Rattle.replies.specs.Replies.{says}
 use Rattle.answers.specs.Answers.{numbered}
-use Rattle.unit.specs.Unit.{Call, fits, call}
+use Rattle.calls.specs.Decided.{Decided, decided}
+use Rattle.calls.specs.Call.{Call, fits, call, judged, repliedIn}
 
 abbrev pub isAmong : List ℕ → ℕ → Bool
 isAmong ns n = some (eqb n) ns
@@ -38,45 +36,44 @@ pub record Handed (t : List ℕ) (c : Call) : Type 0 where
   pub message : Octets (c .message)
   pub offered : c .offered .0 < 65536
 
-module _ (t : List ℕ) (c : Call) where
-  abbrev pub numberOf : ℕ
-  numberOf = numbered (call t c .answer) .number
+module _ (e : Edition) where
+  module _ (t : List ℕ) (c : Call) where
+    abbrev pub numberOf : ℕ
+    numberOf = numbered (call e t c .answer) .number
 
-  pub record Answered : Type 0 where
-    -- one answer of 01's list
-    pub answer : isAmong numbers numberOf ≡ true
-    -- answers other than 0 leave the table as it was
-    pub refused : (numberOf ≡ 0 → ⊥) → call t c .table ≡ t
-    -- the reply fills the front of the room, and the rest keeps its octets
-    pub fits : length (call t c .reply) ≤ length (c .room)
-    pub room : call t c .room ≡ call t c .reply ++ drop (length (call t c .reply)) (c .room)
-    -- without a reply all of it does
-    pub silent : isAmong silentNumbers numberOf ≡ true → (call t c .reply ≡ []) × (call t c .room ≡ c .room)
-    -- places stand beside 2 and 3 only
-    pub place : (numberOf ≡ 2 → ⊥) → (numberOf ≡ 3 → ⊥) → numbered (call t c .answer) .place ≡ 0
+    pub record Answered : Type 0 where
+      -- one answer of 01's list
+      pub answer : isAmong numbers numberOf ≡ true
+      -- answers other than 0 leave the table as it was
+      pub refused : (numberOf ≡ 0 → ⊥) → call e t c .table ≡ t
+      -- the reply fills the front of the room, and the rest keeps its octets
+      pub fits : length (call e t c .reply) ≤ length (c .room)
+      pub room : call e t c .room ≡ call e t c .reply ++ drop (length (call e t c .reply)) (c .room)
+      -- without a reply all of it does
+      pub silent : isAmong silentNumbers numberOf ≡ true → (call e t c .reply ≡ []) × (call e t c .room ≡ c .room)
+      -- places stand beside 2 and 3 only
+      pub place : (numberOf ≡ 2 → ⊥) → (numberOf ≡ 3 → ⊥) → numbered (call e t c .answer) .place ≡ 0
 
--- a table in is a table out: never 21 after an accepted call; and the first two octets say how many are held
-pub record TableOut (t : List ℕ) (c : Call) : Type 0 where
-  pub state : State
-  pub held : readTable (call t c .table) ≡ Held state
-  pub count : valueAt 2 (call t c .table) 0 ≡ length state
+  -- a table in is a table out: never 21 after an accepted call; and the first two octets say how many are held
+  pub record TableOut (t : List ℕ) (c : Call) : Type 0 where
+    pub state : State
+    pub held : readTable (call e t c .table) ≡ Held state
+    pub count : valueAt 2 (call e t c .table) 0 ≡ length state
 
--- a reply reads back, with answer 0 and nothing to note
-abbrev pub ReadsBack : List ℕ → Type 0
-ReadsBack os = (readOf os .outcome ≡ outcome.Accepted) × (readOf os .noted ≡ noEntries)
+  -- a reply reads back, with answer 0 and nothing to note
+  pub record ReadsBack (os : List ℕ) : Type 0 where
+    pub what : Understood
+    pub read : readOf e every os ≡ understood what
+    pub accepted : what .outcome ≡ outcome.Accepted
+    pub noted : what .noted ≡ []
 
--- the reply that the rules give, as a record: of no message where there is none
-abbrev pub replyIn : Decided → Record
-replyIn (keeps a r) = r
-replyIn (changes l r) = r
+  abbrev pub decidedOn : State → Call → Decided
+  decidedOn l c = decided e l (c .offered) (judged e (c .message))
 
-abbrev pub decidedOn : State → Call → Decided
-decidedOn l c = decided l (c .offered) (judgedOf (c .message))
-
-pub record Demand1 : Type 0 where
-  pub answered : (t : List ℕ) (c : Call) → Answered t c
-  pub table : (t : List ℕ) (c : Call) (l : State) → Handed t c → readTable t ≡ Held l → TableOut t c
-  pub reply : (t : List ℕ) (c : Call) → Handed t c → (call t c .reply ≡ [] → ⊥) → ReadsBack (call t c .reply)
-  -- a reply that the rules give is sent where it fits, and reads back as what they say
-  pub spoken : (t : List ℕ) (c : Call) (l : State) → Handed t c → readTable t ≡ Held l → fits (c .room) (decidedOn l c) ≡ true → (replyIn (decidedOn l c) ≡ noRecord → ⊥)
-      → ReadAs (call t c .reply) (saidBy (replyIn (decidedOn l c)) [])
+  pub record Demand1 : Type 0 where
+    pub answered : (t : List ℕ) (c : Call) → Answered t c
+    pub table : (t : List ℕ) (c : Call) (l : State) → Handed t c → readTable t ≡ Held l → TableOut t c
+    pub reply : (t : List ℕ) (c : Call) → Handed t c → (call e t c .reply ≡ [] → ⊥) → ReadsBack (call e t c .reply)
+    -- a reply that the rules give is sent where it fits, and reads back as what they say
+    pub spoken : (t : List ℕ) (c : Call) (l : State) (w : Said) → Handed t c → readTable t ≡ Held l → fits e (c .room) (decidedOn l c) ≡ true → repliedIn (decidedOn l c) ≡ says w
+        → ReadAs e (call e t c .reply) w

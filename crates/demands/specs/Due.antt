@@ -14,23 +14,25 @@ use Rattle.identity.specs.declared.Mme.{Mme}
 use Rattle.identity.specs.declared.Mme.the-variants as mme
 use Rattle.identity.specs.declared.Mce.{Mce}
 use Rattle.identity.specs.declared.Mce.the-variants as mce
-use Rattle.records.specs.declared.Body.{Body}
-use Rattle.records.specs.declared.Body.the-variants as body
-use Rattle.tables.specs.declared.Named.{Named}
-use Rattle.tables.specs.declared.Named.the-variants as named
-use Rattle.tables.specs.Tables.{namedBy}
+use Rattle.editions.specs.declared.Edition.{Edition}
+use Rattle.editions.specs.declared.Named.{Named}
+use Rattle.editions.specs.declared.Named.the-variants as named
+use Rattle.editions.specs.Editions.{namedBy}
 use Rattle.frames.specs.declared.Frame.{Frame}
-use Rattle.opened.specs.declared.Outcome.{Outcome}
-use Rattle.opened.specs.declared.Outcome.the-variants as outcome
-use Rattle.messages.specs.declared.Verdict.{Verdict}
+use Rattle.verdicts.specs.declared.Outcome.{Outcome}
+use Rattle.verdicts.specs.declared.Outcome.the-variants as outcome
+use Rattle.verdicts.specs.declared.Refusal.{Refusal}
+use Rattle.verdicts.specs.declared.Refusal.the-variants as refusal
+use Rattle.verdicts.specs.Verdict.{Verdict, refused, understood}
 use Rattle.frames.specs.Frame.{frameAt}
 use Rattle.table.specs.Table.{State, full, holdsMme, holdsMce, holdsPair}
 use Rattle.lent.specs.Lent.{Lent, Held, NoTable, readTable}
-use Rattle.requests.specs.Requests.{asks}
-use Rattle.judge.specs.Judge.{judgedOf}
-use Rattle.unit.specs.Decided.{decided}
+use Rattle.requests.specs.declared.Request.{Request}
+use Rattle.requests.specs.declared.Request.the-variants as request
+use Rattle.requests.specs.Requests.{asks, requestIn}
 use Rattle.answers.specs.Answers.{numbered}
-use Rattle.unit.specs.Unit.{Call, fits, call}
+use Rattle.calls.specs.Decided.{decided}
+use Rattle.calls.specs.Call.{Call, fits, call, judged}
 
 pub record Due : Type 0 where
   pub number : ℕ
@@ -71,36 +73,40 @@ abbrev requested : Named → Bool
 requested (named.Is m) = asks m
 requested named.Other = false
 
-abbrev isRequest : Read Frame → Bool
-isRequest (got f) = requested (namedBy (f .kind) (f .code))
-isRequest (stop x) = false
+abbrev isRequest : Edition → Read Frame → Bool
+isRequest e (got f) = requested (namedBy e (f .kind) (f .code))
+isRequest e (stop x) = false
 
 -- a fault, or an extension, inside the message; elements rejected
-abbrev faultyInside : Outcome → Bool
-faultyInside (outcome.Stopped (Fault p)) = true
-faultyInside (outcome.Stopped (Extension p)) = false
-faultyInside outcome.Accepted = false
-faultyInside outcome.TooLong = false
-faultyInside outcome.NotAmong = false
-faultyInside (outcome.Misplaced k) = false
-faultyInside outcome.Rejected = false
+abbrev faultyIn : Refusal → Bool
+faultyIn (refusal.Stopped (Fault p)) = true
+faultyIn (refusal.Stopped (Extension p)) = false
+faultyIn refusal.TooLong = false
+faultyIn refusal.NotAmong = false
 
-abbrev extendedInside : Outcome → Bool
-extendedInside (outcome.Stopped (Fault p)) = false
-extendedInside (outcome.Stopped (Extension p)) = true
-extendedInside outcome.Accepted = false
-extendedInside outcome.TooLong = false
-extendedInside outcome.NotAmong = false
-extendedInside (outcome.Misplaced k) = false
-extendedInside outcome.Rejected = false
+abbrev extendedIn : Refusal → Bool
+extendedIn (refusal.Stopped (Fault p)) = false
+extendedIn (refusal.Stopped (Extension p)) = true
+extendedIn refusal.TooLong = false
+extendedIn refusal.NotAmong = false
 
-abbrev isRejected : Outcome → Bool
-isRejected (outcome.Misplaced k) = true
-isRejected outcome.Rejected = true
-isRejected (outcome.Stopped x) = false
-isRejected outcome.Accepted = false
-isRejected outcome.TooLong = false
-isRejected outcome.NotAmong = false
+abbrev isRefused : (Refusal → Bool) → Verdict → Bool
+isRefused p (refused x) = p x
+isRefused p (understood u) = false
+
+abbrev notAccepted : Outcome → Bool
+notAccepted outcome.Accepted = false
+notAccepted (outcome.Misplaced k) = true
+notAccepted outcome.Rejected = true
+
+abbrev isRejected : Verdict → Bool
+isRejected (refused x) = false
+isRejected (understood u) = notAccepted (u .outcome)
+
+-- what is asked for, where the message was read
+abbrev pub requestBy : Verdict → Request
+requestBy (refused x) = request.None
+requestBy (understood u) = requestIn (u .what)
 
 -- a start of an MME identity, a stop of a pair
 abbrev ofMme : (MmeId → Bool) → Mme → Bool
@@ -112,51 +118,44 @@ ofPair p (mme.Is m) (mce.Is c) = p m c
 ofPair p (mme.Is m) mce.Absent = false
 ofPair p mme.Absent c = false
 
-abbrev starts : (MmeId → Bool) → Body → Bool
-starts p (body.StartRequest b) = ofMme p (b .mme)
-starts p (body.StartResponse b) = false
-starts p (body.StartFailure b) = false
-starts p (body.StopRequest b) = false
-starts p (body.StopResponse b) = false
-starts p (body.Reset b) = false
-starts p (body.ResetAcknowledge b) = false
-starts p (body.ErrorIndication b) = false
-starts p body.None = false
+abbrev starts : (MmeId → Bool) → Request → Bool
+starts p (request.Start x g s) = ofMme p x
+starts p (request.Stop x y) = false
+starts p (request.Reset x) = false
+starts p request.Indication = false
+starts p request.None = false
 
-abbrev stops : (MmeId → MceId → Bool) → Body → Bool
-stops p (body.StopRequest b) = ofPair p (b .mme) (b .mce)
-stops p (body.StartRequest b) = false
-stops p (body.StartResponse b) = false
-stops p (body.StartFailure b) = false
-stops p (body.StopResponse b) = false
-stops p (body.Reset b) = false
-stops p (body.ResetAcknowledge b) = false
-stops p (body.ErrorIndication b) = false
-stops p body.None = false
+abbrev stops : (MmeId → MceId → Bool) → Request → Bool
+stops p (request.Start x g s) = false
+stops p (request.Stop x y) = ofPair p x y
+stops p (request.Reset x) = false
+stops p request.Indication = false
+stops p request.None = false
 
--- ---- the table: a lent table, a message, its frame, what is judged of it, what it asks for, and the offered identity
-abbrev pub dueFor : Lent → List ℕ → Read Frame → Outcome → Body → MceId → List Due
-dueFor t s f o b c =
-    21 when not (isTable t)
-    ∷ 1 when ltb 8192 (length s)
-    ∷ 2 when faulty f
-    ∷ 3 when extended f
-    ∷ 4 when not (isRequest f)
-    ∷ 2 when faultyInside o
-    ∷ 3 when extendedInside o
-    ∷ 5 when isRejected o
-    ∷ 6 when starts (λ m. holding (holdsMme m) t) b
-    ∷ 7 when starts (λ m. holding (holdsMce c) t) b
-    ∷ 8 when stops (λ m x. holding (λ l. not (holdsPair m x l)) t) b
-    ∷ 9 when starts (λ m. holding full t) b ∷ []
+-- ---- the table: a lent table, a message, its frame, what is judged of it, and the offered identity
+module _ (e : Edition) where
+  abbrev pub dueFor : Lent → List ℕ → Read Frame → Verdict → MceId → List Due
+  dueFor t s f v c =
+      21 when not (isTable t)
+      ∷ 1 when ltb 8192 (length s)
+      ∷ 2 when faulty f
+      ∷ 3 when extended f
+      ∷ 4 when not (isRequest e f)
+      ∷ 2 when isRefused faultyIn v
+      ∷ 3 when isRefused extendedIn v
+      ∷ 5 when isRejected v
+      ∷ 6 when starts (λ m. holding (holdsMme m) t) (requestBy v)
+      ∷ 7 when starts (λ m. holding (holdsMce c) t) (requestBy v)
+      ∷ 8 when stops (λ m x. holding (λ l. not (holdsPair m x l)) t) (requestBy v)
+      ∷ 9 when starts (λ m. holding full t) (requestBy v) ∷ []
 
-unfoldable pub due : List ℕ → Call → List Due
-due t c = dueFor (readTable t) (c .message) (frameAt (c .message)) (judgedOf (c .message) .verdict .outcome) (judgedOf (c .message) .verdict .message .body) (c .offered)
+  unfoldable pub due : List ℕ → Call → List Due
+  due t c = dueFor (readTable t) (c .message) (frameAt (c .message)) (judged e (c .message)) (c .offered)
 
-abbrev pub fitsIn : Lent → Call → Bool
-fitsIn (Held l) c = fits (c .room) (decided l (c .offered) (judgedOf (c .message)))
-fitsIn NoTable c = true
+  abbrev pub fitsIn : Lent → Call → Bool
+  fitsIn (Held l) c = fits e (c .room) (decided e l (c .offered) (judged e (c .message)))
+  fitsIn NoTable c = true
 
--- the call's answer is the first that is due, or 10 where its reply does not fit
-abbrev pub AnswersAs : Type 0
-AnswersAs = (t : List ℕ) (c : Call) → numbered (call t c .answer) .number ≡ pick (fitsIn (readTable t) c) (firstDue (due t c)) 10
+  -- the call's answer is the first that is due, or 10 where its reply does not fit
+  abbrev pub AnswersAs : Type 0
+  AnswersAs = (t : List ℕ) (c : Call) → numbered (call e t c .answer) .number ≡ pick (fitsIn (readTable t) c) (firstDue (due t c)) 10

@@ -9,10 +9,12 @@ use Rattle.identity.specs.declared.Session.the-variants as session
 use Rattle.table.specs.declared.Association.{Association}
 use Rattle.table.specs.Table.{State, holdsMme, holdsMce}
 use Rattle.lent.specs.Lent.{tableOctets, Held, NoTable, readTable, Good}
-use Rattle.ties.specs.Examples.{partialReset, acknowledgement}
+use Rattle.editions.specs.declared.Edition.{Edition}
+use Rattle.editions.specs.declared.Edition.the-variants.{Release18}
+use Rattle.round_trips.specs.Examples.{partialReset, acknowledgement}
 use Rattle.carry.specs.declared.Answer.the-variants as answer
 use Rattle.answers.specs.Answers.{numbered}
-use Rattle.unit.specs.Unit.{call}
+use Rattle.calls.specs.Call.{call}
 use Rattle.demands.specs.Due.{AnswersAs}
 
 -- ---- on a table in a state, with the MCE identity 9 offered
@@ -22,7 +24,7 @@ offer = record { 0 = 9 }
 
 -- whatever the room, if it is large enough
 abbrev pub Gives : State → List ℕ → ℕ → Type 0
-Gives l s n = (d : List ℕ) → 3200 ≤ length d → numbered (call (tableOctets l) (record { message = s; offered = offer; room = d }) .answer) .number ≡ n
+Gives l s n = (d : List ℕ) → 3200 ≤ length d → numbered (call Release18 (tableOctets l) (record { message = s; offered = offer; room = d }) .answer) .number ≡ n
 
 -- MME and MCE identity, and a TMGI of zeros
 abbrev pub pair : ℕ → ℕ → Association
@@ -62,7 +64,7 @@ error = 0x00 ∷ 0x02 ∷ 0x40 ∷ 0x08 ∷ 0x00 ∷ 0x00 ∷ 0x01 ∷ 0x00 ∷ 
 -- ---- every answer
 
 abbrev pub numberOf : List ℕ → List ℕ → List ℕ → ℕ
-numberOf t s d = numbered (call t (record { message = s; offered = offer; room = d }) .answer) .number
+numberOf t s d = numbered (call Release18 t (record { message = s; offered = offer; room = d }) .answer) .number
 
 pub record EveryAnswer : Type 0 where
   -- a start, on an empty table
@@ -107,7 +109,7 @@ noList = 0x20 ∷ 0x04 ∷ 0x00 ∷ 0x03 ∷ 0x00 ∷ 0x00 ∷ 0x00 ∷ []
 abbrev pub Does : State → List ℕ → List ℕ → State → Type 0
 Does l s os l′ =
     (d : List ℕ) → length os ≤ length d
-    → call (tableOctets l) (record { message = s; offered = offer; room = d })
+    → call Release18 (tableOctets l) (record { message = s; offered = offer; room = d })
     ≡ record { answer = answer.CarriedOut; reply = os; table = tableOctets l′; room = os ++ drop (length os) d }
 
 pub record BenchCalls : Type 0 where
@@ -124,6 +126,6 @@ pub record BenchCalls : Type 0 where
 
 -- Demand 2: each answer is given exactly when 01's table says, and each is given.
 pub record Demand2 : Type 0 where
-  pub exactly : AnswersAs
+  pub exactly : (e : Edition) → AnswersAs e
   pub each : EveryAnswer
   pub bench : BenchCalls

@@ -6,8 +6,7 @@ use Rattle.octets.specs.Read.{Read, got, _>>=_, _>>_}
 use Rattle.octets.specs.Field.{flagAt, plainAt, choiceAt, padAt, numberAt}
 use Rattle.octets.specs.Many.{Part}
 use Rattle.entries.specs.declared.Entry.{Entry}
-use Rattle.entries.specs.declared.Entries.{Entries}
-use Rattle.entries.specs.Entries.{entriesIn, maybeListAt}
+use Rattle.entries.specs.Entries.{maybeListAt}
 use Rattle.diagnostics.specs.declared.Number.{Number}
 use Rattle.diagnostics.specs.declared.Number.the-variants.{Is, Absent}
 use Rattle.diagnostics.specs.declared.Head.{Head}
@@ -19,9 +18,6 @@ emptyHead = record { code = Absent; trigger = Absent; crit = Absent; listed = fa
 pub record Diagnostics : Type 0 where
   pub head : Head
   pub entries : List Entry
-
-abbrev pub diagnosticsOf : Head → Entries → Diagnostics
-diagnosticsOf h a = record { head = h; entries = entriesIn a }
 
 -- behind p bits, a field of n bits more, if it is there
 abbrev pub after : Bool → ℕ → ℕ → ℕ

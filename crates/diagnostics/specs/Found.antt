@@ -1,9 +1,7 @@
--- The readers' answers, as readings; and those with an array, from the readings.
+-- The readers' answers, as readings.
 use Rattle.octets.specs.Read.{Read, got, stop}
 use Rattle.octets.specs.Many.{Part}
-use Rattle.octets.specs.declared.Gate.the-variants as gate
-use Rattle.diagnostics.specs.Diagnostics.{Diagnostics, Marks, emptyHead}
-use Rattle.entries.specs.Entries.{entriesOf, noEntries}
+use Rattle.diagnostics.specs.Diagnostics.{Marks}
 use Rattle.diagnostics.specs.declared.Number.{Number}
 use Rattle.diagnostics.specs.declared.Head.{Head}
 use Rattle.diagnostics.specs.declared.Marks as own
@@ -13,7 +11,6 @@ use Rattle.diagnostics.specs.declared.NumberRead.{NumberRead}
 use Rattle.diagnostics.specs.declared.NumberRead.the-variants as number
 use Rattle.diagnostics.specs.declared.HeadRead.{HeadRead}
 use Rattle.diagnostics.specs.declared.HeadRead.the-variants as head
-use Rattle.diagnostics.specs.declared.DiagnosticsRead.{DiagnosticsRead}
 
 abbrev pub marksIn : own.Marks → Marks
 marksIn m = record { code = m .code; trigger = m .trigger; crit = m .crit; listed = m .listed }
@@ -29,8 +26,3 @@ foundNumber (number.Stop x) = stop x
 abbrev pub foundHead : HeadRead → Read (Part Head)
 foundHead (head.Is v n) = got (record { value = v; next = n })
 foundHead (head.Stop x) = stop x
-
--- Criticality Diagnostics with their entries in the front of an array, or why there are none
-abbrev pub diagnosticsRead : Read Diagnostics → DiagnosticsRead
-diagnosticsRead (got d) = record { gate = gate.Pass; head = d .head; entries = entriesOf (d .entries) }
-diagnosticsRead (stop x) = record { gate = gate.Stop x; head = emptyHead; entries = noEntries }

@@ -2,10 +2,8 @@
 ghost use mathlib.Core.Path.{_≡_};
 ghost use Prim.Native.Nat.{_+_, _<_};
 ghost use lib.ListN.{length};
-ghost use Rattle.octets.specs.Read.{stop};
-ghost use Rattle.diagnostics.specs.Diagnostics.{after, maybeAt, codeAt, marksAt, headAt, diagnosticsAt};
-ghost use Rattle.diagnostics.specs.Found.{foundMarks, foundNumber, foundHead, diagnosticsRead};
-use entries::Entries;
+ghost use Rattle.diagnostics.specs.Diagnostics.{after, maybeAt, codeAt, marksAt, headAt};
+ghost use Rattle.diagnostics.specs.Found.{foundMarks, foundNumber, foundHead};
 use octets::Flag;
 use octets::Gate;
 use octets::Octet;
@@ -22,13 +20,6 @@ pub struct Head {
     pub trigger: Number,
     pub crit: Number,
     pub listed: bool,
-}
-
-// Criticality Diagnostics, or why they were not read; then all is absent.
-pub struct DiagnosticsRead {
-    pub gate: Gate,
-    pub head: Head,
-    pub entries: Entries,
 }
 
 // Which fields are there.
@@ -49,8 +40,8 @@ enum NumberRead {
     Stop(Stop),
 }
 
-// What was read, and the place behind it.
-enum HeadRead {
+// The fields before the list, and the place behind them.
+pub enum HeadRead {
     Is(Head, usize),
     Stop(Stop),
 }
@@ -143,7 +134,7 @@ fn after_bits(there: bool, n: u8, p: u8) -> u8
 }
 
 // The fields before the list.
-fn head_at(s: &[u8], at: usize) -> HeadRead
+pub fn head_at(s: &[u8], at: usize) -> HeadRead
     ensures { λ r. ⌜ foundHead r ≡ headAt (now (s .entry)) at ⌝ }
 {
     let m = match marks_at(s, at) {
@@ -184,42 +175,5 @@ fn head_at(s: &[u8], at: usize) -> HeadRead
             at + numbers::wide((r + 7) / 8),
         ),
         Gate::Stop(x) => HeadRead::Stop(x),
-    }
-}
-
-fn no_diagnostics(x: Stop) -> DiagnosticsRead
-    ensures { λ r. ⌜ r ≡ diagnosticsRead (stop x) ⌝ }
-{
-    DiagnosticsRead {
-        gate: Gate::Stop(x),
-        head: Head {
-            code: Number::Absent,
-            trigger: Number::Absent,
-            crit: Number::Absent,
-            listed: false,
-        },
-        entries: entries::no_entries(),
-    }
-}
-
-// Criticality Diagnostics, which fill their octets.
-pub fn diagnostics_at(s: &[u8], at: usize) -> DiagnosticsRead
-    ensures { λ r. ⌜ r ≡ diagnosticsRead (diagnosticsAt (now (s .entry)) at) ⌝ }
-{
-    match head_at(s, at) {
-        HeadRead::Is(h, next) => {
-            let list = entries::maybe_list_at(h.listed, s, next);
-            let gate = list.gate;
-            let entries = list.entries;
-            match gate {
-                Gate::Pass => DiagnosticsRead {
-                    gate: Gate::Pass,
-                    head: h,
-                    entries: entries,
-                },
-                Gate::Stop(x) => no_diagnostics(x),
-            }
-        }
-        HeadRead::Stop(x) => no_diagnostics(x),
     }
 }

@@ -1,3 +1,1 @@
-pub mod NoteLaws
 pub mod WalkLaws
-pub mod Determined

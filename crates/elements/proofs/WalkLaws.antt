@@ -1,50 +1,19 @@
--- The walk, element after element, over any table.
---     Step                       what the walk holds: the elements done, and what the definitions make of the rest
---     Sought, sought-past        the same, with an element that was read, while its row is sought
---     step-start                 nothing is done
---     step-known                 an element more, of a row
---     step-listed, step-unlisted an unknown element more
---     walk-end, walk-misplaced   the walk stops, and found what counts
---     walk-cut, walk-bad         it stops at what cannot be read
---     judged-front, judged-all   what was found is the judging
+-- One element more, or one row more: what is read, unknown and missing of the first, and behind it what the last adds.
 -- Assumes nothing.
-use mathlib.Core.Path.{_≡_, _∙_, refl, sym, ap, subst}
-use mathlib.Core.Bool.{true, false}
+use mathlib.Core.Path.{_≡_, _∙_, refl, sym, ap}
 use mathlib.Core.List.{List, [], _∷_, _++_, append-assoc, append-nil}
-use Prim.Native.Nat.{ℕ, _+_, _-_, _<_, _≤_}
+use Prim.Native.Nat.{ℕ, zero, suc, _<_}
 use native.Mathlib.Omega.{arith}
-use native.Mathlib.Nat.{sub-zero}
-use borrow.Author.Tests.{lt-ltb, le-ltb, eq-eqb, ne-eqb}
-use lib.Dec.{eqb}
-use lib.ListN.{length, take, drop, set, getD, replicate, length-append, length-set, length-replicate, replicate-append-replicate}
-use lib.Seq.{set-out}
-use Rattle.lists.specs.Lists.{pick, fill}
-use Rattle.lists.proofs.Fill.{fill-set, take-fill}
-use Rattle.octets.specs.Read.{got, stop}
-use Rattle.octets.specs.declared.Stop.{Stop}
+use lib.ListN.{length, take, set, getD, replicate, length-set, length-replicate}
 use Rattle.octets.specs.declared.Span.{Span}
-use Rattle.octets.specs.declared.Gate.the-variants as gate
-use Rattle.octets.proofs.Chain.{got-stop}
-use Rattle.kinds.specs.Kinds.{valueAt}
-use Rattle.kinds.proofs.Laws.{carried}
+use Rattle.octets.specs.Span.{noSpan}
 use Rattle.entries.specs.declared.Entry.{Entry}
 use Rattle.rows.specs.declared.Row.{Row}
-use Rattle.rows.specs.declared.Rows.{Rows}
+use Rattle.rows.specs.Table.{noRow, find}
 use Rattle.envelopes.specs.declared.Head.{Head}
-use Rattle.elements.specs.declared.Noted.{Noted}
-use Rattle.elements.specs.declared.Walked.{Walked}
-use Rattle.rows.specs.Table.{rowsIn, noRow, find, kindOf}
-use Rattle.envelopes.specs.Envelope.{envelopeAt, scanAt, headsAt}
-use Rattle.octets.specs.Span.{noSpan}
-use Rattle.elements.specs.Judge.{front, readInto, readOf, ignored, unknownEntry, unknownOf, missingOf, noted, judgedOf, judgedBy}
-use Rattle.elements.specs.Steps.{listing, Seen, WalkedTo, MissingIn}
-use Rattle.elements.proofs.NoteLaws.{noting, passing, noted-more, noted-same}
-use Rattle.rows.proofs.TableLaws.{row-here, row-past, row-kind, ended, unread}
-use Rattle.envelopes.proofs.ScanLaws.{scan-cut, scan-bad, scan-more, heads-none, heads-one}
+use Rattle.elements.specs.Judge.{readInto, readOf, unknownEntry, unknownOf, missingEntry, missingOf}
 
--- ---- one element more
-
-read-snoc : (t : List Row) (l : List Span) (ys : List Head) (h : Head) → set (readInto t l ys) (find (h .id) t) (h .value) ≡ readInto t l (ys ++ h ∷ [])
+pub read-snoc : (t : List Row) (l : List Span) (ys : List Head) (h : Head) → set (readInto t l ys) (find (h .id) t) (h .value) ≡ readInto t l (ys ++ h ∷ [])
 unfolding readInto
 read-snoc t l [] h = refl
 read-snoc t l (y ∷ ys) h = read-snoc t _ ys h
@@ -57,160 +26,16 @@ read-length t l (y ∷ ys) = read-length t _ ys ∙ length-set l _ _
 pub read-rows : (t : List Row) (ys : List Head) → length (readOf t ys) ≡ length t
 read-rows t ys = read-length t (replicate (length t) noSpan) ys ∙ length-replicate (length t) noSpan
 
-unknown-snoc : (t : List Row) (ys : List Head) (h : Head) → unknownOf t (ys ++ h ∷ []) ≡ unknownOf t ys ++ unknownEntry t h
+pub unknown-snoc : (t : List Row) (ys : List Head) (h : Head) → unknownOf t (ys ++ h ∷ []) ≡ unknownOf t ys ++ unknownEntry t h
 unfolding unknownOf
 unknown-snoc t [] h = append-nil (unknownEntry t h)
 unknown-snoc t (y ∷ ys) h = rw (unknown-snoc t ys h) (sym (append-assoc (unknownEntry t y) (unknownOf t ys) (unknownEntry t h)))
 
-fill-none : (n : ℕ) → n ≤ 12 → replicate 12 noSpan ≡ fill noSpan 12 (replicate n noSpan)
-fill-none n h =
-    let e : n + (12 - n) ≡ 12 = omega arith in
-    sym (ap (λ (k : ℕ). replicate n noSpan ++ replicate (12 - k) noSpan) (length-replicate n noSpan) ∙ (replicate-append-replicate n (12 - n) noSpan ∙ ap (λ (k : ℕ). replicate k noSpan) e))
-
--- ---- what the walk holds
-
-pub record Step (t : List Row) (s : List ℕ) (n from row i at : ℕ) (spans : List Span) (listed : Noted) : Type 0 where
-  pub done : List Head
-  pub order : done ++ front t row (headsAt s (n - i) at) ≡ front t 0 (headsAt s n from)
-  pub size : length done ≡ i
-  pub count : i ≤ n
-  pub read : spans ≡ fill noSpan 12 (readOf t done)
-  pub list : listed ≡ noted (unknownOf t done)
-  pub faults : scanAt t s (n - i) at ≡ scanAt t s n from
-
--- an element was read, and its id stands in none of the first k rows
-pub record Sought (t : Rows) (s : List ℕ) (n from row i at : ℕ) (spans : List Span) (listed : Noted) (h : Head) (k : ℕ) : Type 0 where
-  pub step : Step (rowsIn t) s n from row i at spans listed
-  pub more : i < n
-  pub read : got h ≡ envelopeAt s at
-  pub rest : k + find (h .id) (drop k (rowsIn t)) ≡ find (h .id) (rowsIn t)
-
--- what an unknown element is listed as
-abbrev unknown : Head → Entry
-unknown h = record { crit = h .crit; id = h .id; error = 0 }
-
--- it stops there
-abbrev Stops : List Row → List ℕ → ℕ → ℕ → ℕ → ℕ → List Span → Noted → Type 0
-Stops t s n from i at spans listed = WalkedTo t s n from (record { at = at; place = i; spans = spans; noted = listed })
-
-pub step-start : (t : List Row) {s : List ℕ} {n from : ℕ} → length t ≤ 12 → Step t s n from 0 0 from (replicate 12 noSpan) (noted [])
-unfolding readInto unknownOf
-step-start t h = record { done = []; order = rw sub-zero; size = refl; count = omega arith; read = fill-none (length t) h; list = refl; faults = rw sub-zero }
-
-module _ {t : List Row} {s : List ℕ} {n from row i at : ℕ} {spans : List Span} {listed : Noted} (p : Step t s n from row i at spans listed) where
-  -- nothing more counts
-  over : front t row (headsAt s (n - i) at) ≡ [] → Stops t s n from i at spans listed
-  over e =
-      let q : p .done ≡ front t 0 (headsAt s n from) = sym (append-nil (p .done)) ∙ (ap (λ (x : List Head). p .done ++ x) (sym e) ∙ p .order) in
-      record {
-        within = p .count;
-        faults = p .faults;
-        seen = λ g. subst (λ (f : List Head). Seen t f (record { at = at; place = i; spans = spans; noted = listed })) q
-            (record { place = sym (p .size); spans = p .read; listed = p .list });
-      }
-
-  -- something cannot be read
-  broken : {x : Stop} → stop x ≡ scanAt t s (n - i) at → Stops t s n from i at spans listed
-  broken q = record { within = p .count; faults = p .faults; seen = λ g. got-stop (g ∙ sym q) }
-
-  pub walk-end : n ≤ i → Stops t s n from i at spans listed
-  unfolding front
-  walk-end h = over (rw (heads-none t s (n - i) at (omega arith)))
-
-  pub walk-cut : i < n → {x : Stop} → stop x ≡ envelopeAt s at → Stops t s n from i at spans listed
-  walk-cut b {x} q = broken {x = x} (scan-cut t s (n - i) at (λ e. omega arith) q)
-
-module _ {t : Rows} {s : List ℕ} {n from row i at : ℕ} {spans : List Span} {listed : Noted} {h : Head} {k : ℕ} (p : Sought t s n from row i at spans listed h k) where
-  left : n - i ≡ 0 → ⊥
-  left e = let b = p .more in omega arith
-
-  -- the element is done, and row′ is the first row that may still come
-  done-with : (row′ : ℕ) → front (rowsIn t) row (headsAt s (n - i) at) ≡ h ∷ front (rowsIn t) row′ (headsAt s (n - i - 1) (h .value .to))
-      → got tt ≡ valueAt (kindOf (rowsIn t) (h .id)) (take (h .value .to) s) (h .value .from)
-      → {spans′ : List Span} → spans′ ≡ fill noSpan 12 (readOf (rowsIn t) (p .step .done ++ h ∷ []))
-      → {after : Noted} → after ≡ noted (unknownOf (rowsIn t) (p .step .done) ++ unknownEntry (rowsIn t) h)
-      → Step (rowsIn t) s n from row′ (i + 1) (h .value .to) spans′ after
-  done-with row′ g r x l =
-      let z : n - (i + 1) ≡ n - i - 1 = omega arith in
-      let b = p .more in
-      let d = p .step .done in
-      record {
-        done = d ++ h ∷ [];
-        order = rw z (append-assoc d (h ∷ []) _ ∙ (ap (λ (x : List Head). d ++ x) (sym g) ∙ p .step .order));
-        size = length-append d (h ∷ []) ∙ ap (λ (j : ℕ). j + 1) (p .step .size);
-        count = omega arith;
-        read = x;
-        list = l ∙ ap noted (sym (unknown-snoc (rowsIn t) d h));
-        faults = rw z (scan-more (rowsIn t) s (n - i) at left h (p .read) r ∙ p .step .faults);
-      }
-
-  module _ (a : length (rowsIn t) ≤ k) where
-    step-unknown : {after : Noted} → after ≡ noted (unknownOf (rowsIn t) (p .step .done) ++ pick (ignored (h .crit)) [] (unknown h ∷ []))
-        → Step (rowsIn t) s n from row (i + 1) (h .value .to) spans after
-    unfolding front
-    step-unknown l =
-        let f = ended (rowsIn t) (h .id) k a (p .rest) in
-        let z = read-rows (rowsIn t) (p .step .done) in
-        done-with row
-        (rw (heads-one (rowsIn t) s (n - i) at left h (p .read), f, le-ltb k (length (rowsIn t)) a))
-        (rw (← unread (rowsIn t) (h .id) (rw f a)) (carried _ _))
-        (p .step .read ∙ ap (fill noSpan 12) (sym (set-out (readOf (rowsIn t) (p .step .done)) (find (h .id) (rowsIn t)) (h .value) (omega arith)) ∙ read-snoc (rowsIn t) _ (p .step .done) h))
-        (rw (f, le-ltb k (length (rowsIn t)) a) l)
-
-    pub step-listed : listing (h .crit) (listed .list .count) ≡ true → Step (rowsIn t) s n from row (i + 1) (h .value .to) spans (noting (unknown h) listed)
-    step-listed c = step-unknown (noted-more _ _ (p .step .list) (unknown h) c)
-
-    pub step-unlisted : listing (h .crit) (listed .list .count) ≡ false → Step (rowsIn t) s n from row (i + 1) (h .value .to) spans (passing (unknown h) listed)
-    step-unlisted c = step-unknown (noted-same _ _ (p .step .list) (unknown h) c)
-
-  module _ (a : k < length (rowsIn t)) where
-    pub sought-past : (getD (t .rows) k noRow .id ≡ h .id → ⊥) → Sought t s n from row i at spans listed h (k + 1)
-    sought-past e = record { step = p .step; more = p .more; read = p .read; rest = row-past t (h .id) k a (p .rest) e }
-
-    module _ (e : getD (t .rows) k noRow .id ≡ h .id) where
-      here : find (h .id) (rowsIn t) ≡ k
-      here = row-here t (h .id) k a (p .rest) e
-
-      kind : getD (t .rows) k noRow .kind ≡ kindOf (rowsIn t) (h .id)
-      kind = row-kind t (h .id) k a (p .rest) e
-
-      pub walk-bad : {x : Stop} → stop x ≡ valueAt (getD (t .rows) k noRow .kind) (take (h .value .to) s) (h .value .from) → Stops (rowsIn t) s n from i at spans listed
-      walk-bad {x} r = broken (p .step) {x = x} (scan-bad (rowsIn t) s (n - i) at left h (p .read) (rw kind at r))
-
-      pub walk-misplaced : k < row → Stops (rowsIn t) s n from i at spans listed
-      unfolding front
-      walk-misplaced c = over (p .step) (rw (heads-one (rowsIn t) s (n - i) at left h (p .read), here, lt-ltb k (length (rowsIn t)) a, lt-ltb k row c))
-
-      pub step-known : row ≤ k → got tt ≡ valueAt (getD (t .rows) k noRow .kind) (take (h .value .to) s) (h .value .from)
-          → Step (rowsIn t) s n from (k + 1) (i + 1) (h .value .to) (set spans k (h .value)) listed
-      unfolding front
-      step-known c r =
-          let d = p .step .done in
-          done-with (k + 1)
-          (rw (heads-one (rowsIn t) s (n - i) at left h (p .read), here, lt-ltb k (length (rowsIn t)) a, le-ltb k row c))
-          (rw kind at r)
-          (rw (p .step .read) (fill-set noSpan 12 (readOf (rowsIn t) d) (h .value) k (rw (read-rows (rowsIn t) d) a) ∙ ap (fill noSpan 12) (ap (λ (j : ℕ). set (readOf (rowsIn t) d) j (h .value)) (sym here) ∙ read-snoc (rowsIn t) _ d h)))
-          (p .step .list ∙ ap noted (sym (rw (here, lt-ltb k (length (rowsIn t)) a) (append-nil _))))
-
--- ---- the walk, and then the rows
-
-module _ (t : List Row) (n : ℕ) (hs : List Head) (w : Walked) (p : Seen t (front t 0 hs) w) where
-  -- nothing counts as missing where the walk stopped
-  pub judged-front : w .place < n → record { gate = gate.Pass; place = w .place; spans = w .spans; noted = w .noted } ≡ judgedBy (got (judgedOf t n hs))
-  unfolding judgedOf
-  judged-front h =
-      let l = p .place in
-      let e : noted (unknownOf t (front t 0 hs) ++ pick (eqb (length (front t 0 hs)) n) (missingOf t (readOf t (front t 0 hs))) []) ≡ noted (unknownOf t (front t 0 hs)) =
-      rw (ne-eqb (length (front t 0 hs)) n (λ q. omega arith)) (ap noted (append-nil _)) in
-      rw (e, p .place, p .spans, p .listed)
-
-  pub judged-all : n ≤ w .place → w .place ≤ n → (m : Noted) → MissingIn t (w .spans) (w .noted) m
-      → record { gate = gate.Pass; place = w .place; spans = w .spans; noted = m } ≡ judgedBy (got (judgedOf t n hs))
-  unfolding judgedOf
-  judged-all h b m q =
-      let l = p .place in
-      let z : take (length t) (w .spans) ≡ readOf t (front t 0 hs) =
-      ap (take (length t)) (p .spans) ∙ (ap (λ (k : ℕ). take k (fill noSpan 12 (readOf t (front t 0 hs)))) (sym (read-rows t (front t 0 hs))) ∙ take-fill noSpan 12 (readOf t (front t 0 hs))) in
-      let g : m ≡ noted (unknownOf t (front t 0 hs) ++ missingOf t (readOf t (front t 0 hs))) =
-      q (unknownOf t (front t 0 hs)) (p .listed) ∙ ap (λ (x : List Span). noted (unknownOf t (front t 0 hs) ++ missingOf t x)) z in
-      rw (g, p .place, p .spans, eq-eqb (length (front t 0 hs)) n (omega arith))
+pub missing-snoc : (t : List Row) (l : List Span) (k : ℕ) → k < length t → k < length l
+    → missingOf (take (suc k) t) (take (suc k) l) ≡ missingOf (take k t) (take k l) ++ missingEntry (getD t k noRow) (getD l k noSpan)
+unfolding missingOf
+missing-snoc [] l k h g = absurd (omega arith)
+missing-snoc (r ∷ t) [] k h g = absurd (omega arith)
+missing-snoc (r ∷ t) (v ∷ l) zero h g = append-nil (missingEntry r v)
+missing-snoc (r ∷ t) (v ∷ l) (suc k) h g =
+    ap (λ (es : List Entry). missingEntry r v ++ es) (missing-snoc t l k (omega arith) (omega arith)) ∙ sym (append-assoc (missingEntry r v) (missingOf (take k t) (take k l)) _)

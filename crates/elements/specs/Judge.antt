@@ -3,18 +3,14 @@ use Prim.Native.Nat.{ℕ, _+_}
 use mathlib.Core.Bool.{Bool}
 use mathlib.Core.List.{List, [], _∷_, _++_}
 use lib.Dec.{ltb, eqb}
-use lib.ListN.{length, set, take, replicate}
-use Rattle.lists.specs.Lists.{pick, some, fill}
-use Rattle.octets.specs.Read.{Read, got, stop, _>>=_, _>>_}
-use Rattle.octets.specs.declared.Gate.the-variants as gate
+use lib.ListN.{length, set, replicate}
+use Rattle.lists.specs.Lists.{pick}
+use Rattle.octets.specs.Read.{Read, got, _>>=_, _>>_}
 use Rattle.octets.specs.declared.Span.{Span}
 use Rattle.octets.specs.Span.{noSpan, present}
 use Rattle.entries.specs.declared.Entry.{Entry}
-use Rattle.entries.specs.Entries.{entriesOf}
 use Rattle.rows.specs.declared.Row.{Row}
 use Rattle.envelopes.specs.declared.Head.{Head}
-use Rattle.elements.specs.declared.Noted.{Noted}
-use Rattle.elements.specs.declared.Judged.{Judged}
 use Rattle.rows.specs.Table.{find, known}
 use Rattle.envelopes.specs.Envelope.{scanAt, headsAt}
 
@@ -55,10 +51,6 @@ missingOf [] l = []
 missingOf (r ∷ t) [] = []
 missingOf (r ∷ t) (v ∷ l) = missingEntry r v ++ missingOf t l
 
--- the first 256 are listed; criticality reject anywhere rejects
-unfoldable pub noted : List Entry → Noted
-noted es = record { list = entriesOf (take 256 es); reject = some (λ (e : Entry). eqb (e .crit) 0) es }
-
 -- what the judging finds
 pub record Found : Type 0 where
   pub place : ℕ
@@ -80,8 +72,3 @@ unfoldable pub elementsAt : List Row → List ℕ → ℕ → ℕ → Read Found
 elementsAt t s n at = do
   scanAt t s n at
   got (judgedOf t n (headsAt s n at))
-
--- as the code answers: spans in an array of 12, the list noted
-abbrev pub judgedBy : Read Found → Judged
-judgedBy (got f) = record { gate = gate.Pass; place = f .place; spans = fill noSpan 12 (f .spans); noted = noted (f .listed) }
-judgedBy (stop x) = record { gate = gate.Stop x; place = 0; spans = fill noSpan 12 []; noted = noted [] }

@@ -2,28 +2,12 @@
 use Prim.Native.Nat.{ℕ, _+_}
 use mathlib.Core.Bool.{Bool, true, false}
 use mathlib.Core.List.{List, []}
-use lib.ListN.{length, take}
 use lib.Dec.{eqb}
-use Rattle.lists.specs.Lists.{pick, fill}
+use Rattle.lists.specs.Lists.{pick}
 use Rattle.octets.specs.Read.{Read, got, _>>=_, _>>_}
 use Rattle.octets.specs.Field.{plainAt, choiceAt, padAt, numberAt, endsAt}
 use Rattle.octets.specs.Many.{Part, many}
 use Rattle.entries.specs.declared.Entry.{Entry}
-use Rattle.entries.specs.declared.Entries.{Entries}
-
-abbrev pub emptyEntry : Entry
-emptyEntry = record { crit = 0; id = 0; error = 0 }
-
--- the list that an array stands for
-abbrev pub entriesIn : Entries → List Entry
-entriesIn a = take (a .count) (a .rows)
-
--- the array of a list of at most 256: empty entries behind it
-abbrev pub entriesOf : List Entry → Entries
-entriesOf es = record { rows = fill emptyEntry 256 es; count = length es }
-
-abbrev pub noEntries : Entries
-noEntries = entriesOf []
 
 -- the first entry begins with an octet, each other behind the two bits of the type of error before it
 abbrev pub begins : ℕ → ℕ → ℕ

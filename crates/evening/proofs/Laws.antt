@@ -11,10 +11,10 @@ use lib.ListN.{length, drop, length-append, length-drop, replicate}
 use lib.Seq.{drop-drop}
 use Rattle.lists.specs.Lists.{pick}
 use Rattle.lent.specs.Lent.{Lent, Held, NoTable, readTable, tableOctets}
-use Rattle.judge.specs.Judge.{judgedOf}
-use Rattle.unit.specs.Decided.{Decided, decided}
+use Rattle.editions.specs.declared.Edition.the-variants.{Release18}
+use Rattle.calls.specs.Decided.{Decided, decided}
 use Rattle.answers.specs.Answers.{numbered}
-use Rattle.unit.specs.Unit.{Back, replyOf, settledIf, fits, settled, onTable, call}
+use Rattle.calls.specs.Call.{Back, replyOf, judged, settledIf, fits, settled, onTable, call}
 use Rattle.evening.specs.declared.Turn.{Turn}
 use Rattle.evening.specs.declared.Played as own
 use Rattle.evening.specs.Capture.{sizeIn, whole, callIn, heldIn, turnOf, Played, behind, nothing, playedIn, captured, Plays}
@@ -28,15 +28,15 @@ after k s p = behind (p .turns) (p .octets) (playedIn k (drop (p .octets) s) (p 
 pub in-parts : (j k : ℕ) (s t d : List ℕ) → playedIn (j + k) s t d ≡ after k s (playedIn j s t d)
 unfolding playedIn
 in-parts zero k s t d = rw (zero-add k) (behind-none (playedIn k s t d))
-in-parts (suc j) k s t d = rw (suc-add j k) (by (whole s) refl (in-parts j k (drop (sizeIn s) s) (call t (callIn s d) .table) (call t (callIn s d) .room)))
+in-parts (suc j) k s t d = rw (suc-add j k) (by (whole s) refl (in-parts j k (drop (sizeIn s) s) (call Release18 t (callIn s d) .table) (call Release18 t (callIn s d) .room)))
   where
     b : Back
-    b = call t (callIn s d)
+    b = call Release18 t (callIn s d)
 
     p : Played
-    p = playedIn j (drop (sizeIn s) s) (call t (callIn s d) .table) (call t (callIn s d) .room)
+    p = playedIn j (drop (sizeIn s) s) (call Release18 t (callIn s d) .table) (call Release18 t (callIn s d) .room)
 
-    by : (w : Bool) → whole s ≡ w → playedIn (j + k) (drop (sizeIn s) s) (call t (callIn s d) .table) (call t (callIn s d) .room) ≡ after k (drop (sizeIn s) s) p
+    by : (w : Bool) → whole s ≡ w → playedIn (j + k) (drop (sizeIn s) s) (call Release18 t (callIn s d) .table) (call Release18 t (callIn s d) .room) ≡ after k (drop (sizeIn s) s) p
         → playedIn (suc (j + k)) s t d ≡ after k s (playedIn (suc j) s t d)
     by false w r = rw (played-not (suc (j + k)) s t d w, played-not (suc j) s t d w, played-not k s t d w) (behind-none (nothing t d))
     by true w r =
@@ -48,10 +48,10 @@ in-parts (suc j) k s t d = rw (suc-add j k) (by (whole s) refl (in-parts j k (dr
 pub left-over : (k : ℕ) (s t d : List ℕ) → length s ≤ k → whole (drop (playedIn k s t d .octets) s) ≡ false
 unfolding playedIn
 left-over zero s t d h = not-whole s (omega (arith, four s))
-left-over (suc k) s t d h = by (whole s) refl (left-over k (drop (sizeIn s) s) (call t (callIn s d) .table) (call t (callIn s d) .room) (omega (arith, length-drop (sizeIn s) s, four s)))
+left-over (suc k) s t d h = by (whole s) refl (left-over k (drop (sizeIn s) s) (call Release18 t (callIn s d) .table) (call Release18 t (callIn s d) .room) (omega (arith, length-drop (sizeIn s) s, four s)))
   where
     p : Played
-    p = playedIn k (drop (sizeIn s) s) (call t (callIn s d) .table) (call t (callIn s d) .room)
+    p = playedIn k (drop (sizeIn s) s) (call Release18 t (callIn s d) .table) (call Release18 t (callIn s d) .room)
 
     by : (w : Bool) → whole s ≡ w → whole (drop (p .octets) (drop (sizeIn s) s)) ≡ false → whole (drop (playedIn (suc k) s t d .octets) s) ≡ false
     by false w r = rw (played-not (suc k) s t d w) w
@@ -64,10 +64,10 @@ all-whole s = left-over (length s) s (tableOctets []) (replicate 8192 0) (omega 
 pub inside : (k : ℕ) (s t d : List ℕ) → playedIn k s t d .octets ≤ length s
 unfolding playedIn
 inside zero s t d = omega arith
-inside (suc k) s t d = by (whole s) refl (inside k (drop (sizeIn s) s) (call t (callIn s d) .table) (call t (callIn s d) .room))
+inside (suc k) s t d = by (whole s) refl (inside k (drop (sizeIn s) s) (call Release18 t (callIn s d) .table) (call Release18 t (callIn s d) .room))
   where
     p : Played
-    p = playedIn k (drop (sizeIn s) s) (call t (callIn s d) .table) (call t (callIn s d) .room)
+    p = playedIn k (drop (sizeIn s) s) (call Release18 t (callIn s d) .table) (call Release18 t (callIn s d) .room)
 
     by : (w : Bool) → whole s ≡ w → p .octets ≤ length (drop (sizeIn s) s) → playedIn (suc k) s t d .octets ≤ length s
     by false w r = rw (played-not (suc k) s t d w) (omega arith)
@@ -87,19 +87,19 @@ turn-same : {b c : Back} → Same b c → turnOf b ≡ turnOf c
 unfolding turnOf
 turn-same q = λ i. record { answer = numbered (q .answer i) .number; reply = length (q .reply i); held = heldIn (q .table i) }
 
-settled-same : (b : Bool) (t d e : List ℕ) (x : Decided) → length d ≡ length e → Same (settledIf b t d x) (settledIf b t e x)
+settled-same : (b : Bool) (t d e : List ℕ) (x : Decided) → length d ≡ length e → Same (settledIf Release18 b t d x) (settledIf Release18 b t e x)
 settled-same true t d e x h = record { answer = refl; reply = refl; table = refl; room = simp (length-append, length-drop, h) }
 settled-same false t d e x h = record { answer = refl; reply = refl; table = refl; room = h }
 
-call-same : (s t d e : List ℕ) → length d ≡ length e → Same (call t (callIn s d)) (call t (callIn s e))
+call-same : (s t d e : List ℕ) → length d ≡ length e → Same (call Release18 t (callIn s d)) (call Release18 t (callIn s e))
 unfolding call settled callIn
 call-same s t d e h = by (readTable t)
   where
-    by : (l : Lent) → Same (onTable t (callIn s d) l) (onTable t (callIn s e) l)
+    by : (l : Lent) → Same (onTable Release18 t (callIn s d) l) (onTable Release18 t (callIn s e) l)
     by (Held l) =
-        let x : Decided = decided l (callIn s d .offered) (judgedOf (callIn s d .message)) in
-        let f : fits d x ≡ fits e x = ap (leb (length (replyOf x))) h in
-        rw f (settled-same (fits e x) t d e x h)
+        let x : Decided = decided Release18 l (callIn s d .offered) (judged Release18 (callIn s d .message)) in
+        let f : fits Release18 d x ≡ fits Release18 e x = ap (leb (length (replyOf Release18 x))) h in
+        rw f (settled-same (fits Release18 e x) t d e x h)
     by NoTable = record { answer = refl; reply = refl; table = refl; room = h }
 
 pub record Alike (p q : Played) : Type 0 where
@@ -117,8 +117,8 @@ any-room zero s t d e h = record { turns = refl; table = refl; octets = refl }
 any-room (suc k) s t d e h =
     let q = call-same s t d e h in
     by (whole s) (behind-alike (sizeIn s) (turn-same q)
-    (subst (λ (u : List ℕ). Alike (playedIn k (drop (sizeIn s) s) (call t (callIn s d) .table) (call t (callIn s d) .room)) (playedIn k (drop (sizeIn s) s) u (call t (callIn s e) .room))) (q .table)
-    (any-room k (drop (sizeIn s) s) (call t (callIn s d) .table) (call t (callIn s d) .room) (call t (callIn s e) .room) (q .room))))
+    (subst (λ (u : List ℕ). Alike (playedIn k (drop (sizeIn s) s) (call Release18 t (callIn s d) .table) (call Release18 t (callIn s d) .room)) (playedIn k (drop (sizeIn s) s) u (call Release18 t (callIn s e) .room))) (q .table)
+    (any-room k (drop (sizeIn s) s) (call Release18 t (callIn s d) .table) (call Release18 t (callIn s d) .room) (call Release18 t (callIn s e) .room) (q .room))))
   where
     by : (w : Bool) {p q : Played} → Alike p q → Alike (pick w p (nothing t d)) (pick w q (nothing t e))
     by true r = r

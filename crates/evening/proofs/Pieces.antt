@@ -8,7 +8,8 @@ use native.Mathlib.Nat.{zero-add, suc-add, add-zero}
 use native.Mathlib.Omega.{arith}
 use lib.ListN.{length, getD, drop, length-append, length-drop, List·getD-append}
 use lib.Seq.{drop-drop, take-append-le, drop-append-le}
-use Rattle.unit.specs.Unit.{Back, call}
+use Rattle.editions.specs.declared.Edition.the-variants.{Release18}
+use Rattle.calls.specs.Call.{Back, call}
 use Rattle.evening.specs.Capture.{sizeIn, whole, callIn, turnOf, Played, behind, nothing, playedIn}
 use Rattle.evening.proofs.Playing.{four, is-whole, within, behind-behind, behind-none, played-more, played-not}
 use Rattle.evening.proofs.Laws.{in-parts, left-over}
@@ -35,19 +36,19 @@ pub in-pieces : (j k : ℕ) (s u t d : List ℕ)
     ≡ behind (playedIn j s t d .turns) (playedIn j s t d .octets) (playedIn k (drop (playedIn j s t d .octets) s ++ u) (playedIn j s t d .table) (playedIn j s t d .room))
 unfolding playedIn
 in-pieces zero k s u t d = rw (zero-add k) (behind-none (playedIn k (s ++ u) t d))
-in-pieces (suc j) k s u t d = by (whole s) refl (in-pieces j k (drop (sizeIn s) s) u (call t (callIn s d) .table) (call t (callIn s d) .room))
+in-pieces (suc j) k s u t d = by (whole s) refl (in-pieces j k (drop (sizeIn s) s) u (call Release18 t (callIn s d) .table) (call Release18 t (callIn s d) .room))
   where
     b : Back
-    b = call t (callIn s d)
+    b = call Release18 t (callIn s d)
 
     p : Played
-    p = playedIn j (drop (sizeIn s) s) (call t (callIn s d) .table) (call t (callIn s d) .room)
+    p = playedIn j (drop (sizeIn s) s) (call Release18 t (callIn s d) .table) (call Release18 t (callIn s d) .room)
 
     then : Played → Played
     then q = behind (q .turns) (q .octets) (playedIn k (drop (q .octets) s ++ u) (q .table) (q .room))
 
     by : (w : Bool) → whole s ≡ w
-        → playedIn (length (p .turns) + k) (drop (sizeIn s) s ++ u) (call t (callIn s d) .table) (call t (callIn s d) .room)
+        → playedIn (length (p .turns) + k) (drop (sizeIn s) s ++ u) (call Release18 t (callIn s d) .table) (call Release18 t (callIn s d) .room)
         ≡ behind (p .turns) (p .octets) (playedIn k (drop (p .octets) (drop (sizeIn s) s) ++ u) (p .table) (p .room))
         → playedIn (length (playedIn (suc j) s t d .turns) + k) (s ++ u) t d ≡ then (playedIn (suc j) s t d)
     by false w r = rw (played-not (suc j) s t d w, zero-add k) (behind-none (playedIn k (s ++ u) t d))

@@ -15,7 +15,9 @@ use Rattle.octets.specs.Field.{valueAt}
 use Rattle.octets.proofs.Writing.{sets-append, sets-front}
 use Rattle.carry.specs.declared.Answer.{Answer}
 use Rattle.answers.specs.Answers.{numbered}
-use Rattle.unit.specs.Unit.{Called, call}
+use Rattle.editions.specs.declared.Edition.the-variants.{Release18}
+use Rattle.calls.specs.Call.{call}
+use Rattle.unit.specs.Unit.{Called}
 use Rattle.unit.specs.declared.Back as back
 use Rattle.evening.specs.declared.Turn.{Turn}
 use Rattle.evening.specs.Capture.{sizeIn, whole, callIn, heldIn, turnOf, Played, behind, nothing, playedIn, numbers, Turned, Plays}
@@ -78,13 +80,13 @@ module _ (t : List ℕ) where
 
 -- ---- one call
 pub turned : (s t d : List ℕ) {n v : ℕ} {b : back.Back} {a h : ℕ} {t′ d′ : List ℕ} → n ≡ sizeIn s → v ≡ valueAt 2 s 0
-    → Called (call t (record { message = take (n - 4) (drop 4 s); offered = record { 0 = v }; room = d })) b t′ d′
+    → Called (call Release18 t (record { message = take (n - 4) (drop 4 s); offered = record { 0 = v }; room = d })) b t′ d′
     → a ≡ numbered (b .answer) .number → h ≡ heldIn t′
-    → Turned (call t (callIn s d)) (record { answer = a; reply = b .octets; held = h }) t′ d′
+    → Turned (call Release18 t (callIn s d)) (record { answer = a; reply = b .octets; held = h }) t′ d′
 unfolding callIn turnOf
 turned s t d {n} {v} {b} {a} {h} {t′} {d′} e f q u w =
     let m : take (n - 4) (drop 4 s) ≡ slice 4 (sizeIn s) s = let r : 4 + (n - 4) ≡ sizeIn s = omega (arith, four s) in rw r at (take-drop (n - 4) 4 s) in
-    let k : Called (call t (callIn s d)) b t′ d′ = rw (m, f) at q in
+    let k : Called (call Release18 t (callIn s d)) b t′ d′ = rw (m, f) at q in
     record {
       turn = λ i. record { answer = (u ∙ ap (λ (x : Answer). numbered x .number) (k .answer)) i; reply = k .octets i; held = (w ∙ ap heldIn (k .table)) i };
       table = k .table;
@@ -99,7 +101,7 @@ pub behind-none : (p : Played) → p ≡ behind [] 0 p
 behind-none p = rw (zero-add (p .octets))
 
 pub played-more : (k : ℕ) (s t d : List ℕ) → whole s ≡ true
-    → playedIn (suc k) s t d ≡ behind (turnOf (call t (callIn s d)) ∷ []) (sizeIn s) (playedIn k (drop (sizeIn s) s) (call t (callIn s d) .table) (call t (callIn s d) .room))
+    → playedIn (suc k) s t d ≡ behind (turnOf (call Release18 t (callIn s d)) ∷ []) (sizeIn s) (playedIn k (drop (sizeIn s) s) (call Release18 t (callIn s d) .table) (call Release18 t (callIn s d) .room))
 unfolding playedIn
 played-more k s t d e = rw e
 
@@ -151,7 +153,7 @@ module _ {p : Played} {k : ℕ} {s t₀ d₀ o t d e : List ℕ} {at i : ℕ} (g
   going-on size w = omega (arith, within (drop at s) w, length-drop at s, g .inside)
 
   pub going-more : {n : ℕ} {x : Turn} {t′ d′ e′ : List ℕ} → i < k → n ≡ sizeIn (drop at s) → whole (drop at s) ≡ true
-      → Turned (call t (callIn (drop at s) d)) x t′ d′ → length t′ ≡ length t → length d′ ≡ length d
+      → Turned (call Release18 t (callIn (drop at s) d)) x t′ d′ → length t′ ≡ length t → length d′ ≡ length d
       → e′ ≡ sets e (3 * i) (x .answer ∷ x .reply ∷ x .held ∷ []) → Going p k s t₀ d₀ o t′ d′ e′ (at + n) (i + 1)
   going-more {n} {x} {t′} {d′} {e′} h size w q a b f = record {
     passed = g .passed ++ x ∷ [];

@@ -11,7 +11,8 @@ use Rattle.lists.specs.Lists.{pick}
 use Rattle.octets.specs.Field.{valueAt}
 use Rattle.lent.specs.Lent.{tableOctets}
 use Rattle.answers.specs.Answers.{numbered}
-use Rattle.unit.specs.Unit.{Call, Back, call}
+use Rattle.editions.specs.declared.Edition.the-variants.{Release18}
+use Rattle.calls.specs.Call.{Call, Back, call}
 use Rattle.evening.specs.declared.Turn.{Turn}
 use Rattle.evening.specs.declared.Played as own
 
@@ -53,7 +54,7 @@ nothing t d = record { turns = []; table = t; room = d; octets = 0 }
 unfoldable pub playedIn : ℕ → List ℕ → List ℕ → List ℕ → Played
 playedIn zero s t d = nothing t d
 playedIn (suc k) s t d =
-    let b : Back = call t (callIn s d) in
+    let b : Back = call Release18 t (callIn s d) in
     pick (whole s) (behind (turnOf b ∷ []) (sizeIn s) (playedIn k (drop (sizeIn s) s) (b .table) (b .room))) (nothing t d)
 
 -- a capture whole, from the empty table: all entries that are whole, for each has four octets and more;

@@ -7,8 +7,10 @@ ghost use lib.ListN.{length};
 ghost use lib.Seq.{sets};
 ghost use Rattle.lists.specs.Lists.{pick};
 ghost use Rattle.octets.specs.Field.{valueAt};
-ghost use Rattle.unit.specs.Unit.{call};
+ghost use Rattle.editions.specs.declared.Edition.the-variants.{Release18};
+ghost use Rattle.calls.specs.Call.{call};
 ghost use Rattle.evening.specs.Capture.{sizeIn, whole, callIn, heldIn, playedIn, Turned, Plays};
+use editions::Edition;
 use identity::MceId;
 
 // What an entry gives: the number of the answer, the reply's octets or 0, and how many associations are held afterwards.
@@ -58,10 +60,10 @@ fn size(s: &[u8]) -> usize
 // The entry at the front, of n octets.
 fn take_turn(s: &[u8], n: usize, table: &mut [u8], room: &mut [u8]) -> Turn
     requires { ⌜ (n ≡ sizeIn (now s)) × (whole (now s) ≡ true) ⌝ }
-    ensures { λ r. ⌜ Turned (call (now (table .entry)) (callIn (now (s .entry)) (now (room .entry)))) r (now (table .exit)) (now (room .exit)) ⌝ }
+    ensures { λ r. ⌜ Turned (call Release18 (now (table .entry)) (callIn (now (s .entry)) (now (room .entry)))) r (now (table .exit)) (now (room .exit)) ⌝ }
 {
     let offered = two(s, 0);
-    let b = unit::call(table, &s[4..n], MceId(offered), room);
+    let b = unit::call(Edition::Release18, table, &s[4..n], MceId(offered), room);
     let a = b.answer;
     let answer = answers::number_of(a) as usize;
     let now_held = held(table);

@@ -35,9 +35,3 @@ pub struct Item {
     pub mme: Mme,
     pub mce: Mce,
 }
-
-// The first count rows are the items.
-pub struct Items {
-    pub rows: [Item; 256],
-    pub count: usize,
-}

@@ -1,5 +1,3 @@
-pub mod Answers
-pub mod Determined
 pub mod Back
 pub mod Again
 pub mod Different

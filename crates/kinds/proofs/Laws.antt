@@ -1,17 +1,19 @@
--- Values by their kinds.
+-- Values by their kinds. Whether a value can be read is whether its reading gives something, for every kind.
 -- Assumes nothing.
 use Prim.Native.Nat.{ℕ}
 use mathlib.Core.Path.{_≡_, _∙_, refl, ap, sym}
 use mathlib.Core.List.{List}
-use Rattle.identity.specs.declared.Item.{Item}
-use Rattle.octets.specs.Read.{Read, got, stop, _>>=_, _>>_}
-use Rattle.octets.specs.Found.{foundGate}
-use Rattle.items.specs.Items.{ResetType, whole, part}
-use Rattle.items.specs.Found.{itemsRead, resetRead}
-use Rattle.diagnostics.specs.Diagnostics.{Diagnostics}
-use Rattle.diagnostics.specs.Found.{diagnosticsRead}
+use lib.ListN.{take}
+use Rattle.octets.specs.Read.{Read, got, _>>=_, _>>_}
+use Rattle.octets.specs.declared.Span.{Span}
+use Rattle.values.specs.Values.{mmeAt, mceAt, tmgiAt, sessionAt, causeAt}
+use Rattle.items.specs.Items.{itemsAt, resetAt}
+use Rattle.diagnostics.specs.Diagnostics.{diagnosticsAt}
+use Rattle.entry_words.proofs.Laws.{same-gate}
 use Rattle.rows.specs.declared.Kind.{Kind}
-use Rattle.rows.specs.declared.Kind.the-variants.{Carried}
+use Rattle.rows.specs.declared.Kind.the-variants.{Carried, Mme, Mce, Tmgi, Session, Cause, ResetType, Acknowledged, Diagnostics}
+use Rattle.meaning.specs.Value.{Value, mme, mce, tmgi, session, cause, reset, list, diagnostics}
+use Rattle.meaning.specs.Reading.{readAs}
 use Rattle.kinds.specs.Kinds.{valueAt}
 
 -- what is carried is not read
@@ -22,19 +24,15 @@ carried s at = refl
 pub of-kind : {k j : Kind} {z : Read Unit} (s : List ℕ) (at : ℕ) → k ≡ j → z ≡ valueAt j s at → z ≡ valueAt k s at
 of-kind s at q r = r ∙ ap (λ (k : Kind). valueAt k s at) (sym q)
 
--- an answer with an array passes where its reading gave something
-pub reset-gate : (r : Read ResetType) → foundGate (resetRead r .gate) ≡ r >> got tt
-unfolding _>>=_
-reset-gate (got whole) = refl
-reset-gate (got (part is)) = refl
-reset-gate (stop x) = refl
-
-pub items-gate : (r : Read (List Item)) → foundGate (itemsRead r .gate) ≡ r >> got tt
-unfolding _>>=_
-items-gate (got is) = refl
-items-gate (stop x) = refl
-
-pub diagnostics-gate : (r : Read Diagnostics) → foundGate (diagnosticsRead r .gate) ≡ r >> got tt
-unfolding _>>=_
-diagnostics-gate (got d) = refl
-diagnostics-gate (stop x) = refl
+-- the gate of a value and the reading of it
+pub as-read : (k : Kind) (s : List ℕ) (v : Span) → valueAt k (take (v .to) s) (v .from) ≡ (readAs k s v >> got tt)
+unfolding valueAt readAs _>>=_
+as-read Carried s v = refl
+as-read Mme s v = same-gate (mmeAt (take (v .to) s) (v .from)) mme
+as-read Mce s v = same-gate (mceAt (take (v .to) s) (v .from)) mce
+as-read Tmgi s v = same-gate (tmgiAt (take (v .to) s) (v .from)) tmgi
+as-read Session s v = same-gate (sessionAt (take (v .to) s) (v .from)) session
+as-read Cause s v = same-gate (causeAt (take (v .to) s) (v .from)) cause
+as-read ResetType s v = same-gate (resetAt (take (v .to) s) (v .from)) reset
+as-read Acknowledged s v = same-gate (itemsAt (take (v .to) s) (v .from)) list
+as-read Diagnostics s v = same-gate (diagnosticsAt (take (v .to) s) (v .from)) diagnostics

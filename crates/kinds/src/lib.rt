@@ -10,7 +10,7 @@ use values::MmeRead;
 use values::SessionRead;
 use values::TmgiRead;
 
-// A value of a kind can be read, or why not.
+// A value of a kind can be read, or why not. Nothing is kept of it.
 pub fn value_at(kind: Kind, s: &[u8], at: usize) -> Gate
     ensures { λ r. ⌜ foundGate r ≡ valueAt kind (now (s .entry)) at ⌝ }
 {
@@ -36,8 +36,8 @@ pub fn value_at(kind: Kind, s: &[u8], at: usize) -> Gate
             CauseRead::Is(_) => Gate::Pass,
             CauseRead::Stop(x) => Gate::Stop(x),
         },
-        Kind::ResetType => items::reset_at(s, at).gate,
-        Kind::Acknowledged => items::items_at(s, at).gate,
-        Kind::Diagnostics => diagnostics::diagnostics_at(s, at).gate,
+        Kind::ResetType => item_words::reset_gate(s, at),
+        Kind::Acknowledged => item_words::items_gate(s, at),
+        Kind::Diagnostics => entry_words::diagnostics_gate(s, at),
     }
 }

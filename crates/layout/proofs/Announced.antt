@@ -1,17 +1,14 @@
--- The lists beside the slots are those that the values announce. The last to announce a list is the only one, for a lawful table has one row
+-- The lists beside the slots are those that the values announce. The first to announce a list is the only one, for a lawful table has one row
 -- for items and one for entries: so what stands in front changes nothing for what stands behind.
 -- Assumes nothing.
-use mathlib.Core.Path.{_≡_, _∙_, refl, sym, ap}
-use mathlib.Core.Bool.{Bool, true, false, not, _&&_}
-use mathlib.Core.List.{List, [], _∷_, _++_}
+use mathlib.Core.Path.{_≡_, refl, sym, ap}
+use mathlib.Core.Bool.{Bool, true, false}
+use mathlib.Core.List.{List, [], _∷_, List·Memᴰ, List·Memᴰ·head, List·Memᴰ·tail}
 use Prim.Native.Nat.{ℕ, suc, _≤_, _<_}
 use native.Mathlib.Omega.{arith}
-use borrow.Author.Tests.{leb-true, ltb-true, ltb-false, ne-eqb}
-use lib.Dec.{ltb, leb, eqb}
 use lib.ListN.{length}
-use Rattle.lists.specs.Lists.{pick, keep, some, apart}
-use Rattle.lists.proofs.Tests.{on-pick, and-left, and-right, or-left, or-right}
-use Rattle.lists.proofs.Some.{some-cong, some-nothing, some-keep}
+use Rattle.lists.specs.Lists.{pick}
+use Rattle.lists.proofs.Tests.{on-pick}
 use Rattle.octets.specs.Many.{Each}
 use Rattle.octets.specs.declared.Span.{Span}
 use Rattle.identity.specs.declared.Item.{Item}
@@ -21,6 +18,7 @@ use Rattle.diagnostics.specs.Diagnostics.{Diagnostics}
 use Rattle.rows.specs.declared.Kind.{Kind}
 use Rattle.rows.specs.declared.Row.{Row}
 use Rattle.editions.specs.Lawful.{fills, lawful}
+use Rattle.editions.proofs.Tables.{lawful-rest, lawful-first}
 use Rattle.meaning.specs.Value.{Value, Given, given, absent, carried, mme, mce, tmgi, session, cause, reset, list, diagnostics}
 use Rattle.meaning.specs.Ranges.{valueKind}
 use Rattle.layout.specs.Record.{Lists, announced, listsOf}
@@ -29,10 +27,7 @@ use Rattle.layout.proofs.SlotBack.{Agrees, AgreesGiven}
 
 -- ---- one value in front of others
 
-no : {A : Type 0} → true ≡ false → A
-no e = absurd (let z : _≡_ {A = ℕ} 0 1 = cc in omega arith)
-
-other-items : (w : Value Span) (is : List Item) (l : Lists) → (ltb 0 (fills (valueKind w)) && eqb 6 (fills (valueKind w))) ≡ false → Agrees l w
+other-items : (w : Value Span) (is : List Item) (l : Lists) → (0 < fills (valueKind w) → 6 ≡ fills (valueKind w) → ⊥) → Agrees l w
     → Agrees (record { items = is; entries = l .entries }) w
 other-items (carried x) is l h a = a
 other-items (mme x) is l h a = a
@@ -41,11 +36,11 @@ other-items (tmgi x) is l h a = a
 other-items (session x) is l h a = a
 other-items (cause x) is l h a = a
 other-items (reset whole) is l h a = a
-other-items (reset (part js)) is l h a = no h
-other-items (list js) is l h a = no h
+other-items (reset (part js)) is l h a = absurd (h (omega arith) refl)
+other-items (list js) is l h a = absurd (h (omega arith) refl)
 other-items (diagnostics d) is l h a = a
 
-other-entries : (w : Value Span) (es : List Entry) (l : Lists) → (ltb 0 (fills (valueKind w)) && eqb 7 (fills (valueKind w))) ≡ false → Agrees l w
+other-entries : (w : Value Span) (es : List Entry) (l : Lists) → (0 < fills (valueKind w) → 7 ≡ fills (valueKind w) → ⊥) → Agrees l w
     → Agrees (record { items = l .items; entries = es }) w
 other-entries (carried x) es l h a = a
 other-entries (mme x) es l h a = a
@@ -56,10 +51,10 @@ other-entries (cause x) es l h a = a
 other-entries (reset whole) es l h a = a
 other-entries (reset (part js)) es l h a = a
 other-entries (list js) es l h a = a
-other-entries (diagnostics d) es l h a = no h
+other-entries (diagnostics d) es l h a = absurd (h (omega arith) refl)
 
--- no other fills what this kind does: what stands behind still agrees
-in-front : (v w : Value Span) (l : Lists) → (ltb 0 (fills (valueKind w)) && eqb (fills (valueKind v)) (fills (valueKind w))) ≡ false → Agrees l w → Agrees (announced v l) w
+-- what fills another list than the value in front still agrees
+in-front : (v w : Value Span) (l : Lists) → (0 < fills (valueKind v) → 0 < fills (valueKind w) → fills (valueKind v) ≡ fills (valueKind w) → ⊥) → Agrees l w → Agrees (announced v l) w
 in-front (carried x) w l h a = a
 in-front (mme x) w l h a = a
 in-front (mce x) w l h a = a
@@ -67,9 +62,9 @@ in-front (tmgi x) w l h a = a
 in-front (session x) w l h a = a
 in-front (cause x) w l h a = a
 in-front (reset whole) w l h a = a
-in-front (reset (part is)) w l h a = other-items w is l h a
-in-front (list is) w l h a = other-items w is l h a
-in-front (diagnostics d) w l h a = other-entries w (pick (d .head .listed) (d .entries) (l .entries)) l h a
+in-front (reset (part is)) w l h a = other-items w is l (h (omega arith)) a
+in-front (list is) w l h a = other-items w is l (h (omega arith)) a
+in-front (diagnostics d) w l h a = other-entries w (pick (d .head .listed) (d .entries) (l .entries)) l (h (omega arith)) a
 
 own-entries : (d : Diagnostics) (es : List Entry) (b : Bool) → d .head .listed ≡ b → DiagnosticsFit d → pick b (pick b (d .entries) es) [] ≡ d .entries
 own-entries d es true e f = refl
@@ -90,74 +85,27 @@ own (diagnostics d) l f = own-entries d (l .entries) (d .head .listed) refl f
 
 -- ---- all values of a table
 
--- a row fills what a value of this kind does
-abbrev shares : Kind → Row → Bool
-shares k q = ltb 0 (fills (q .kind)) && eqb (fills k) (fills (q .kind))
-
+-- no row fills what a value of this kind does
 abbrev Alone : Kind → List Row → Type 0
-Alone k t = some (shares k) t ≡ false
-
-abbrev filled : Row → Bool
-filled q = ltb 0 (fills (q .kind))
-
-abbrev alike : Row → Row → Bool
-alike r q = eqb (fills (r .kind)) (fills (q .kind))
+Alone k t = (q : Row) → List·Memᴰ q t → 0 < fills k → 0 < fills (q .kind) → fills k ≡ fills (q .kind) → ⊥
 
 all-behind : (v : Value Span) (l : Lists) (t : List Row) (vs : List (Given Span)) → Alone (valueKind v) t → RowsFit t vs → Each (AgreesGiven l) vs → Each (AgreesGiven (announced v l)) vs
 all-behind v l [] [] n f a = tt
 all-behind v l [] (w ∷ vs) n f a = absurd f
 all-behind v l (r ∷ t) [] n f a = absurd f
-all-behind v l (r ∷ t) (given w ∷ vs) n f a = (
-  in-front v w l (rw (f .0 .0) (or-left (shares (valueKind v) r) (some (shares (valueKind v)) t) n)) (a .0),
-  all-behind v l t vs (or-right (shares (valueKind v) r) (some (shares (valueKind v)) t) n) (f .1) (a .1),
-)
-all-behind v l (r ∷ t) (absent ∷ vs) n f a = (tt, all-behind v l t vs (or-right (shares (valueKind v) r) (some (shares (valueKind v)) t) n) (f .1) (a .1))
+all-behind v l (r ∷ t) (given w ∷ vs) n f a =
+    (in-front v w l (rw (f .0 .0) (n r (List·Memᴰ·head refl))) (a .0), all-behind v l t vs (λ q m. n q (List·Memᴰ·tail m)) (f .1) (a .1))
+all-behind v l (r ∷ t) (absent ∷ vs) n f a = (tt, all-behind v l t vs (λ q m. n q (List·Memᴰ·tail m)) (f .1) (a .1))
 
-nothing-shared : (k n : ℕ) → k ≡ 0 → (ltb 0 n && eqb k n) ≡ false
-nothing-shared k n z = by (ltb 0 n) refl
-  where
-    by : (b : Bool) → ltb 0 n ≡ b → (b && eqb k n) ≡ false
-    by true e = ne-eqb k n (λ q. omega (arith, ltb-true 0 n e))
-    by false e = refl
-
-not-true : (b : Bool) → not b ≡ true → b ≡ false
-not-true true e = sym e
-not-true false e = refl
-
--- a row is alone if it fills something: by the test of the table; if it fills nothing: by what that means
-alone : (r : Row) (t : List Row) → apart alike (keep filled (r ∷ t)) ≡ true
-    → Alone (r .kind) t × (apart alike (keep filled t) ≡ true)
-alone r t h = by (ltb 0 (fills (r .kind))) refl h
-  where
-    by : (b : Bool) → ltb 0 (fills (r .kind)) ≡ b → apart alike (pick b (r ∷ []) [] ++ keep filled t) ≡ true → Alone (r .kind) t × (apart alike (keep filled t) ≡ true)
-    by true e h = (
-      sym (some-keep filled (alike r) t) ∙ not-true (some (alike r) (keep filled t)) (and-left (not (some (alike r) (keep filled t))) (apart alike (keep filled t)) h),
-      and-right (not (some (alike r) (keep filled t))) (apart alike (keep filled t)) h,
-    )
-    by false e h =
-        let z : fills (r .kind) ≡ 0 = omega (arith, ltb-false 0 (fills (r .kind)) e) in
-        (some-cong (shares (r .kind)) (λ (q : Row). false) (λ q. nothing-shared (fills (r .kind)) (fills (q .kind)) z) t ∙ some-nothing t, h)
-
-all-agree : (t : List Row) (vs : List (Given Span)) → apart alike (keep filled t) ≡ true
-    → RowsFit t vs → Each (AgreesGiven (listsOf vs)) vs
+pub announced-agree : (t : List Row) (vs : List (Given Span)) → lawful t ≡ true → RowsFit t vs → Each (AgreesGiven (listsOf vs)) vs
 unfolding listsOf
-all-agree [] [] h f = tt
-all-agree [] (v ∷ vs) h f = absurd f
-all-agree (r ∷ t) [] h f = absurd f
-all-agree (r ∷ t) (given v ∷ vs) h f =
-    let x = alone r t h in
-    (own v (listsOf vs) (f .0 .1), all-behind v (listsOf vs) t vs (rw (f .0 .0) (x .0)) (f .1) (all-agree t vs (x .1) (f .1)))
-all-agree (r ∷ t) (absent ∷ vs) h f = (tt, all-agree t vs (alone r t h .1) (f .1))
-
-abbrev same-id : Row → Row → Bool
-same-id r q = eqb (r .id) (q .id)
-
-module _ (t : List Row) (lawfully : lawful t ≡ true) where
-  pub few-rows : length t ≤ 12
-  few-rows = leb-true (length t) 12 (and-left (leb (length t) 12) (apart same-id t) (and-left (leb (length t) 12 && apart same-id t) (apart alike (keep filled t)) lawfully))
-
-  pub announced-agree : (vs : List (Given Span)) → RowsFit t vs → Each (AgreesGiven (listsOf vs)) vs
-  announced-agree vs f = all-agree t vs (and-right (leb (length t) 12 && apart same-id t) (apart alike (keep filled t)) lawfully) f
+announced-agree [] [] h f = tt
+announced-agree [] (v ∷ vs) h f = absurd f
+announced-agree (r ∷ t) [] h f = absurd f
+announced-agree (r ∷ t) (given v ∷ vs) h f =
+    let alone : Alone (valueKind v) t = rw (f .0 .0) (λ q m k. lawful-first r t h k q m) in
+    (own v (listsOf vs) (f .0 .1), all-behind v (listsOf vs) t vs alone (f .1) (announced-agree t vs (lawful-rest r t h) (f .1)))
+announced-agree (r ∷ t) (absent ∷ vs) h f = (tt, announced-agree t vs (lawful-rest r t h) (f .1))
 
 -- ---- what fits announces what fits
 

@@ -29,13 +29,14 @@ use Rattle.editions.specs.declared.Edition.{Edition}
 use Rattle.editions.specs.declared.Named.{Named}
 use Rattle.editions.specs.declared.Named.the-variants as named
 use Rattle.editions.specs.Editions.{tableOf, numberOf, numberedBy}
+use Rattle.editions.proofs.Tables.{lawful-count}
 use Rattle.meaning.specs.Value.{Given, Record}
 use Rattle.layout.specs.Rows.{mmeRow, mceRow, itemRow, entryRow, listOctets, rowMme, rowMce, rowItem, rowEntry, eachRow}
 use Rattle.layout.specs.Record.{Lists, listsOf, slotOctets, recordOctets, listsIn, slotsSay, saidRecord, isRecord, noRecord, lentAs, readRecord}
 use Rattle.layout.specs.Held.{ItemsFit, EntriesFit, Held}
 use Rattle.layout.proofs.Sizes.{item-size, entry-size, items-size, entries-size, rows-size, record-size}
 use Rattle.layout.proofs.SlotBack.{two-back, slots-back}
-use Rattle.layout.proofs.Announced.{few-rows, announced-agree, ListsFit, lists-fit, rows-count}
+use Rattle.layout.proofs.Announced.{announced-agree, ListsFit, lists-fit, rows-count}
 
 -- ---- rows
 
@@ -96,7 +97,7 @@ module _ (e : Edition) (r : Record) (h : Held e r) where
   fit = lists-fit (tableOf e (r .message)) (r .values) (h .values)
 
   twelve : length (r .values) ≤ 12
-  twelve = omega (arith, rows-count (tableOf e (r .message)) (r .values) (h .values), few-rows (tableOf e (r .message)) (h .table))
+  twelve = omega (arith, rows-count (tableOf e (r .message)) (r .values) (h .values), lawful-count (tableOf e (r .message)) (h .table))
 
   pub held-size : length (recordOctets e r) ≡ 2662
   held-size = record-size e r twelve (fit .items .few) (fit .entries .few)
@@ -122,7 +123,7 @@ module _ (e : Edition) (r : Record) (h : Held e r) where
       let x = eachOctets slotOctets (r .values) in
       let more = listOctets 1536 itemRow (listsOf (r .values) .items) ++ listOctets 1024 entryRow (listsOf (r .values) .entries) in
       rw (append-assoc x (replicate (96 - length x) 0) more)
-      (slots-back (listsOf (r .values)) (tableOf e (r .message)) (r .values) (replicate (96 - length x) 0 ++ more) (h .values) (announced-agree (tableOf e (r .message)) (h .table) (r .values) (h .values)))
+      (slots-back (listsOf (r .values)) (tableOf e (r .message)) (r .values) (replicate (96 - length x) 0 ++ more) (h .values) (announced-agree (tableOf e (r .message)) (r .values) (h .table) (h .values)))
 
   said-back : saidRecord e (r .message) (recordOctets e r) ≡ r
   unfolding saidRecord recordOctets

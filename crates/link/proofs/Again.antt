@@ -1,69 +1,95 @@
--- 01's round trips over the octets of records: nothing that was read is cut in its record's octets, and rewriting what was read gives the octets.
+-- 01's round trips over the octets of records: nothing that was read is cut in its record's octets, and rewriting what was read gives the octets;
+-- and what was written is the message that stands in front of the room, so records that differ have messages that differ.
 -- Assumes nothing.
-use Prim.Native.Nat.{ℕ, _≤_}
+use Prim.Native.Nat.{ℕ, _≤_, _<_}
 use mathlib.Core.Path.{_≡_, refl, sym, ap, _∙_}
 use mathlib.Core.Bool.{Bool, true, false}
 use mathlib.Core.List.{List, _++_}
 use native.Mathlib.Omega.{arith}
-use borrow.Author.Tests.{le-leb}
+use borrow.Author.Tests.{le-leb, lt-ltb}
 use lib.Dec.{leb}
 use lib.ListN.{length, take, drop}
 use lib.Seq.{take-append-seam}
 use Rattle.lists.specs.Lists.{pick}
 use Rattle.octets.specs.Stands.{Octets}
-use Rattle.records.specs.declared.Record.{Record}
-use Rattle.opened.specs.declared.Outcome.{Outcome}
-use Rattle.opened.specs.declared.Outcome.the-variants as outcome
-use Rattle.messages.specs.Verdict.{readOf}
-use Rattle.ties.specs.Ties.{Rewritable}
-use Rattle.ties.proofs.Again.{rewritten}
-use Rattle.writer.specs.Written.{writtenIn}
-use Rattle.record_out.specs.Layout.{recordOctets, recordOut}
-use Rattle.record_in.specs.RecordIn.{Is, Lent, readRecord}
-use Rattle.record_in.proofs.OneForm.{one-form}
-use Rattle.record_in.proofs.ReadGood.{nothing-cut}
-use Rattle.link.specs.Link.{Given, given, recorded, refused, readAs, readFor, writeAs, writeFor}
+use Rattle.editions.specs.declared.Edition.the-variants.{Release18}
+use Rattle.meaning.specs.Value.{Record}
+use Rattle.meaning.specs.Written.{Encoded, octets, none}
+use Rattle.verdicts.specs.Verdict.{Understood, understood, every, readOf}
+use Rattle.layout.specs.Record.{recordOctets, recordOut, isRecord, readRecord, written}
+use Rattle.layout.proofs.RecordBack.{held-size, record-back}
+use Rattle.plan.specs.declared.Written.the-variants as plan
+use Rattle.plan.specs.Written.{Writing, kept, front, writtenIn}
+use Rattle.round_trips.specs.Ties.{Rewritable}
+use Rattle.round_trips.proofs.Accepted.{opened}
+use Rattle.round_trips.proofs.Again.{rewritten}
+use Rattle.round_trips.proofs.LentDiffer.{lent-differ}
+use Rattle.demands.proofs.Sound.{read-sound}
+use Rattle.link.specs.Link.{Given, given, recorded, readFor, writtenAs, writeFor}
 use Rattle.link.specs.Again.{recordAt, Again}
+use Rattle.reader.proofs.Record.{read-held}
+
+-- ---- what was read
 
 -- the octets of a record of that size stand in front
-put-front : (r : Record) (d : List ℕ) → length (recordOctets r) ≡ 2662 → leb 2662 (length d) ≡ true → take 2662 (recordOut r d) ≡ recordOctets r
-put-front r d n e = rw (e, ← n) (take-append-seam (recordOctets r) (drop (length (recordOctets r)) d))
+put-front : (r : Record) (d : List ℕ) → length (recordOctets Release18 r) ≡ 2662 → leb 2662 (length d) ≡ true → take 2662 (recordOut Release18 r d) ≡ recordOctets Release18 r
+put-front r d n e = rw (e, ← n) (take-append-seam (recordOctets Release18 r) (drop (length (recordOctets Release18 r)) d))
 
-module _ (s : List ℕ) (o : Octets s) where
-  size : length (recordOctets (readOf s .message)) ≡ 2662
-  size = one-form .size _ _ (nothing-cut .back s o)
+module _ (s d : List ℕ) (u : Understood) (o : Octets s) (h : 2662 ≤ length d) (q : readOf Release18 every s ≡ understood u) where
+  put-room : readFor s d .room ≡ recordOut Release18 (u .what) d
+  unfolding readFor recorded
+  put-room = let e = le-leb 2662 (length d) h in rw (q, e)
 
-  module _ (d : List ℕ) where
-    -- a record was put: it was read, and there was room
-    put : (b : Bool) → leb 2662 (length d) ≡ b → (n : ℕ) → pick {A = Given} b (given n 0 2662 (recordOut (readOf s .message) d)) (refused 10 0 d) .answer .octets ≡ 2662
-        → take 2662 (pick {A = Given} b (given n 0 2662 (recordOut (readOf s .message) d)) (refused 10 0 d) .room) ≡ recordOctets (readOf s .message)
-    put true e n q = put-front (readOf s .message) d size e
-    put false e n q = absurd (omega arith)
+  record-at : recordAt s d ≡ recordOctets Release18 (u .what)
+  record-at = ap (take 2662) put-room ∙ put-front (u .what) d (held-size Release18 (u .what) (read-held Release18 s o q)) (le-leb 2662 (length d) h)
 
-    by-outcome : (x : Outcome) → readAs d (readOf s .message) x .answer .octets ≡ 2662 → take 2662 (readAs d (readOf s .message) x .room) ≡ recordOctets (readOf s .message)
-    unfolding recorded
-    by-outcome outcome.Accepted q = put (leb 2662 (length d)) refl 0 q
-    by-outcome (outcome.Misplaced k) q = put (leb 2662 (length d)) refl 5 q
-    by-outcome outcome.Rejected q = put (leb 2662 (length d)) refl 5 q
-    by-outcome outcome.TooLong q = absurd (omega arith)
-    by-outcome (outcome.Stopped x) q = absurd (omega arith)
-    by-outcome outcome.NotAmong q = absurd (omega arith)
+  whole : readRecord Release18 (recordAt s d) ≡ isRecord (u .what)
+  whole = ap (readRecord Release18) record-at ∙ record-back Release18 (u .what) (read-held Release18 s o q)
 
-    record-at : readFor s d .answer .octets ≡ 2662 → recordAt s d ≡ recordOctets (readOf s .message)
-    unfolding readFor
-    record-at q = by-outcome (readOf s .outcome) q
+  -- the criticality that was read
+  root : u .what .crit < 3
+  root =
+      let e : u .what .crit ≡ u .frame .crit = ap (λ (y : Understood). y .what .crit) (sym (opened Release18 every s u q .is)) in
+      let c = read-sound Release18 s o every u q .frame .crit in
+      omega arith
 
-    whole : readFor s d .answer .octets ≡ 2662 → readRecord (recordAt s d) ≡ Is (readOf s .message)
-    whole q = rw (record-at q) (nothing-cut .back s o)
+-- ---- written again
 
-    accepted : readOf s .outcome ≡ outcome.Accepted → 2662 ≤ length d → readFor s d .answer .octets ≡ 2662
-    unfolding readFor recorded
-    accepted a h = rw (a, le-leb 2662 (length d) h)
+written-again : (s d : List ℕ) → Octets s → (g : Rewritable Release18 s) → 2662 ≤ length d → written Release18 (recordAt s d) s ≡ octets s
+unfolding written
+written-again s d o g h =
+    rw (whole s d (g .what) o h (g .read), lt-ltb (g .what .what .crit) 3 (root s d (g .what) o h (g .read))) (rewritten Release18 s g)
 
-    again : (e : List ℕ) → Rewritable s → 2662 ≤ length d → length s ≤ length e → writeFor (recordAt s d) s e ≡ given 0 0 (length s) (s ++ drop (length s) e)
-    unfolding writeFor writtenIn
-    again e r h k =
-        ap (writeAs s e) (whole (accepted (r .accepted) h)) ∙ rw (rewritten s r, le-leb (length s) (length e) k)
+fits-front : (os d : List ℕ) → length os ≤ length d → writtenAs (writtenIn d (octets os)) ≡ given 0 0 (length os) (os ++ drop (length os) d)
+unfolding writtenIn
+fits-front os d h = rw (le-leb (length os) (length d) h)
+
+again : (s d e : List ℕ) → Octets s → Rewritable Release18 s → 2662 ≤ length d → length s ≤ length e → writeFor (recordAt s d) s e ≡ given 0 0 (length s) (s ++ drop (length s) e)
+unfolding writeFor
+again s d e o g h k = ap (λ (x : Encoded). writtenAs (writtenIn e x)) (written-again s d o g h) ∙ fits-front s e k
+
+-- ---- a message that stands in front of the room is what was written
+
+was-written : (d message : List ℕ) (x : Encoded) → writtenAs (writtenIn d x) ≡ given 0 0 (length message) (message ++ drop (length message) d) → x ≡ octets message
+unfolding writtenIn
+was-written d message none q = absurd (omega (arith, ap (λ (g : Given). g .answer .answer) q))
+was-written d message (octets os) q = by (leb (length os) (length d)) q
+  where
+    by : (b : Bool) → writtenAs (pick {A = Writing} b (front d os) (kept plan.NoRoom d)) ≡ given 0 0 (length message) (message ++ drop (length message) d) → octets os ≡ octets message
+    by true q =
+        let n : length os ≡ length message = ap (λ (g : Given). g .answer .octets) q in
+        let r : os ++ drop (length os) d ≡ message ++ drop (length message) d = ap (λ (g : Given). g .room) q in
+        let z : take (length os) (message ++ drop (length message) d) ≡ message = ap (λ (k : ℕ). take k (message ++ drop (length message) d)) n ∙ take-append-seam message (drop (length message) d) in
+        ap octets (sym (take-append-seam os (drop (length os) d)) ∙ (ap (take (length os)) r ∙ z))
+    by false q = absurd (omega (arith, ap (λ (g : Given). g .answer .answer) q))
+
+wrote : (s values d message : List ℕ) → writeFor s values d ≡ given 0 0 (length message) (message ++ drop (length message) d) → written Release18 s values ≡ octets message
+unfolding writeFor
+wrote s values d message q = was-written d message (written Release18 s values) q
 
 pub over-records : Again
-over-records = record { whole = λ s d o. whole s o d; rewritten = λ s d e o. again s o d e }
+over-records = record {
+  whole = λ s d u o h q. whole s d u o h q;
+  rewritten = λ s d e o g h k. again s d e o g h k;
+  different = λ s z values others d e message o p v w x y. lent-differ Release18 s z values others message o p v w (wrote s values d message (x .given)) (wrote z others e message (y .given));
+}

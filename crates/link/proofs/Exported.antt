@@ -11,7 +11,8 @@ use borrow.Fn.Kinds.{Dens, resT, endedOf}
 use lib.ListN.{length, take, drop}
 use lib.Seq.{take-append-seam, drop-append-seam}
 use Rattle.octets.specs.Stands.{Octets}
-use Rattle.unit.specs.Unit.{Call, call}
+use Rattle.editions.specs.declared.Edition.the-variants.{Release18}
+use Rattle.calls.specs.Call.{Call, call}
 use Rattle.demands.specs.Answered.{Handed as HandedOver}
 use Rattle.demands.proofs.Demand.{demand-1}
 use Rattle.link.specs.declared.Answer.{Answer}
@@ -26,23 +27,23 @@ module _ (t m : List ℕ) (o : ℕ) (d : List ℕ) where
   handedOver = record { message = m; offered = record { 0 = o }; room = d }
 
   -- of what the statement says
-  promised : (r : Answer) (t′ d′ : List ℕ) → Handed (call t handedOver) r t′ d′ → Promised t m o d r t′ d′
+  promised : (r : Answer) (t′ d′ : List ℕ) → Handed (call Release18 t handedOver) r t′ d′ → Promised t m o d r t′ d′
   promised r t′ d′ e =
       let c : Call = handedOver in
-      let a = demand-1 .answered t c in
+      let a = demand-1 Release18 .answered t c in
       let n = e .octets in
-      let front : take (r .octets) d′ ≡ call t c .reply = rw (e .octets, e .room, a .room) (take-append-seam (call t c .reply) (drop (length (call t c .reply)) d)) in
+      let front : take (r .octets) d′ ≡ call Release18 t c .reply = rw (e .octets, e .room, a .room) (take-append-seam (call Release18 t c .reply) (drop (length (call Release18 t c .reply)) d)) in
       let whole : Octets t → Octets m → o < 65536 → HandedOver t c = λ x y z. record { table = x; message = y; offered = z } in
       record {
         answer = rw (e .answer) (a .answer);
         refused = λ h. e .table ∙ a .refused (λ z. h (e .answer ∙ z));
         fits = let f = a .fits in omega arith;
-        rest = rw (e .octets, e .room, a .room) (drop-append-seam (call t c .reply) (drop (length (call t c .reply)) d));
+        rest = rw (e .octets, e .room, a .room) (drop-append-seam (call Release18 t c .reply) (drop (length (call Release18 t c .reply)) d));
         silent = λ h. let s = a .silent (rw (e .answer) at h) in (e .octets ∙ ap length (s .0), e .room ∙ s .1);
         nowhere = λ h k. let p = e .place in let z = a .place (λ z. h (e .answer ∙ z)) (λ z. k (e .answer ∙ z)) in omega arith;
-        place = let p = e .place in let i = place-inside t c in omega arith;
-        table = λ x y z l q. let s = demand-1 .table t c l (whole x y z) q in rw (e .table) (record { state = s .state; held = s .held; count = s .count });
-        reply = λ x y z h. rw front (demand-1 .reply t c (whole x y z) (λ k. h (e .octets ∙ ap length k)));
+        place = let p = e .place in let i = place-inside Release18 t c in omega arith;
+        table = λ x y z l q. let s = demand-1 Release18 .table t c l (whole x y z) q in rw (e .table) (record { state = s .state; held = s .held; count = s .count });
+        reply = λ x y z h. rw front (demand-1 Release18 .reply t c (whole x y z) (λ k. h (e .octets ∙ ap length k)));
       }
 
 -- what the statement of the function allows of arguments a

@@ -37,11 +37,9 @@ use Rattle.rows.specs.Table.{kindOf}
 use Rattle.envelopes.specs.Envelope.{criticalityAt, envelopeAt, scanAt}
 use Rattle.elements.specs.Judge.{elementsAt}
 use Rattle.envelopes.proofs.ScanLaws.{envelope-in}
-use Rattle.tables.specs.declared.Message.{Message}
-use Rattle.tables.specs.Tables.{tableOf}
 use Rattle.frames.specs.declared.Frame.{Frame}
 use Rattle.frames.specs.Frame.{kindAt, frameAt, countAt}
-use Rattle.opened.specs.Opened.{openedAt}
+use Rattle.verdicts.specs.Verdict.{openedAt}
 
 -- a reading stops at octet n or before
 abbrev pub Near : {A : Type 0} → ℕ → Read A → Type 0
@@ -464,8 +462,8 @@ module _ (n : ℕ) (s : List ℕ) (l : length s ≤ n) where
       let h = number-got s (at + 1) 2 (b .2) .0 in
       omega arith
 
-  pub opened-near : (m : Message) (from : ℕ) → from ≤ n → Near n (openedAt m s from)
+  pub opened-near : (t : List Row) (from : ℕ) → from ≤ n → Near n (openedAt t s from)
   unfolding openedAt
-  opened-near m from i =
+  opened-near t from i =
       near-then n (countAt s from) _ (count-near from i) (λ k q. let h = count-in from q in
-      near-then n (elementsAt (tableOf m) s k (from + 3)) _ (elements-near n s l (tableOf m) k (from + 3) h) (λ f r. tt))
+      near-then n (elementsAt t s k (from + 3)) _ (elements-near n s l t k (from + 3) h) (λ f r. tt))

@@ -1,20 +1,31 @@
--- 01's round trips in a link process's own words: over the octets of records.
+-- 01's round trips and the user's sentence in a link process's own words: over the octets of records, as m3ap_read puts them and m3ap_write takes them.
 use Prim.Native.Nat.{ℕ, _≤_}
 use mathlib.Core.Path.{_≡_}
 use mathlib.Core.List.{List, _++_}
 use lib.ListN.{length, take, drop}
 use Rattle.octets.specs.Stands.{Octets}
-use Rattle.messages.specs.Verdict.{readOf}
-use Rattle.ties.specs.Ties.{Rewritable}
-use Rattle.record_in.specs.RecordIn.{Is, readRecord}
+use Rattle.editions.specs.declared.Edition.the-variants.{Release18}
+use Rattle.verdicts.specs.Verdict.{Understood, understood, every, readOf}
+use Rattle.layout.specs.Record.{isRecord, readRecord}
+use Rattle.round_trips.specs.Ties.{Rewritable}
+use Rattle.round_trips.specs.LentDiffer.{shown, carriedIn}
 use Rattle.link.specs.Link.{given, readFor, writeFor}
 
 -- the record that m3ap_read put
 abbrev pub recordAt : List ℕ → List ℕ → List ℕ
 recordAt s d = take 2662 (readFor s d .room)
 
+-- m3ap_write answered 0, with this message
+pub record Wrote (s values d message : List ℕ) : Type 0 where
+  pub room : length message ≤ length d
+  pub given : writeFor s values d ≡ given 0 0 (length message) (message ++ drop (length message) d)
+
 pub record Again : Type 0 where
   -- what is put for a message that was read, with 0 or with 5, is all that was read
-  pub whole : (s d : List ℕ) → Octets s → readFor s d .answer .octets ≡ 2662 → readRecord (recordAt s d) ≡ Is (readOf s .message)
+  pub whole : (s d : List ℕ) (u : Understood) → Octets s → 2662 ≤ length d → readOf Release18 every s ≡ understood u → readRecord Release18 (recordAt s d) ≡ isRecord (u .what)
   -- m3ap_read, and then m3ap_write with the octets that were read, gives the message again, under 01's conditions
-  pub rewritten : (s d e : List ℕ) → Octets s → Rewritable s → 2662 ≤ length d → length s ≤ length e → writeFor (recordAt s d) s e ≡ given 0 0 (length s) (s ++ drop (length s) e)
+  pub rewritten : (s d e : List ℕ) → Octets s → Rewritable Release18 s → 2662 ≤ length d → length s ≤ length e → writeFor (recordAt s d) s e ≡ given 0 0 (length s) (s ++ drop (length s) e)
+  -- Two things which differ stay different. Two records, each with its values, that differ in any octet but the frame's criticality and the places of
+  -- carried values, or in the octets of a carried value, have messages that differ.
+  pub different : (s z values others d e message : List ℕ) → Octets s → Octets z → Octets values → Octets others → Wrote s values d message → Wrote z others e message
+      → (shown Release18 s ≡ shown Release18 z) × (carriedIn Release18 s values ≡ carriedIn Release18 z others)

@@ -1,24 +1,23 @@
--- The call, the reader and the writer as a link process in C has them.
+-- The call, the reader and the writer as a link process in C has them, in the edition of Release 18.
 use Prim.Native.Nat.{ℕ}
 use mathlib.Core.Path.{_≡_}
-use mathlib.Core.Bool.{Bool, true, false}
 use mathlib.Core.List.{List}
 use lib.Dec.{leb}
 use lib.ListN.{length}
 use Rattle.lists.specs.Lists.{pick}
+use Rattle.octets.specs.declared.Stop.the-variants.{Fault, Extension}
+use Rattle.editions.specs.declared.Edition.the-variants.{Release18}
+use Rattle.verdicts.specs.declared.Refusal.{Refusal}
+use Rattle.verdicts.specs.declared.Refusal.the-variants.{TooLong, Stopped, NotAmong}
+use Rattle.verdicts.specs.declared.Outcome.{Outcome}
+use Rattle.verdicts.specs.declared.Outcome.the-variants.{Accepted, Misplaced, Rejected}
+use Rattle.verdicts.specs.Verdict.{Verdict, refused, understood, every, readOf}
+use Rattle.meaning.specs.Value.{Record}
+use Rattle.layout.specs.Record.{recordOut, written}
+use Rattle.plan.specs.Written as plan
+use Rattle.plan.specs.Written.{Writing, writtenIn}
 use Rattle.answers.specs.Answers.{numbered}
-use Rattle.unit.specs.Unit.{Back}
-use Rattle.records.specs.declared.Record.{Record}
-use Rattle.opened.specs.declared.Outcome.{Outcome}
-use Rattle.opened.specs.declared.Outcome.the-variants.{Accepted, TooLong, Stopped, NotAmong, Misplaced, Rejected}
-use Rattle.messages.specs.Answers as messages
-use Rattle.messages.specs.Verdict.{readOf}
-use Rattle.said.specs.Said.{saidBy}
-use Rattle.said.specs.Written.{encoded}
-use Rattle.writer.specs.Written as writer
-use Rattle.writer.specs.Written.{Writing, writtenIn}
-use Rattle.record_out.specs.Layout.{recordOut}
-use Rattle.record_in.specs.RecordIn.{Lent, Is, NoRecord, readRecord}
+use Rattle.calls.specs.Call.{Back}
 use Rattle.link.specs.declared.Answer.{Answer}
 
 -- what a call comes back with, in numbers: 01's number and place of the answer, the reply's length, and what is left in the table and the room
@@ -39,39 +38,42 @@ pub record Given : Type 0 where
 abbrev pub given : ℕ → ℕ → ℕ → List ℕ → Given
 given n place octets d = record { answer = record { answer = n; place = place; octets = octets }; room = d }
 
--- nothing is put
-abbrev pub refused : ℕ → ℕ → List ℕ → Given
-refused n place d = given n place 0 d
+-- 01's number of a refusal, and the octet at fault
+abbrev pub refusalNumber : Refusal → ℕ
+refusalNumber TooLong = 1
+refusalNumber (Stopped (Fault p)) = 2
+refusalNumber (Stopped (Extension p)) = 3
+refusalNumber NotAmong = 4
+
+abbrev pub refusalPlace : Refusal → ℕ
+refusalPlace TooLong = 0
+refusalPlace (Stopped (Fault p)) = p .octet
+refusalPlace (Stopped (Extension p)) = p .octet
+refusalPlace NotAmong = 0
+
+-- 01's number of an outcome
+abbrev pub outcomeNumber : Outcome → ℕ
+outcomeNumber Accepted = 0
+outcomeNumber (Misplaced k) = 5
+outcomeNumber Rejected = 5
 
 -- the record stands in front of the room, or does not fit
 unfoldable pub recorded : ℕ → Record → List ℕ → Given
-recorded n r d = pick (leb 2662 (length d)) (given n 0 2662 (recordOut r d)) (refused 10 0 d)
+recorded n r d = pick (leb 2662 (length d)) (given n 0 2662 (recordOut Release18 r d)) (given 10 0 0 d)
 
--- there is a record where the message was read, its elements rejected or not
-abbrev isRead : Outcome → Bool
-isRead Accepted = true
-isRead (Misplaced k) = true
-isRead Rejected = true
-isRead TooLong = false
-isRead (Stopped x) = false
-isRead NotAmong = false
-
-abbrev pub readAs : List ℕ → Record → Outcome → Given
-readAs d r o = pick (isRead o) (recorded (messages.answerOf o .number) r d) (refused (messages.answerOf o .number) (messages.answerOf o .offset) d)
+-- there is a record where the message was understood, its elements rejected or not
+abbrev pub readAs : List ℕ → Verdict → Given
+readAs d (refused x) = given (refusalNumber x) (refusalPlace x) 0 d
+readAs d (understood u) = recorded (outcomeNumber (u .outcome)) (u .what) d
 
 unfoldable pub readFor : List ℕ → List ℕ → Given
-readFor s d = readAs d (readOf s .message) (readOf s .outcome)
+readFor s d = readAs d (readOf Release18 every s)
 
 abbrev pub writtenAs : Writing → Given
-writtenAs w = given (writer.answerOf (w .answer)) 0 (writer.putOf (w .answer)) (w .room)
-
--- octets that are no record are not written
-abbrev pub writeAs : List ℕ → List ℕ → Lent → Given
-writeAs values d (Is r) = writtenAs (writtenIn d (encoded (saidBy r values)))
-writeAs values d NoRecord = refused 11 0 d
+writtenAs w = given (plan.answerOf (w .answer)) 0 (plan.putOf (w .answer)) (w .room)
 
 unfoldable pub writeFor : List ℕ → List ℕ → List ℕ → Given
-writeFor s values d = writeAs values d (readRecord s)
+writeFor s values d = writtenAs (writtenIn d (written Release18 s values))
 
 -- this answer, and this room at exit
 pub record Put (g : Given) (r : Answer) (d : List ℕ) : Type 0 where

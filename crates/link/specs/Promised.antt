@@ -8,6 +8,7 @@ use Rattle.octets.specs.Stands.{Octets}
 use Rattle.octets.specs.Field.{valueAt}
 use Rattle.table.specs.Table.{State}
 use Rattle.lent.specs.Lent.{Held, readTable}
+use Rattle.editions.specs.declared.Edition.the-variants.{Release18}
 use Rattle.demands.specs.Answered.{isAmong, numbers, silentNumbers, ReadsBack}
 use Rattle.link.specs.declared.Answer.{Answer}
 
@@ -33,4 +34,4 @@ pub record Promised (t m : List ℕ) (o : ℕ) (d : List ℕ) (r : Answer) (t′
   pub place : r .place ≤ length m
   -- a table in is a table out; and a reply reads back. Both where each number is an octet's, as in C it is
   pub table : Octets t → Octets m → o < 65536 → (l : State) → readTable t ≡ Held l → IsTable t′
-  pub reply : Octets t → Octets m → o < 65536 → (r .octets ≡ 0 → ⊥) → ReadsBack (take (r .octets) d′)
+  pub reply : Octets t → Octets m → o < 65536 → (r .octets ≡ 0 → ⊥) → ReadsBack Release18 (take (r .octets) d′)

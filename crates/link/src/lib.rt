@@ -1,15 +1,16 @@
 // The reader, the writer and the table call for a link process in C, which hands over octets and numbers. include/m3ap.h is the header.
 ghost use mathlib.Core.Path.{_≡_};
 ghost use Prim.Native.Nat.{_≤_};
-ghost use Rattle.opened.specs.declared.Outcome.the-variants as outcome;
-ghost use Rattle.messages.specs.Answers.{answerOf};
-ghost use Rattle.unit.specs.Unit.{call};
-ghost use Rattle.link.specs.Link.{Handed, recorded, readFor, writeFor, Put};
+ghost use Rattle.calls.specs.Call.{call};
+ghost use Rattle.editions.specs.declared.Edition.the-variants.{Release18};
+ghost use Rattle.link.specs.Link.{Handed, refusalNumber, refusalPlace, readFor, writeFor, Put};
+use editions::Edition;
 use identity::MceId;
 use octets::Stop;
-use opened::Outcome;
-use records::Record;
-use writer::Written;
+use plan::Written;
+use reader::Reading;
+use verdicts::Outcome;
+use verdicts::Refusal;
 
 // 01's number of the answer; the octet at fault for 2 and 3, else 0; how many octets stand in front of the room.
 #[repr(C)]
@@ -27,9 +28,9 @@ pub extern "C" fn m3ap_call(
     offered: u16,
     room: &mut [u8],
 ) -> Answer
-    ensures { λ r. ⌜ Handed (call (now (table .entry)) (record { message = now (message .entry); offered = record { 0 = offered }; room = now (room .entry) })) r (now (table .exit)) (now (room .exit)) ⌝ }
+    ensures { λ r. ⌜ Handed (call Release18 (now (table .entry)) (record { message = now (message .entry); offered = record { 0 = offered }; room = now (room .entry) })) r (now (table .exit)) (now (room .exit)) ⌝ }
 {
-    let b = unit::call(table, message, MceId(offered), room);
+    let b = unit::call(Edition::Release18, table, message, MceId(offered), room);
     let a = b.answer;
     let number = answers::number_of(a);
     let place = answers::place_of(a);
@@ -40,50 +41,42 @@ pub extern "C" fn m3ap_call(
     }
 }
 
-fn plain(answer: u32) -> Answer
-    ensures { λ r. ⌜ r ≡ record { answer = answer; place = 0; octets = 0 } ⌝ }
+// Nothing is put; place is at most 8,192.
+fn plain(answer: u32, place: usize) -> Answer
+    requires { ⌜ place ≤ 8192 ⌝ }
+    ensures { λ r. ⌜ r ≡ record { answer = answer; place = place; octets = 0 } ⌝ }
+{
+    Answer {
+        answer: answer,
+        place: place as u32,
+        octets: 0,
+    }
+}
+
+// Answers 1 to 4.
+fn refused(x: Refusal) -> Answer
+    requires { ⌜ refusalPlace x ≤ 8192 ⌝ }
+    ensures { λ r. ⌜ r ≡ record { answer = refusalNumber x; place = refusalPlace x; octets = 0 } ⌝ }
+{
+    match x {
+        Refusal::TooLong => plain(1, 0),
+        Refusal::Stopped(s) => match s {
+            Stop::Fault(p) => plain(2, p.octet),
+            Stop::Extension(p) => plain(3, p.octet),
+        },
+        Refusal::NotAmong => plain(4, 0),
+    }
+}
+
+// The record of what was read stands in front of the room.
+fn recorded(answer: u32) -> Answer
+    ensures { λ r. ⌜ r ≡ record { answer = answer; place = 0; octets = 2662 } ⌝ }
 {
     Answer {
         answer: answer,
         place: 0,
-        octets: 0,
+        octets: 2662,
     }
-}
-
-fn placed(answer: u32, octet: usize) -> Answer
-    requires { ⌜ octet ≤ 8192 ⌝ }
-    ensures { λ r. ⌜ r ≡ record { answer = answer; place = octet; octets = 0 } ⌝ }
-{
-    Answer {
-        answer: answer,
-        place: octet as u32,
-        octets: 0,
-    }
-}
-
-// 2 or 3, and where.
-fn stopped(x: Stop) -> Answer
-    requires { ⌜ answerOf (outcome.Stopped x) .offset ≤ 8192 ⌝ }
-    ensures { λ r. ⌜ r ≡ record { answer = answerOf (outcome.Stopped x) .number; place = answerOf (outcome.Stopped x) .offset; octets = 0 } ⌝ }
-{
-    match x {
-        Stop::Fault(p) => placed(2, p.octet),
-        Stop::Extension(p) => placed(3, p.octet),
-    }
-}
-
-// The record's octets in front of the room; 10 where it is too small.
-fn with_record(answer: u32, what: Record, room: &mut [u8]) -> Answer
-    ensures { λ r. ⌜ Put (recorded answer what (now (room .entry))) r (now (room .exit)) ⌝ }
-{
-    if record_out::record_out(what, room) {
-        return Answer {
-            answer: answer,
-            place: 0,
-            octets: 2662,
-        };
-    }
-    plain(10)
 }
 
 // Reads a message. With 0 and 5 the record of what was read stands in front of the room.
@@ -91,15 +84,14 @@ fn with_record(answer: u32, what: Record, room: &mut [u8]) -> Answer
 pub extern "C" fn m3ap_read(message: &[u8], room: &mut [u8]) -> Answer
     ensures { λ r. ⌜ Put (readFor (now (message .entry)) (now (room .entry))) r (now (room .exit)) ⌝ }
 {
-    let v = messages::read(message);
-    let o = v.outcome;
-    match o {
-        Outcome::Accepted => with_record(0, v.message, room),
-        Outcome::Misplaced(_) => with_record(5, v.message, room),
-        Outcome::Rejected => with_record(5, v.message, room),
-        Outcome::TooLong => plain(1),
-        Outcome::NotAmong => plain(4),
-        Outcome::Stopped(x) => stopped(x),
+    match reader::read(Edition::Release18, message, room) {
+        Reading::Refused(x) => refused(x),
+        Reading::NoRoom => plain(10, 0),
+        Reading::Put(o) => match o {
+            Outcome::Accepted => recorded(0),
+            Outcome::Misplaced(_) => recorded(5),
+            Outcome::Rejected => recorded(5),
+        },
     }
 }
 
@@ -108,17 +100,13 @@ pub extern "C" fn m3ap_read(message: &[u8], room: &mut [u8]) -> Answer
 pub extern "C" fn m3ap_write(said: &[u8], values: &[u8], room: &mut [u8]) -> Answer
     ensures { λ r. ⌜ Put (writeFor (now (said .entry)) (now (values .entry)) (now (room .entry))) r (now (room .exit)) ⌝ }
 {
-    let r = record_in::record_in(said);
-    if !r.ok {
-        return plain(11);
-    }
-    match writer::write(r.what, values, room) {
+    match put_message::write(Edition::Release18, said, values, room) {
         Written::Done(n) => Answer {
             answer: 0,
             place: 0,
             octets: n as u32,
         },
-        Written::NoRoom => plain(10),
-        Written::NotWritten => plain(11),
+        Written::NoRoom => plain(10, 0),
+        Written::NotWritten => plain(11, 0),
     }
 }

@@ -10,4 +10,3 @@ pub mod Back
 pub mod Again
 pub mod Different
 pub mod ManyLaws
-pub mod Gathered

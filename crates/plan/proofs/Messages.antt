@@ -8,7 +8,7 @@ use native.Mathlib.Omega.{arith}
 use native.Mathlib.Nat.{mod-eq-of-lt}
 use borrow.Author.Tests.{le-leb, lt-leb, ltb-true, ltb-false, eqb-false, not-false}
 use lib.Dec.{ltb, eqb}
-use lib.ListN.{length, take, drop, getD, length-append, List·getD-map}
+use lib.ListN.{length, drop, getD, length-append, List·getD-map}
 use Rattle.lists.specs.Lists.{pick, some, fill}
 use Rattle.lists.proofs.Fill.{getD-fill, take-fill}
 use Rattle.lists.proofs.Tests.{or-left, or-right}
@@ -28,10 +28,9 @@ use Rattle.meaning.specs.Value.{Value, Given, given, absent, Said}
 use Rattle.meaning.specs.Written.{octetsOf, hasOctets, elementOctets, elementsOctets, howMany, insideOctets, messageOctets, isWritten, octets, none, encoded}
 use Rattle.plan.specs.declared.Plan.{Plan}
 use Rattle.plan.specs.declared.Plan.the-variants.{Is, None}
-use Rattle.plan.specs.declared.Written.{Written}
 use Rattle.plan.specs.declared.Written.the-variants.{Done, NoRoom, NotWritten}
 use Rattle.plan.specs.Plan.{sizeOf, fitted, sizeGiven, sizesOf, planTo, messageSize, openingOctets, frontOctets, elementsTo}
-use Rattle.plan.specs.Written.{Writing, kept, front, writtenIn, Writes, begunIn}
+use Rattle.plan.specs.Written.{kept, front, writtenIn, Writes, begunIn}
 use Rattle.plan.proofs.Plans.{planned, plan-fill, plan-all, plan-fits, planned-is, planned-none}
 use Rattle.plan.proofs.Steps.{opening-length}
 

@@ -28,7 +28,7 @@ use Rattle.meaning.specs.Value.{Value, Given, given, absent, carried, mme, mce,
 use Rattle.meaning.specs.Written.{octetsOf, hasOctets, elementOctets, elementsOctets, howMany, elementsGood}
 use Rattle.plan.specs.declared.Plan.{Plan}
 use Rattle.plan.specs.declared.Plan.the-variants.{Is, None}
-use Rattle.plan.specs.Plan.{sizeOf, fitted, sizeGiven, sizesOf, elementSize, stepOf, planTo}
+use Rattle.plan.specs.Plan.{sizeOf, fitted, sizeGiven, elementSize, stepOf, planTo}
 use Rattle.plan.proofs.Steps.{fit-none, fit-many, fit-is}
 
 -- ---- a value that has octets has one at least

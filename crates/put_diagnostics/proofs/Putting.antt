@@ -2,8 +2,8 @@
 --     with-more, with-bit, with-none   a field is put behind others
 --     pairs-one, pairs-from            numbers of two bits each
 --     marks-put, with-code, without-code   the fields before the list
---     with-list, without-list          and all
 --     listing-none, -more, -all        entries, one after another
+--     listed-yes, listed-no            and all, with entries that words say, and without
 -- Assumes nothing.
 use mathlib.Core.Path.{_≡_, _∙_, refl, sym, ap, subst}
 use mathlib.Core.Bool.{Bool, true, false}
@@ -24,12 +24,14 @@ use Rattle.octets.specs.Write.{Wrote}
 use Rattle.packed.proofs.Packed.{together}
 use Rattle.octets.proofs.Writing.{number-one, wrote-none, wrote-then}
 use Rattle.entries.specs.declared.Entry.{Entry}
-use Rattle.diagnostics.specs.Diagnostics.{Diagnostics, Marks}
+use Rattle.diagnostics.specs.Diagnostics.{Marks}
 use Rattle.diagnostics.specs.declared.Number.the-variants.{Is, Absent}
 use Rattle.diagnostics.specs.Written.{marks, octetOf, pairs, withCode, headOctets, critFields, errorFields, entriesOctets, listOctets, diagnosticsOctets}
 use Rattle.diagnostics.proofs.Fields.{bits-width, widths-join}
 use Rattle.diagnostics.proofs.Pairs.{Begun, begun-none, begun-more, begun-marks, more, more-width, octet-some}
-use Rattle.put_diagnostics.specs.Put.{pairsFrom, entryOctets}
+use Rattle.diagnostics.specs.declared.Head.{Head}
+use Rattle.entry_words.specs.EntryWords.{entryBy}
+use Rattle.put_diagnostics.specs.Put.{listedBy, pairsFrom, entryOctets}
 
 -- octets that are the same
 pub wrote-as : {l vs ws m : List ℕ} {at r : ℕ} → vs ≡ ws → Wrote l at vs m r → Wrote l at ws m r
@@ -177,11 +179,11 @@ module _ (es : List Entry) (l : List ℕ) (at : ℕ) where
 
 -- ---- with a list, and without
 
-module _ (d : Diagnostics) where
-  pub with-list : d .head .listed ≡ true → headOctets (d .head) ++ listOctets true (d .entries) ≡ diagnosticsOctets d
+module _ (h : Head) (ws : List ℕ) where
+  pub listed-yes : h .listed ≡ true → headOctets h ++ listOctets true (map entryBy ws) ≡ diagnosticsOctets (listedBy h ws)
   unfolding diagnosticsOctets
-  with-list e = ap (λ (b : Bool). headOctets (d .head) ++ listOctets b (d .entries)) (sym e)
+  listed-yes e = ap (λ (b : Bool). headOctets h ++ listOctets b (pick b (map entryBy ws) [])) (sym e)
 
-  pub without-list : d .head .listed ≡ false → headOctets (d .head) ≡ diagnosticsOctets d
+  pub listed-no : h .listed ≡ false → headOctets h ≡ diagnosticsOctets (listedBy h ws)
   unfolding diagnosticsOctets
-  without-list e = sym (append-nil (headOctets (d .head))) ∙ ap (λ (b : Bool). headOctets (d .head) ++ listOctets b (d .entries)) (sym e)
+  listed-no e = sym (append-nil (headOctets h)) ∙ ap (λ (b : Bool). headOctets h ++ listOctets b (pick b (map entryBy ws) [])) (sym e)

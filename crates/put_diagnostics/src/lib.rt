@@ -1,18 +1,16 @@
 // Criticality Diagnostics, written. A writer puts octets into lent room from a place on, as far as it goes, and hands back the place behind them.
 ghost use mathlib.Core.Path.{_≡_};
 ghost use mathlib.Core.Bool.{true};
-ghost use mathlib.Core.List.{[], _++_, map};
+ghost use mathlib.Core.List.{[], _∷_, _++_, map};
 ghost use Prim.Native.Nat.{min, _-_, _≤_};
 ghost use lib.ListN.{length};
 ghost use Rattle.packed.specs.Packed.{bit, packed};
-ghost use Rattle.octets.specs.Write.{Wrote};
-ghost use Rattle.entries.specs.Entries.{entriesIn};
-ghost use Rattle.diagnostics.specs.Diagnostics.{diagnosticsOf};
+ghost use Rattle.octets.specs.Write.{Wrote, numberOctets};
 ghost use Rattle.diagnostics.specs.Written.{isThere, marksOf, marks, numbers, headOctets, listOctets, diagnosticsOctets};
-ghost use Rattle.put_diagnostics.specs.Put.{pairsFrom, entryOctets, bitsFor};
+ghost use Rattle.entry_words.specs.EntryWords.{entryBy};
+ghost use Rattle.put_diagnostics.specs.Put.{listedBy, listedSize, pairsFrom, entryOctets, bitsFor};
 use diagnostics::Head;
 use diagnostics::Number;
-use entries::Entries;
 
 fn one(v: bool) -> u8
     ensures { λ r. ⌜ r ≡ bit v .value ⌝ }
@@ -106,17 +104,26 @@ fn put_entry(room: &mut [u8], at: usize, x: u8, b: u8, crit: u8, id: u16) -> usi
     octets::put_two(room, next, id)
 }
 
-// The number of entries less 1, and the entries. x is the octet that the next one begins in, of which b bits are used.
-fn put_list(room: &mut [u8], at: usize, entries: Entries) -> usize
-    ensures { λ r. ⌜ Wrote (now (room .entry)) at (listOctets true (entriesIn entries)) (now (room .exit)) r ⌝ }
+// The number of entries less 1, in an octet: 0 for none, and modulo 256.
+fn count_octet(n: usize) -> u8
+    ensures { λ r. ⌜ r ∷ [] ≡ numberOctets 1 (n - 1) ⌝ }
 {
-    let n = numbers::lesser(entries.count, 256);
-    let mut next = octets::put_octet(room, at, numbers::less_one(n));
+    if n == 0 {
+        return 0;
+    }
+    ((n - 1) % 256) as u8
+}
+
+// The number of words less 1, and the entries that they say. x is the octet that the next one begins in, of which b bits are used.
+fn put_words(room: &mut [u8], at: usize, words: &[u64]) -> usize
+    ensures { λ r. ⌜ Wrote (now (room .entry)) at (listOctets true (map entryBy (now (words .entry)))) (now (room .exit)) r ⌝ }
+{
+    let mut next = octets::put_octet(room, at, count_octet(words.len()));
     let mut x: u8 = 0;
     let mut b: u8 = 0;
     let mut i: usize = 0;
-    while i < n {
-        let e = entries.rows[i];
+    while i < words.len() {
+        let e = entry_words::entry_of(words[i]);
         next = put_entry(room, next, x, b, e.crit, e.id);
         x = packed::with_bits(0, 1, 1, e.error);
         b = 2;
@@ -125,13 +132,13 @@ fn put_list(room: &mut [u8], at: usize, entries: Entries) -> usize
     octets::put_octet(room, next, x)
 }
 
-// The fields before the list, and the list if it is there. A number is written modulo what its field holds.
-pub fn put_diagnostics(room: &mut [u8], at: usize, head: Head, entries: Entries) -> usize
-    ensures { λ r. ⌜ Wrote (now (room .entry)) at (diagnosticsOctets (diagnosticsOf head entries)) (now (room .exit)) r ⌝ }
+// The fields before the list, and if the list is there the entries that words say. A number is written modulo what its field holds.
+pub fn put_listed(room: &mut [u8], at: usize, head: Head, words: &[u64]) -> usize
+    ensures { λ r. ⌜ Wrote (now (room .entry)) at (diagnosticsOctets (listedBy head (now (words .entry)))) (now (room .exit)) r ⌝ }
 {
     let next = put_head(room, at, head);
     if head.listed {
-        return put_list(room, next, entries);
+        return put_words(room, next, words);
     }
     next
 }
@@ -155,13 +162,16 @@ fn head_size(head: Head) -> usize
     (6 + bits_for(code, 10) + bits_for(trigger, 2) + bits_for(crit, 2) + 7) / 8
 }
 
-// How many octets they take.
-pub fn diagnostics_size(head: Head, entries: Entries) -> usize
-    ensures { λ r. ⌜ r ≡ length (diagnosticsOctets (diagnosticsOf head entries)) ⌝ }
+// How many octets they take with n entries; more than a number can say are the largest.
+pub fn listed_size(head: Head, n: usize) -> usize
+    ensures { λ r. ⌜ r ≡ min (listedSize head n) 18446744073709551615 ⌝ }
 {
     let size = head_size(head);
-    if head.listed {
-        return size + 2 + 3 * numbers::lesser(entries.count, 256);
+    if !head.listed {
+        return size;
     }
-    size
+    if 6148914691236517203 < n {
+        return 18446744073709551615;
+    }
+    size + 2 + 3 * n
 }

@@ -1,10 +1,5 @@
--- The values as the writers are handed them.
+-- The criticalities, as numbers.
 use Prim.Native.Nat.{ℕ}
-use Rattle.identity.specs.declared.Items.{Items}
-use Rattle.identity.specs.Items.{listed}
-use Rattle.items.specs.declared.Reset.{Reset}
-use Rattle.items.specs.declared.Reset.the-variants as reset
-use Rattle.items.specs.Items.{ResetType, whole, part}
 use Rattle.items.specs.Written.{reject, ignore}
 use Rattle.put_values.specs.declared.Criticality.{Criticality}
 use Rattle.put_values.specs.declared.Criticality.the-variants as criticality
@@ -12,7 +7,3 @@ use Rattle.put_values.specs.declared.Criticality.the-variants as critica
 abbrev pub critOf : Criticality → ℕ
 critOf criticality.Reject = reject
 critOf criticality.Ignore = ignore
-
-abbrev pub resetOf : Reset → Items → ResetType
-resetOf reset.Whole is = whole
-resetOf reset.Part is = part (listed is)

@@ -2,13 +2,18 @@
 -- Assumes nothing.
 use mathlib.Core.Path.{refl}
 use Rattle.lists.proofs.Unique.{Determined, _same_, _&_}
+use Rattle.requests.proofs.request_of.Kinds as request-of'
+use Rattle.requests.proofs.request_of.Reads as request-of
 use Rattle.requests.proofs.asks.Kinds as asks'
 use Rattle.requests.proofs.asks.Reads as asks
-use Rattle.requests.proofs.wanted_in.Kinds as wanted-in'
-use Rattle.requests.proofs.wanted_in.Reads as wanted-in
+use Rattle.requests.proofs.seen_in.Kinds as seen-in'
+use Rattle.requests.proofs.seen_in.Reads as seen-in
+
+pub request-of-is : Determined request-of'.ps request-of'.r request-of.Asked request-of.Learnt
+request-of-is κs a p x y e f = (e same f) & refl
 
 pub asks-is : Determined asks'.ps asks'.r asks.Asked asks.Learnt
 asks-is κs a p x y e f = (e same f) & refl
 
-pub wanted-in-is : Determined wanted-in'.ps wanted-in'.r wanted-in.Asked wanted-in.Learnt
-wanted-in-is κs a p x y e f = (e same f) & refl
+pub seen-in-is : Determined seen-in'.ps seen-in'.r seen-in.Asked seen-in.Learnt
+seen-in-is κs a p x y e f = (e same f) & refl

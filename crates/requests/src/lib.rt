@@ -1,16 +1,46 @@
 // What a message asks for. Of its values only those are read that say so.
 ghost use mathlib.Core.Path.{_≡_};
-ghost use Rattle.identity.specs.Items.{noItems};
-ghost use Rattle.records.specs.Records.{rowIn};
-ghost use Rattle.requests.specs.Requests.{asks, wantedIn};
-use identity::Items;
+ghost use Rattle.rows.specs.Table.{rowsIn};
+ghost use Rattle.values.specs.Values.{mmeAt, mceAt, tmgiAt, sessionAt};
+ghost use Rattle.items.specs.Items.{resetAt};
+ghost use Rattle.meaning.specs.Value.{mme, mce, tmgi, session, reset};
+ghost use Rattle.meaning.specs.Reading.{valueIn, valuesIn};
+ghost use Rattle.requests.specs.Requests.{nothing, also, alsoRead, resetSeen, seen, requestOf, asks};
+use editions::Message;
 use identity::Mce;
 use identity::Mme;
 use identity::Session;
+use identity::Tmgi;
+use octets::Flag;
+use octets::Gate;
 use octets::Span;
-use row_values::MaybeReset;
-use row_values::MaybeTmgi;
-use tables::Message;
+use rows::Kind;
+use rows::Rows;
+use values::MceRead;
+use values::MmeRead;
+use values::SessionRead;
+use values::TmgiRead;
+
+pub enum MaybeTmgi {
+    Is(Tmgi),
+    Absent,
+}
+
+// A Reset Type; the items of a part stand beside it.
+pub enum MaybeReset {
+    Whole,
+    Part,
+    Absent,
+}
+
+// What the rules look at, of all values of a message.
+pub struct Seen {
+    pub mme: Mme,
+    pub mce: Mce,
+    pub tmgi: MaybeTmgi,
+    pub session: Session,
+    pub reset: MaybeReset,
+}
 
 pub enum Request {
     Start(Mme, MaybeTmgi, Session),
@@ -18,85 +48,213 @@ pub enum Request {
     Reset(MaybeReset),
     // ERROR INDICATION
     Indication,
-    // a response, failure or acknowledgement, or no message
+    // a response, failure or acknowledgement
     None,
 }
 
-// What is asked for, and the items of a partial reset.
-pub struct Wanted {
-    pub request: Request,
-    pub items: Items,
+fn nothing_seen() -> Seen
+    ensures { λ r. ⌜ r ≡ nothing ⌝ }
+{
+    Seen {
+        mme: Mme::Absent,
+        mce: Mce::Absent,
+        tmgi: MaybeTmgi::Absent,
+        session: Session::Absent,
+        reset: MaybeReset::Absent,
+    }
+}
+
+fn with_mme(s: &[u8], at: usize, x: Seen) -> Seen
+    ensures { λ r. ⌜ r ≡ alsoRead mme (mmeAt (now (s .entry)) at) x ⌝ }
+{
+    let c = x.mce;
+    let g = x.tmgi;
+    let v = x.session;
+    let w = x.reset;
+    match values::mme_at(s, at) {
+        MmeRead::Is(m) => Seen {
+            mme: Mme::Is(m),
+            mce: c,
+            tmgi: g,
+            session: v,
+            reset: w,
+        },
+        MmeRead::Stop(_) => x,
+    }
+}
+
+fn with_mce(s: &[u8], at: usize, x: Seen) -> Seen
+    ensures { λ r. ⌜ r ≡ alsoRead mce (mceAt (now (s .entry)) at) x ⌝ }
+{
+    let m = x.mme;
+    let g = x.tmgi;
+    let v = x.session;
+    let w = x.reset;
+    match values::mce_at(s, at) {
+        MceRead::Is(c) => Seen {
+            mme: m,
+            mce: Mce::Is(c),
+            tmgi: g,
+            session: v,
+            reset: w,
+        },
+        MceRead::Stop(_) => x,
+    }
+}
+
+fn with_tmgi(s: &[u8], at: usize, x: Seen) -> Seen
+    ensures { λ r. ⌜ r ≡ alsoRead tmgi (tmgiAt (now (s .entry)) at) x ⌝ }
+{
+    let m = x.mme;
+    let c = x.mce;
+    let v = x.session;
+    let w = x.reset;
+    match values::tmgi_at(s, at) {
+        TmgiRead::Is(g) => Seen {
+            mme: m,
+            mce: c,
+            tmgi: MaybeTmgi::Is(g),
+            session: v,
+            reset: w,
+        },
+        TmgiRead::Stop(_) => x,
+    }
+}
+
+fn with_session(s: &[u8], at: usize, x: Seen) -> Seen
+    ensures { λ r. ⌜ r ≡ alsoRead session (sessionAt (now (s .entry)) at) x ⌝ }
+{
+    let m = x.mme;
+    let c = x.mce;
+    let g = x.tmgi;
+    let w = x.reset;
+    match values::session_at(s, at) {
+        SessionRead::Is(v) => Seen {
+            mme: m,
+            mce: c,
+            tmgi: g,
+            session: Session::Is(v),
+            reset: w,
+        },
+        SessionRead::Stop(_) => x,
+    }
+}
+
+// What a message asks for, by what is seen of it.
+pub fn request_of(m: Message, x: Seen) -> Request
+    ensures { λ r. ⌜ r ≡ requestOf m x ⌝ }
+{
+    let mme = x.mme;
+    let mce = x.mce;
+    let tmgi = x.tmgi;
+    let session = x.session;
+    let reset = x.reset;
+    match m {
+        Message::StartRequest => Request::Start(mme, tmgi, session),
+        Message::StopRequest => Request::Stop(mme, mce),
+        Message::Reset => Request::Reset(reset),
+        Message::ErrorIndication => Request::Indication,
+        Message::StartResponse => Request::None,
+        Message::StartFailure => Request::None,
+        Message::StopResponse => Request::None,
+        Message::ResetAcknowledge => Request::None,
+    }
 }
 
 // A response, a failure and an acknowledgement ask for nothing.
 pub fn asks(m: Message) -> bool
     ensures { λ r. ⌜ r ≡ asks m ⌝ }
 {
-    match m {
-        Message::StartRequest => true,
-        Message::StopRequest => true,
-        Message::Reset => true,
-        Message::ErrorIndication => true,
-        Message::StartResponse => false,
-        Message::StartFailure => false,
-        Message::StopResponse => false,
-        Message::ResetAcknowledge => false,
+    match request_of(m, nothing_seen()) {
+        Request::None => false,
+        Request::Start(_, _, _) => true,
+        Request::Stop(_, _) => true,
+        Request::Reset(_) => true,
+        Request::Indication => true,
     }
 }
 
-fn without_items(q: Request) -> Wanted
-    ensures { λ r. ⌜ r ≡ record { request = q; items = noItems } ⌝ }
+// A Reset Type that can be read says in its second bit whether it is a part.
+fn reset_in(s: &[u8], at: usize) -> MaybeReset
+    ensures { λ r. ⌜ r ≡ resetSeen (resetAt (now (s .entry)) at) ⌝ }
 {
-    Wanted {
-        request: q,
-        items: items::no_items(),
+    match item_words::reset_gate(s, at) {
+        Gate::Pass => {}
+        Gate::Stop(_) => {
+            return MaybeReset::Absent;
+        }
+    }
+    match octets::flag_at(s, at, 1) {
+        Flag::Is(part) => {
+            if part {
+                return MaybeReset::Part;
+            }
+            MaybeReset::Whole
+        }
+        Flag::Stop(_) => MaybeReset::Absent,
     }
 }
 
-// A start has its MME identity, its TMGI and its Session Identity, if there is one.
-fn start_in(s: &[u8], rows: [Span; 12]) -> Wanted
-    ensures { λ r. ⌜ r ≡ wantedIn (now (s .entry)) (rowIn rows) Message.StartRequest ⌝ }
+fn with_reset(s: &[u8], at: usize, x: Seen) -> Seen
+    ensures { λ r. ⌜ r ≡ alsoRead reset (resetAt (now (s .entry)) at) x ⌝ }
 {
-    let x = row_values::mme_in(s, rows[0]);
-    let g = row_values::tmgi_in(s, rows[1]);
-    let session = row_values::session_in(s, rows[2]);
-    without_items(Request::Start(x, g, session))
-}
-
-// A stop has its two identities.
-fn stop_in(s: &[u8], rows: [Span; 12]) -> Wanted
-    ensures { λ r. ⌜ r ≡ wantedIn (now (s .entry)) (rowIn rows) Message.StopRequest ⌝ }
-{
-    let x = row_values::mme_in(s, rows[0]);
-    let y = row_values::mce_in(s, rows[1]);
-    without_items(Request::Stop(x, y))
-}
-
-// A reset has its Reset Type, with the items.
-fn reset_in(s: &[u8], rows: [Span; 12]) -> Wanted
-    ensures { λ r. ⌜ r ≡ wantedIn (now (s .entry)) (rowIn rows) Message.Reset ⌝ }
-{
-    let d = row_values::reset_in(s, rows[1]);
-    let x = d.reset;
-    let items = d.items;
-    Wanted {
-        request: Request::Reset(x),
-        items: items,
+    let m = x.mme;
+    let c = x.mce;
+    let g = x.tmgi;
+    let v = x.session;
+    match reset_in(s, at) {
+        MaybeReset::Absent => x,
+        MaybeReset::Whole => Seen {
+            mme: m,
+            mce: c,
+            tmgi: g,
+            session: v,
+            reset: MaybeReset::Whole,
+        },
+        MaybeReset::Part => Seen {
+            mme: m,
+            mce: c,
+            tmgi: g,
+            session: v,
+            reset: MaybeReset::Part,
+        },
     }
 }
 
-// What a message wants, from where the value of each row of its table stands.
-pub fn wanted_in(m: Message, s: &[u8], rows: [Span; 12]) -> Wanted
-    ensures { λ r. ⌜ r ≡ wantedIn (now (s .entry)) (rowIn rows) m ⌝ }
+// With the value of a row more, by the row's kind.
+fn with_value(kind: Kind, s: &[u8], v: Span, x: Seen) -> Seen
+    ensures { λ r. ⌜ r ≡ also (valueIn kind (now (s .entry)) v) x ⌝ }
 {
-    match m {
-        Message::StartRequest => start_in(s, rows),
-        Message::StopRequest => stop_in(s, rows),
-        Message::Reset => reset_in(s, rows),
-        Message::ErrorIndication => without_items(Request::Indication),
-        Message::StartResponse => without_items(Request::None),
-        Message::StartFailure => without_items(Request::None),
-        Message::StopResponse => without_items(Request::None),
-        Message::ResetAcknowledge => without_items(Request::None),
+    if v.to == 0 {
+        return x;
     }
+    let from = v.from;
+    let to = numbers::lesser(v.to, s.len());
+    match kind {
+        Kind::Mme => with_mme(&s[..to], from, x),
+        Kind::Mce => with_mce(&s[..to], from, x),
+        Kind::Tmgi => with_tmgi(&s[..to], from, x),
+        Kind::Session => with_session(&s[..to], from, x),
+        Kind::ResetType => with_reset(&s[..to], from, x),
+        Kind::Carried => x,
+        Kind::Cause => x,
+        Kind::Acknowledged => x,
+        Kind::Diagnostics => x,
+    }
+}
+
+// What is seen of a message, from where the value of each row of its table stands.
+pub fn seen_in(t: Rows, s: &[u8], spans: [Span; 12]) -> Seen
+    ensures { λ r. ⌜ r ≡ seen (valuesIn (rowsIn t) (now (s .entry)) spans) ⌝ }
+{
+    let mut k = rows::row_count(t);
+    let mut x = nothing_seen();
+    while 0 < k {
+        k -= 1;
+        let r = t.rows[k];
+        let kind = r.kind;
+        let v = spans[k];
+        x = with_value(kind, s, v, x);
+    }
+    x
 }

@@ -1,26 +1,18 @@
 -- How the items of a reset are chained by identity, so that each association meets few of them. What a reset means is `without`.
 use mathlib.Core.Bool.{Bool, _&&_, _||_}
 use mathlib.Core.List.{List, map}
-use Prim.Native.Nat.{ℕ, _+_, _%_}
+use Prim.Native.Nat.{ℕ, _+_, _-_, _%_}
 use lib.Dec.{eqb}
 use lib.ListN.{getD}
 use Rattle.lists.specs.Lists.{pick, fill, upto}
 use Rattle.lists.specs.Chains.{Chained}
-use Rattle.identity.specs.declared.Mme.{Mme}
-use Rattle.identity.specs.declared.Mme.the-variants as mme
-use Rattle.identity.specs.declared.Mce.{Mce}
-use Rattle.identity.specs.declared.Mce.the-variants as mce
 use Rattle.identity.specs.declared.Item.{Item}
+use Rattle.item_words.specs.Words.{mmeNumber, mceNumber}
 use Rattle.table.specs.declared.Association.{Association}
 
--- an identity as a number: one more than its figure, 0 where it is absent
-abbrev pub mmeNumber : Mme → ℕ
-mmeNumber (mme.Is m) = m .0 + 1
-mmeNumber mme.Absent = 0
-
-abbrev pub mceNumber : Mce → ℕ
-mceNumber (mce.Is c) = c .0 + 1
-mceNumber mce.Absent = 0
+-- the number of an identity, by a half of a word
+abbrev pub halfNumber : ℕ → ℕ
+halfNumber n = pick (eqb n 0) 0 ((n - 1) % 65536 + 1)
 
 -- the two numbers of an item
 abbrev pub mmeOf : Item → ℕ
@@ -33,9 +25,9 @@ mceOf i = mceNumber (i .mce)
 abbrev pub numbersOf : (Item → ℕ) → List Item → List ℕ
 numbersOf number is = fill 0 256 (map number is)
 
--- an item is chained by its MME identity, else by its MCE identity; 2,048 is no slot
+-- an item is chained by its MME identity, else by its MCE identity, in slots that both series share; 4,096 is no slot
 unfoldable pub slotOf : ℕ → ℕ → ℕ
-slotOf m c = pick (eqb m 0) (pick (eqb c 0) 2048 (1024 + c % 1024)) (m % 1024)
+slotOf m c = pick (eqb m 0) (pick (eqb c 0) 4096 (c % 4096)) (m % 4096)
 
 -- the slot of the numbers at a place
 abbrev pub slotAt : List ℕ → List ℕ → ℕ → ℕ
@@ -63,4 +55,4 @@ namedAmong ms cs a = met (meetsEither (a .mme .0 + 1) (a .mce .0 + 1)) ms cs
 
 -- all 256 places are chained
 pub record Slotted (ms cs head next : List ℕ) : Type 0 where
-  pub chained : Chained (slotAt ms cs) 2048 256 head next 256
+  pub chained : Chained (slotAt ms cs) 4096 256 head next 256

@@ -2,76 +2,63 @@
 ghost use mathlib.Core.Bool.{_&&_};
 ghost use mathlib.Core.Path.{_≡_};
 ghost use Prim.Native.Nat.{_<_};
-ghost use lib.ListN.{replicate};
-ghost use Rattle.identity.specs.Items.{listed};
+ghost use mathlib.Core.List.{map};
+ghost use lib.ListN.{replicate, take};
+ghost use Rattle.item_words.specs.Words.{itemOf};
 ghost use Rattle.table.specs.Table.{held, tableOf, without};
-ghost use Rattle.reset.specs.Slots.{mmeNumber, mceNumber, mmeOf, mceOf, numbersOf, slotOf, agree, meets, met, namedAmong, Slotted};
-use identity::Items;
-use identity::Mce;
-use identity::Mme;
+ghost use Rattle.reset.specs.Slots.{halfNumber, mmeOf, mceOf, numbersOf, slotOf, agree, meets, met, namedAmong, Slotted};
 use table::Association;
 use table::Table;
 
-// An identity as a number: one more than its figure, 0 where it is absent. Arrays of numbers are lent, where one of items would be copied.
-fn mme_number(m: Mme) -> u32
-    ensures { λ r. ⌜ r ≡ mmeNumber m ⌝ }
+// The number of an identity, by a half of a word: one more than its figure, 0 where it is absent.
+fn half_number(n: u64) -> u32
+    ensures { λ r. ⌜ r ≡ halfNumber n ⌝ }
 {
-    match m {
-        Mme::Is(id) => id.0 as u32 + 1,
-        Mme::Absent => 0,
+    if n == 0 {
+        return 0;
     }
+    ((n - 1) % 65536) as u32 + 1
 }
 
-fn mce_number(c: Mce) -> u32
-    ensures { λ r. ⌜ r ≡ mceNumber c ⌝ }
-{
-    match c {
-        Mce::Is(id) => id.0 as u32 + 1,
-        Mce::Absent => 0,
-    }
-}
-
-// Where what has these identities is chained; 2,048 for nowhere.
+// Where what has these identities is chained; 4,096 for nowhere. There are so many slots that identities alike in their low ten bits make no long chain.
 fn slot(m: u32, c: u32) -> usize
     ensures { λ r. ⌜ r ≡ slotOf m c ⌝ }
 {
     if m != 0 {
-        return (m % 1024) as usize;
+        return (m % 4096) as usize;
     }
     if c != 0 {
-        return 1024 + (c % 1024) as usize;
+        return (c % 4096) as usize;
     }
-    2048
+    4096
 }
 
 // The items as numbers, and their chains: each item names the one before it in its slot.
 fn chain(
-    items: Items,
+    words: &[u64],
     mmes: &mut [u32; 256],
     mces: &mut [u32; 256],
-    head: &mut [u16; 2048],
+    head: &mut [u16; 4096],
     next: &mut [u16; 256],
 )
     requires { ⌜ (now mmes ≡ replicate 256 0) × (now mces ≡ replicate 256 0) ⌝ }
-    requires { ⌜ (now head ≡ replicate 2048 0) × (now next ≡ replicate 256 0) ⌝ }
-    ensures { λ _. ⌜ (now (mmes .exit) ≡ numbersOf mmeOf (listed items))
-        × (now (mces .exit) ≡ numbersOf mceOf (listed items))
+    requires { ⌜ (now head ≡ replicate 4096 0) × (now next ≡ replicate 256 0) ⌝ }
+    ensures { λ _. ⌜ (now (mmes .exit) ≡ numbersOf mmeOf (map itemOf (take 256 (now (words .entry)))))
+        × (now (mces .exit) ≡ numbersOf mceOf (map itemOf (take 256 (now (words .entry)))))
         × Slotted (now (mmes .exit)) (now (mces .exit)) (now (head .exit)) (now (next .exit)) ⌝ }
 {
-    let n = numbers::lesser(items.count, 256);
+    let n = numbers::lesser(words.len(), 256);
     let mut i: usize = 0;
     while i < n {
-        let item = items.rows[i];
-        let mme = item.mme;
-        let mce = item.mce;
-        let m = mme_number(mme);
-        let c = mce_number(mce);
+        let w = words[i];
+        let m = half_number(w % 4294967296);
+        let c = half_number(w / 4294967296);
         let h = slot(m, c);
         let at = i;
         i += 1;
         mmes[at] = m;
         mces[at] = c;
-        if h < 2048 {
+        if h < 4096 {
             next[at] = head[h];
             head[h] = i as u16;
         }
@@ -98,13 +85,13 @@ fn both_agree(x: u32, y: u32, m: u32, c: u32) -> bool
 fn named_in(
     mmes: &[u32; 256],
     mces: &[u32; 256],
-    head: &[u16; 2048],
+    head: &[u16; 4096],
     next: &[u16; 256],
     m: u32,
     c: u32,
     h: usize,
 ) -> bool
-    requires { ⌜ h < 2048 ⌝ }
+    requires { ⌜ h < 4096 ⌝ }
     requires { ⌜ Slotted (now mmes) (now mces) (now head) (now next) ⌝ }
     ensures { λ r. ⌜ r ≡ met (meets h m c) (now (mmes .entry)) (now (mces .entry)) ⌝ }
 {
@@ -123,7 +110,7 @@ fn named_in(
 fn named(
     mmes: &[u32; 256],
     mces: &[u32; 256],
-    head: &[u16; 2048],
+    head: &[u16; 4096],
     next: &[u16; 256],
     a: Association,
 ) -> bool
@@ -132,21 +119,21 @@ fn named(
 {
     let mme = a.mme;
     let mce = a.mce;
-    let m = mme_number(Mme::Is(mme));
-    let c = mce_number(Mce::Is(mce));
+    let m = mme.0 as u32 + 1;
+    let c = mce.0 as u32 + 1;
     named_in(mmes, mces, head, next, m, c, slot(m, 0))
         || named_in(mmes, mces, head, next, m, c, slot(0, c))
 }
 
-// All that some item names are removed, the others keep their order.
-pub fn reset(t: Table, items: Items) -> Table
-    ensures { λ r. ⌜ r ≡ tableOf (without (listed items) (held t)) ⌝ }
+// The words say the items. All that some item names are removed, the others keep their order.
+pub fn reset(t: Table, words: &[u64]) -> Table
+    ensures { λ r. ⌜ r ≡ tableOf (without (map itemOf (take 256 (now (words .entry)))) (held t)) ⌝ }
 {
     let mut mmes: [u32; 256] = [0; 256];
     let mut mces: [u32; 256] = [0; 256];
-    let mut head: [u16; 2048] = [0; 2048];
+    let mut head: [u16; 4096] = [0; 4096];
     let mut next: [u16; 256] = [0; 256];
-    chain(items, &mut mmes, &mut mces, &mut head, &mut next);
+    chain(words, &mut mmes, &mut mces, &mut head, &mut next);
     let n = numbers::lesser(t.count, 256);
     let mut out = table::empty();
     let mut k = 0;

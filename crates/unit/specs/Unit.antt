@@ -1,82 +1,71 @@
--- The table call: read the table, judge the message, decide, and settle: the reply stands in front of the room and the table is the new one;
--- or the reply does not fit, which is 10, and everything is as it was.
-use Prim.Native.Nat.{ℕ}
+-- The call, as the code hands it back.
+use Prim.Native.Nat.{ℕ, _<_}
 use mathlib.Core.Path.{_≡_}
 use mathlib.Core.Bool.{Bool, true, false}
-use mathlib.Core.List.{List, [], _++_}
-use lib.Dec.{leb}
-use lib.ListN.{length, drop}
-use Rattle.identity.specs.declared.MceId.{MceId}
-use Rattle.records.specs.declared.Record.{Record}
-use Rattle.said.specs.Said.{saidBy}
-use Rattle.said.specs.Written.{Encoded, octets, none, encoded}
-use Rattle.lent.specs.Lent.{Lent, Held, NoTable, readTable, tableOctets}
-use Rattle.judge.specs.Judge.{judgedOf}
+use mathlib.Core.List.{List}
+use lib.ListN.{length}
+use Rattle.rows.specs.declared.Row.{Row}
+use Rattle.editions.specs.declared.Edition.{Edition}
+use Rattle.lent.specs.Lent.{Lent, Held, NoTable, readTable, firstRows}
+use Rattle.table.specs.Table.{State}
+use Rattle.verdicts.specs.Verdict.{Verdict}
+use Rattle.replies.specs.declared.Reply.{Reply}
+use Rattle.replies.specs.declared.Reply.the-variants as reply
 use Rattle.carry.specs.declared.Answer.{Answer}
 use Rattle.carry.specs.declared.Answer.the-variants as answer
-use Rattle.unit.specs.Decided.{Decided, keeps, changes, decided}
+use Rattle.carry.specs.declared.Change.{Change}
+use Rattle.carry.specs.declared.Change.the-variants as change
+use Rattle.calls.specs.Decided.{Decided, decided}
+use Rattle.calls.specs.Call.{Call, Back, answerOf, tableAfter, nothing, settled}
 use Rattle.unit.specs.declared.Back as own
 
--- what is handed over with the table
-pub record Call : Type 0 where
-  pub message : List ℕ
-  pub offered : MceId
-  pub room : List ℕ
+-- an answer without a reply, if there is a table
+abbrev pub bareOn : Lent → Answer → own.Back
+bareOn (Held l) a = record { answer = a; octets = 0 }
+bareOn NoTable a = record { answer = answer.NoTable; octets = 0 }
 
--- what comes back: the answer, the reply's octets, the table's and the room's
-pub record Back : Type 0 where
-  pub answer : Answer
-  pub reply : List ℕ
-  pub table : List ℕ
-  pub room : List ℕ
+-- octets of a table of n rows
+abbrev pub HasRows : ℕ → List ℕ → Type 0
+HasRows n t = (readTable t ≡ Held (firstRows n t)) × (n ≡ length (firstRows n t))
 
--- the octets of a reply, as the writer has them; a reply of no record has none
-abbrev pub octetsIn : Encoded → List ℕ
-octetsIn (octets os) = os
-octetsIn none = []
+-- a row's numbers fit those of an entry's word
+pub record NumbersFit (r : Row) : Type 0 where
+  pub id : r .id < 65536
+  pub crit : r .crit < 3
 
-unfoldable pub replyOctets : Record → List ℕ
-replyOctets r = octetsIn (encoded (saidBy r []))
+-- the items are needed for one reply, and for one change
+abbrev pub listsItems : Reply → Bool
+listsItems reply.None = false
+listsItems (reply.StartResponse m c) = false
+listsItems (reply.StartFailure m why) = false
+listsItems (reply.StopResponse m c) = false
+listsItems reply.Acknowledge = false
+listsItems reply.AcknowledgeItems = true
+listsItems (reply.Rejection x y why) = false
+listsItems (reply.PairNotHeld m c) = false
 
-abbrev pub replyOf : Decided → List ℕ
-replyOf (keeps a r) = replyOctets r
-replyOf (changes l r) = replyOctets r
+abbrev pub resets : Change → Bool
+resets (change.Stays a) = false
+resets (change.Starts a) = false
+resets (change.Stops m c) = false
+resets change.Empties = false
+resets change.Resets = true
 
-abbrev pub answerOf : Decided → Answer
-answerOf (keeps a r) = a
-answerOf (changes l r) = answer.CarriedOut
+-- what comes back, by what the table's octets say and what is decided on what is held
+abbrev pub carriedOn : Edition → List ℕ → List ℕ → (State → Decided) → Lent → Back
+carriedOn e t d decide (Held l) = settled e t d (decide l)
+carriedOn e t d decide NoTable = nothing answer.NoTable t d
 
-abbrev pub tableAfter : List ℕ → Decided → List ℕ
-tableAfter t (keeps a r) = t
-tableAfter t (changes l r) = tableOctets l
-
-abbrev pub nothing : Answer → List ℕ → List ℕ → Back
-nothing a t d = record { answer = a; reply = []; table = t; room = d }
-
--- the reply fits the room, or not
-abbrev pub settledIf : Bool → List ℕ → List ℕ → Decided → Back
-settledIf true t d x = record { answer = answerOf x; reply = replyOf x; table = tableAfter t x; room = replyOf x ++ drop (length (replyOf x)) d }
-settledIf false t d x = nothing answer.NoRoom t d
-
-abbrev pub fits : List ℕ → Decided → Bool
-fits d x = leb (length (replyOf x)) (length d)
-
-unfoldable pub settled : List ℕ → List ℕ → Decided → Back
-settled t d x = settledIf (fits d x) t d x
-
-abbrev pub onTable : List ℕ → Call → Lent → Back
-onTable t c (Held l) = settled t (c .room) (decided l (c .offered) (judgedOf (c .message)))
-onTable t c NoTable = nothing answer.NoTable t (c .room)
-
-unfoldable pub call : List ℕ → Call → Back
-call t c = onTable t c (readTable t)
+-- of a verdict on the message
+abbrev pub settledOn : Edition → List ℕ → Call → Verdict → Lent → Back
+settledOn e t c v lent = carriedOn e t (c .room) (λ l. decided e l (c .offered) v) lent
 
 -- what is decided, as the code leaves it with a reply of n octets: what it hands back, and the table t
 pub record Finished (x : Decided) (t : List ℕ) (n : ℕ) (r : own.Back) (t′ : List ℕ) : Type 0 where
   pub back : r ≡ record { answer = answerOf x; octets = n }
   pub table : t′ ≡ tableAfter t x
 
--- as the code hands it back: the answer, the reply's length, and what is left in the table and the room
+-- the answer, the reply's length, and what is left in the table and the room
 pub record Called (b : Back) (r : own.Back) (t d : List ℕ) : Type 0 where
   pub answer : r .answer ≡ b .answer
   pub octets : r .octets ≡ length (b .reply)

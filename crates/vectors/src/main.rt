@@ -7,16 +7,19 @@
 //     3   the table is empty again
 //     4   the octet of the table at the first number is the second one; nothing is written
 use carry::Answer;
-use entries::Entries;
+use editions::Edition;
+use editions::Named;
+use frames::FrameRead;
 use identity::MceId;
 use libc::STDIN_FILENO;
 use libc::STDOUT_FILENO;
 use octets::Stop;
 use octets::Two;
-use opened::Outcome;
-use records::Record;
+use plan::Written;
+use reader::Reading;
 use unit::Back;
-use writer::Written;
+use verdicts::Outcome;
+use verdicts::Refusal;
 
 fn text(b: &[u8]) {
     io::write_all(STDOUT_FILENO, b);
@@ -49,14 +52,13 @@ fn part(s: &[u8], from: usize, to: usize) {
     }
 }
 
-fn entries(a: Entries) {
-    let n = a.count;
+fn entries(words: &[u64; 256], n: usize) {
     let mut i: usize = 0;
     while i < 256 {
         if n <= i {
             return;
         }
-        let e = a.rows[i];
+        let e = entry_words::entry_of(words[i]);
         text(b" ");
         number(e.crit as usize);
         text(b".");
@@ -67,11 +69,10 @@ fn entries(a: Entries) {
     }
 }
 
-fn outcome(o: Outcome) {
-    match o {
-        Outcome::Accepted => text(b"answer=0"),
-        Outcome::TooLong => text(b"answer=1"),
-        Outcome::Stopped(x) => match x {
+fn refusal(x: Refusal) {
+    match x {
+        Refusal::TooLong => text(b"answer=1"),
+        Refusal::Stopped(s) => match s {
             Stop::Fault(p) => {
                 text(b"answer=2 offset=");
                 number(p.octet);
@@ -81,7 +82,13 @@ fn outcome(o: Outcome) {
                 number(p.octet);
             }
         },
-        Outcome::NotAmong => text(b"answer=4"),
+        Refusal::NotAmong => text(b"answer=4"),
+    }
+}
+
+fn outcome(o: Outcome) {
+    match o {
+        Outcome::Accepted => text(b"answer=0"),
         Outcome::Misplaced(k) => {
             text(b"answer=5 cause=3.5 place=");
             number(k);
@@ -90,26 +97,48 @@ fn outcome(o: Outcome) {
     }
 }
 
-fn record(r: Record) {
-    let mut d = [0u8; 2662];
-    record_out::record_out(r, &mut d);
-    let items = 100 + 6 * two(&d, 98) as usize;
-    let entries = 1638 + 4 * two(&d, 1636) as usize;
+fn record(d: &[u8]) {
+    let items = 100 + 6 * two(d, 98) as usize;
+    let entries = 1638 + 4 * two(d, 1636) as usize;
     text(b" record=");
-    part(&d, 0, 98);
+    part(d, 0, 98);
     text(b" items=");
-    part(&d, 98, items);
+    part(d, 98, items);
     text(b" entries=");
-    part(&d, 1636, entries);
+    part(d, 1636, entries);
+    text(b" noted:");
+}
+
+// What is noted of a message that is understood.
+fn noted(m: &[u8]) {
+    match frames::frame_at(m) {
+        FrameRead::Is(f) => match editions::message_of(Edition::Release18, f.kind, f.code) {
+            Named::Is(x) => {
+                let mut words: [u64; 256] = [0; 256];
+                let t = editions::rows_of(Edition::Release18, x);
+                let n = judging::noted_into(t, m, f.from, &mut words);
+                entries(&words, n);
+            }
+            Named::Other => {}
+        },
+        FrameRead::Stop(_) => {}
+    }
 }
 
 fn read(m: &[u8]) {
-    let v = messages::read(m);
-    let o = v.outcome;
-    outcome(o);
-    record(v.message);
-    text(b" noted:");
-    entries(v.noted);
+    let mut d = [0u8; 2662];
+    match reader::read(Edition::Release18, m, &mut d) {
+        Reading::Refused(x) => {
+            refusal(x);
+            record(&d);
+        }
+        Reading::NoRoom => {}
+        Reading::Put(o) => {
+            outcome(o);
+            record(&d);
+            noted(m);
+        }
+    }
     text(b"\n");
 }
 
@@ -174,13 +203,14 @@ fn next_front() -> Front {
 }
 
 fn written_again(m: &[u8], room: &mut [u8]) {
-    let v = messages::read(m);
-    let w = writer::write(v.message, m, room);
+    let mut d = [0u8; 2662];
+    reader::read(Edition::Release18, m, &mut d);
+    let w = put_message::write(Edition::Release18, &d, m, room);
     show_written(w, room);
 }
 
 fn called(table: &mut [u8], m: &[u8], offered: u16, room: &mut [u8]) {
-    let b = unit::call(table, m, MceId(offered), room);
+    let b = unit::call(Edition::Release18, table, m, MceId(offered), room);
     show_back(b, table, room);
 }
 

@@ -4,7 +4,7 @@ use mathlib.Core.Path.{refl}
 use Rattle.octets.proofs.Chain.{past, halt, told}
 use Rattle.values.specs.Found.{foundMme, foundMce, foundTmgi, foundSession, foundCause}
 use Rattle.kinds.specs.Kinds.{valueAt}
-use Rattle.kinds.proofs.Laws.{of-kind, carried, reset-gate, items-gate, diagnostics-gate}
+use Rattle.kinds.proofs.Laws.{of-kind, carried}
 use borrow.Author.Needs.{needs}
 use Rattle.kinds.proofs.value_at.Statement.{statement}
 use Rattle.kinds.proofs.value_at.Tie as tie
@@ -75,20 +75,20 @@ enum-known-x-5 c = search needs
 enum-told-12 : tie.Need-enum-told-12
 enum-told-12 c = search needs
 
-reset-at-requires : tie.Need-reset-at-requires
-reset-at-requires c κs = search needs
+reset-gate-requires : tie.Need-reset-gate-requires
+reset-gate-requires c κs = search needs
 
 enum-told-13 : tie.Need-enum-told-13
 enum-told-13 c = search needs
 
-items-at-requires : tie.Need-items-at-requires
-items-at-requires c κs = search needs
+items-gate-requires : tie.Need-items-gate-requires
+items-gate-requires c κs = search needs
 
 enum-told-14 : tie.Need-enum-told-14
 enum-told-14 c = search needs
 
-diagnostics-at-requires : tie.Need-diagnostics-at-requires
-diagnostics-at-requires c κs = search needs
+diagnostics-gate-requires : tie.Need-diagnostics-gate-requires
+diagnostics-gate-requires c κs = search needs
 
 returns : tie.Need-returns
 returns c = of-kind (now (c .before .before .before .args .s)) (c .before .before .before .args .at) (c .enum-told .given .1) (carried _ _)
@@ -135,15 +135,15 @@ returns-11 c = of-kind (now (c .before .before .before .before .before .before .
 
 returns-12 : tie.Need-returns-12
 unfolding valueAt
-returns-12 c = of-kind (now (c .before .before .before .before .args .s)) (c .before .before .before .before .args .at) (c .before .enum-told12 .given .1) (rw (c .reset-at .ensures) (reset-gate _))
+returns-12 c = of-kind (now (c .before .before .before .before .args .s)) (c .before .before .before .before .args .at) (c .before .enum-told12 .given .1) (c .reset-gate .ensures)
 
 returns-13 : tie.Need-returns-13
 unfolding valueAt
-returns-13 c = of-kind (now (c .before .before .before .before .args .s)) (c .before .before .before .before .args .at) (c .before .enum-told13 .given .1) (rw (c .items-at .ensures) (items-gate _))
+returns-13 c = of-kind (now (c .before .before .before .before .args .s)) (c .before .before .before .before .args .at) (c .before .enum-told13 .given .1) (c .items-gate .ensures)
 
 returns-14 : tie.Need-returns-14
 unfolding valueAt
-returns-14 c = of-kind (now (c .before .before .before .before .args .s)) (c .before .before .before .before .args .at) (c .before .enum-told14 .given .1) (rw (c .diagnostics-at .ensures) (diagnostics-gate _))
+returns-14 c = of-kind (now (c .before .before .before .before .args .s)) (c .before .before .before .before .args .at) (c .before .enum-told14 .given .1) (c .diagnostics-gate .ensures)
 
 pub value-at-spec : {M : Type 1} → statement M
 value-at-spec =
@@ -171,11 +171,11 @@ value-at-spec =
     enum-told-11
     enum-known-x-5
     enum-told-12
-    reset-at-requires
+    reset-gate-requires
     enum-told-13
-    items-at-requires
+    items-gate-requires
     enum-told-14
-    diagnostics-at-requires
+    diagnostics-gate-requires
     returns
     returns-2
     returns-3

@@ -1,6 +1,7 @@
 -- `link::m3ap_call` meets its contract. The call's answer as numbers, which are small. Assumes nothing.
-use Rattle.link.proofs.Sizes.{place-fits, octets-fit, handed}
 use denote.Ref.{now}
+use Rattle.editions.specs.declared.Edition.the-variants.{Release18}
+use Rattle.link.proofs.Sizes.{place-fits, octets-fit, handed}
 use borrow.Author.Needs.{needs}
 use Rattle.link.proofs.m3ap_call.Statement.{statement}
 use Rattle.link.proofs.m3ap_call.Tie as tie
@@ -14,11 +15,11 @@ number-of-requires c κs = search needs
 place-of-requires : tie.Need-place-of-requires
 place-of-requires c κs = search needs
 
-cast-t14 : tie.Need-cast-t14
-cast-t14 c = record { fits = place-fits (now (c .before .before .before .before .before .before .before .before .before .before .before .before .args .table)) (record { message = now (c .before .before .before .before .before .before .before .before .before .before .before .before .args .message); offered = record { 0 = c .before .before .before .before .before .before .before .before .before .before .before .before .args .offered }; room = now (c .before .before .before .before .before .before .before .before .before .before .before .before .args .room) }) (c .before .before .before .before .before .before .call .ensures) _ (c .place-of .ensures) }
-
 cast-t15 : tie.Need-cast-t15
-cast-t15 c = record { fits = octets-fit (now (c .before .before .before .before .before .before .before .before .before .before .before .before .before .args .table)) (record { message = now (c .before .before .before .before .before .before .before .before .before .before .before .before .before .args .message); offered = record { 0 = c .before .before .before .before .before .before .before .before .before .before .before .before .before .args .offered }; room = now (c .before .before .before .before .before .before .before .before .before .before .before .before .before .args .room) }) (c .before .before .before .before .before .before .before .call .ensures) }
+cast-t15 c = let a = c .before .before .before .before .before .before .before .before .before .before .before .before .args in record { fits = place-fits Release18 (now (a .table)) (record { message = now (a .message); offered = record { 0 = a .offered }; room = now (a .room) }) (c .before .before .before .before .before .before .call .ensures) _ (c .place-of .ensures) }
+
+cast-t16 : tie.Need-cast-t16
+cast-t16 c = let a = c .before .before .before .before .before .before .before .before .before .before .before .before .before .args in record { fits = octets-fit Release18 (now (a .table)) (record { message = now (a .message); offered = record { 0 = a .offered }; room = now (a .room) }) (c .before .before .before .before .before .before .before .call .ensures) }
 
 same-length : tie.Need-same-length
 same-length c = search needs
@@ -27,7 +28,7 @@ same-length-2 : tie.Need-same-length-2
 same-length-2 c = search needs
 
 returns : tie.Need-returns
-returns c = handed (now (c .before .before .before .before .before .before .before .before .before .before .before .before .before .args .table)) (record { message = now (c .before .before .before .before .before .before .before .before .before .before .before .before .before .args .message); offered = record { 0 = c .before .before .before .before .before .before .before .before .before .before .before .before .before .args .offered }; room = now (c .before .before .before .before .before .before .before .before .before .before .before .before .before .args .room) }) (c .before .before .before .before .before .before .before .call .ensures) _ _ (c .before .before .number-of .ensures) (c .before .place-of .ensures)
+returns c = let a = c .before .before .before .before .before .before .before .before .before .before .before .before .before .args in handed Release18 (now (a .table)) (record { message = now (a .message); offered = record { 0 = a .offered }; room = now (a .room) }) (c .before .before .before .before .before .before .before .call .ensures) _ _ (c .before .before .number-of .ensures) (c .before .place-of .ensures)
 
 pub m3ap-call-spec : {M : Type 1} → statement M
 m3ap-call-spec =
@@ -36,8 +37,8 @@ m3ap-call-spec =
     call-requires
     number-of-requires
     place-of-requires
-    cast-t14
     cast-t15
+    cast-t16
     same-length
     same-length-2
     returns)

@@ -1,12 +1,6 @@
 -- `plan::begin` meets its contract: by the tests, on what the plan says. Assumes nothing.
-use Prim.Native.Nat.{_+_}
 use native.Mathlib.Omega.{arith}
-use mathlib.Core.Path.{subst, sym}
 use denote.Ref.{now}
-use lib.ListN.{length}
-use Rattle.octets.specs.Write.{lengthOctets}
-use Rattle.plan.specs.declared.Plan.{Plan}
-use Rattle.plan.specs.Written.{Writes, begunIn}
 use Rattle.plan.proofs.Steps.{begun-none, begun-long, begun-over, begun-front}
 use borrow.Author.Needs.{needs}
 use Rattle.plan.proofs.begin.Statement.{statement}

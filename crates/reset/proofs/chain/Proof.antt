@@ -1,37 +1,34 @@
 -- The items passed stand in the arrays as numbers, and are chained.
-use mathlib.Core.Path.{_≡_}
 use Prim.Native.Nat.{_≤_, _-_}
 use native.Mathlib.Omega.{arith}
 use borrow.Author.Needs.{needs}
-use lib.ListN.{length}
-use Rattle.lists.proofs.Slices.{length-of}
 use Rattle.reset.proofs.Slots.{Chaining, chaining-none, chaining-more, chaining-not, chaining-all}
 use Rattle.reset.proofs.chain.Statement.{statement}
 use Rattle.reset.proofs.chain.Tie as tie
 
 abbrev Inv-loop : tie.InvT-loop
-Inv-loop mmes₀ mces₀ head₀ next₀ items n i₀ mmes mces head next i = (i ≤ n) × Chaining items n mmes mces head next i
+Inv-loop words mmes₀ mces₀ head₀ next₀ n i₀ mmes mces head next i = (i ≤ n) × Chaining words n mmes mces head next i
 
 abbrev μ-loop : tie.MeasureT-loop
-μ-loop mmes₀ mces₀ head₀ next₀ items n i₀ mmes mces head next i = n - i
+μ-loop words mmes₀ mces₀ head₀ next₀ n i₀ mmes mces head next i = n - i
 
 lesser-requires : tie.Need-lesser-requires Inv-loop μ-loop
 lesser-requires c κs = search needs
 
 loop-holds : tie.Need-loop-holds Inv-loop μ-loop
-loop-holds c = (omega arith, rw (c .before .pre .0 .0, c .before .pre .0 .1, c .before .pre .1 .0, c .before .pre .1 .1) chaining-none)
+loop-holds c = (omega arith, rw (c .before .before .pre .0 .0, c .before .before .pre .0 .1, c .before .before .pre .1 .0, c .before .before .pre .1 .1) chaining-none)
 
-mul-item : tie.Need-mul-item Inv-loop μ-loop
-mul-item c = search needs
+mul-w : tie.Need-mul-w Inv-loop μ-loop
+mul-w c = search needs
 
-element-copy-out-item : tie.Need-element-copy-out-item Inv-loop μ-loop
-element-copy-out-item c = search needs
+shared-slice-read-w : tie.Need-shared-slice-read-w Inv-loop μ-loop
+shared-slice-read-w c = search needs
 
-mme-number-requires : tie.Need-mme-number-requires Inv-loop μ-loop
-mme-number-requires c κs = search needs
+half-number-requires : tie.Need-half-number-requires Inv-loop μ-loop
+half-number-requires c κs = search needs
 
-mce-number-requires : tie.Need-mce-number-requires Inv-loop μ-loop
-mce-number-requires c κs = search needs
+half-number-requires-2 : tie.Need-half-number-requires-2 Inv-loop μ-loop
+half-number-requires-2 c κs = search needs
 
 slot-requires : tie.Need-slot-requires Inv-loop μ-loop
 slot-requires c κs = search needs
@@ -76,24 +73,16 @@ loop-less : tie.Need-loop-less Inv-loop μ-loop
 loop-less c = search needs
 
 loop-again : tie.Need-loop-again Inv-loop μ-loop
-loop-again c =
-    let b : length (c .before .before .before .before .before .before .before .before .before .args .t1 .rows) ≡ 256 = search (needs, length-of) in
-    let g = c .before .before .before .before .before .before .before .loop .inv .1 in
-    (omega arith, chaining-more g b (c .before .before .before .before .before .before .before .before .lesser .ensures) (omega arith) _ (c .before .before .before .before .mme-number .ensures) (c .before .before .before .mce-number .ensures) (c .before .before .slot .ensures) (c .before .if1 .taken))
+loop-again c = (omega arith, chaining-more (c .before .before .before .before .before .before .before .loop .inv .1) (c .before .before .before .before .before .before .before .before .lesser .ensures) (omega arith) _ (c .before .before .before .before .half-number .ensures) (c .before .before .before .half-number2 .ensures) (c .before .before .slot .ensures) (c .before .if1 .taken))
 
 loop-less-2 : tie.Need-loop-less-2 Inv-loop μ-loop
 loop-less-2 c = search needs
 
 loop-again-2 : tie.Need-loop-again-2 Inv-loop μ-loop
-loop-again-2 c =
-    let b : length (c .before .before .before .before .before .before .before .before .args .t1 .rows) ≡ 256 = search (needs, length-of) in
-    let g = c .before .before .before .before .before .before .loop .inv .1 in
-    (omega arith, chaining-not g b (c .before .before .before .before .before .before .before .lesser .ensures) (omega arith) _ (c .before .before .before .mme-number .ensures) (c .before .before .mce-number .ensures) (c .before .slot .ensures) (c .if1 .left))
+loop-again-2 c = (omega arith, chaining-not (c .before .before .before .before .before .before .loop .inv .1) (c .before .before .before .before .before .before .before .lesser .ensures) (omega arith) _ (c .before .before .before .half-number .ensures) (c .before .before .half-number2 .ensures) (c .before .slot .ensures) (c .if1 .left))
 
 returns : tie.Need-returns Inv-loop μ-loop
-returns c =
-    let b : length (c .before .before .before .args .t1 .rows) ≡ 256 = search (needs, length-of) in
-    chaining-all (c .before .loop .inv .1) b (c .before .before .lesser .ensures) (c .loop-test .left)
+returns c = chaining-all (c .before .loop .inv .1) (c .before .before .lesser .ensures) (c .loop-test .left)
 
 pub chain-spec : {M : Type 1} → statement M
 chain-spec =
@@ -103,10 +92,10 @@ chain-spec =
     μ-loop
     lesser-requires
     loop-holds
-    mul-item
-    element-copy-out-item
-    mme-number-requires
-    mce-number-requires
+    mul-w
+    shared-slice-read-w
+    half-number-requires
+    half-number-requires-2
     slot-requires
     add-i
     mul-mmes

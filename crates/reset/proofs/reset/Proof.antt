@@ -4,23 +4,22 @@ use mathlib.Core.Bool.{not}
 use Prim.Native.Nat.{_≤_, _-_}
 use native.Mathlib.Omega.{arith}
 use borrow.Author.Needs.{needs}
-use lib.ListN.{length, length-take}
+use lib.ListN.{length}
 use Rattle.lists.proofs.Slices.{length-of}
 use Rattle.lists.proofs.Filter.{Kept, kept-none, kept-one, kept-not}
-use Rattle.identity.specs.Items.{listed}
 use Rattle.table.specs.Table.{emptyAssociation, held, tableOf}
 use Rattle.reset.specs.Slots.{namedAmong}
 use Rattle.table.specs.declared.Association.{Association}
 use Rattle.table.proofs.Rows.{table-kept}
-use Rattle.reset.proofs.Slots.{without-met}
+use Rattle.reset.proofs.Slots.{wordItems, without-met, said-few}
 use Rattle.reset.proofs.reset.Statement.{statement}
 use Rattle.reset.proofs.reset.Tie as tie
 
 abbrev Inv-loop : tie.InvT-loop
-Inv-loop t mmes mces head next n out₀ k₀ i₀ out k i = Kept emptyAssociation 256 (λ (a : Association). not (namedAmong mmes mces a)) (t .rows) n (out .rows) k i
+Inv-loop words t mmes mces head next n out₀ k₀ i₀ out k i = Kept emptyAssociation 256 (λ (a : Association). not (namedAmong mmes mces a)) (t .rows) n (out .rows) k i
 
 abbrev μ-loop : tie.MeasureT-loop
-μ-loop t mmes mces head next n out₀ k₀ i₀ out k i = n - i
+μ-loop words t mmes mces head next n out₀ k₀ i₀ out k i = n - i
 
 chain-requires : tie.Need-chain-requires Inv-loop μ-loop
 chain-requires c κs = ((refl, refl), (refl, refl))
@@ -60,7 +59,7 @@ loop-less c = search needs
 
 loop-again : tie.Need-loop-again Inv-loop μ-loop
 loop-again c =
-    let b : length (c .before .before .before .before .before .before .before .before .before .before .before .before .before .before .before .before .args .t1 .rows) ≡ 256 = search (needs, length-of) in
+    let b : length (c .before .before .before .before .before .before .before .before .before .before .before .before .before .before .before .before .before .args .t1 .rows) ≡ 256 = search (needs, length-of) in
     kept-one (c .before .before .before .before .before .before .before .before .loop .inv) (omega arith) (omega arith) _ (omega arith) (rw (c .before .named .ensures) at (c .if1 .taken))
 
 loop-less-2 : tie.Need-loop-less-2 Inv-loop μ-loop
@@ -68,18 +67,16 @@ loop-less-2 c = search needs
 
 loop-again-2 : tie.Need-loop-again-2 Inv-loop μ-loop
 loop-again-2 c =
-    let b : length (c .before .before .before .before .before .before .before .before .before .before .before .before .before .before .before .before .args .t1 .rows) ≡ 256 = search (needs, length-of) in
+    let b : length (c .before .before .before .before .before .before .before .before .before .before .before .before .before .before .before .before .before .args .t1 .rows) ≡ 256 = search (needs, length-of) in
     kept-not (c .before .before .before .before .before .before .before .before .loop .inv) (omega arith) (omega arith) _ (rw (c .before .named .ensures) at (c .if1 .left))
 
 returns : tie.Need-returns Inv-loop μ-loop
 returns c =
-    let s = c .before .before .before .before .before .before .before .before .before in
+    let s = c .before .before .before .before .before .before .before .before .before .before in
     let b : length (s .args .t1 .rows) ≡ 256 = search (needs, length-of) in
-    let d : length (s .args .items .rows) ≡ 256 = search (needs, length-of) in
-    let n : length (listed (s .args .items)) ≤ 256 = rw length-take (omega arith) in
     let e = c .before .before .before .before .chain .ensures in
     table-kept (s .args .t1) b (c .before .before .before .lesser .ensures) (c .before .loop .inv) (c .loop-test .left)
-    ∙ ap tableOf (without-met (listed (s .args .items)) n _ _ (e .0) (e .1) (held (s .args .t1)))
+    ∙ ap tableOf (without-met (wordItems (s .args .words .now)) (said-few (s .args .words .now)) _ _ (e .0) (e .1) (held (s .args .t1)))
 
 pub reset-spec : {M : Type 1} → statement M
 reset-spec =

@@ -15,9 +15,6 @@ returns c = rw (ne-eqb _ _ (c .if1 .taken))
 cast-result-2 : tie.Need-cast-result-2
 cast-result-2 c = search needs
 
-add-result : tie.Need-add-result
-add-result c = search needs
-
 returns-2 : tie.Need-returns-2
 unfolding slotOf
 returns-2 c = rw (eq-eqb _ _ (c .before .if1 .left), ne-eqb _ _ (c .if2 .taken))
@@ -27,4 +24,4 @@ unfolding slotOf
 returns-3 c = rw (eq-eqb _ _ (c .before .if1 .left), eq-eqb _ _ (c .if2 .left))
 
 pub slot-spec : {M : Type 1} → statement M
-slot-spec = tie.close (tie.spec cast-result returns cast-result-2 add-result returns-2 returns-3)
+slot-spec = tie.close (tie.spec cast-result returns cast-result-2 returns-2 returns-3)

@@ -67,25 +67,25 @@ same-length : tie.Need-same-length
 same-length c = search needs
 
 returns-2 : tie.Need-returns-2
-returns-2 c = let s = c .before .before .before .before .before .before .before .before .before in λ w. rw (c .before .before .before .before .before .before .change2 .given .1) (record { back = c .hand-back2 .ensures; table = put-more (firstRows (s .args .n) (now (s .args .table))) (now (s .args .table)) _ (s .pre .0) (s .pre .1) (c .before .before .before .row-out .ensures) })
+returns-2 c = let s = c .before .before .before .before .before .before .before .before .before .before in λ w. rw (c .before .before .before .before .before .before .change2 .given .1) (record { back = c .hand-back2 .ensures; table = put-more (firstRows (s .args .n) (now (s .args .table))) (now (s .args .table)) _ (s .pre .0) (s .pre .1) (c .before .before .before .row-out .ensures) })
 
 same-length-2 : tie.Need-same-length-2
 same-length-2 c = search needs
 
 returns-3 : tie.Need-returns-3
-returns-3 c = let s = c .before .before .before .before .before .before .before .before .before in λ w. rw (c .before .before .before .before .before .before .change3 .given .1) (record { back = c .hand-back3 .ensures; table = put-rows (stopping _ _ _) (now (s .args .table)) (table-size (now (s .args .table)) _ (s .pre .0)) (c .before .before .before .stop-out .ensures) })
+returns-3 c = let s = c .before .before .before .before .before .before .before .before .before .before in λ w. rw (c .before .before .before .before .before .before .change3 .given .1) (record { back = c .hand-back3 .ensures; table = put-rows (stopping _ _ _) (now (s .args .table)) (table-size (now (s .args .table)) _ (s .pre .0)) (c .before .before .before .stop-out .ensures) })
 
 same-length-3 : tie.Need-same-length-3
 same-length-3 c = search needs
 
 returns-4 : tie.Need-returns-4
-returns-4 c = let s = c .before .before .before .before .before .before .before .before .before in λ w. rw (c .before .before .before .before .before .before .enum-told .given .1) (record { back = c .hand-back4 .ensures; table = put-out [] (now (s .args .table)) (table-size (now (s .args .table)) _ (s .pre .0)) (c .before .before .before .before .before .empty .ensures) (c .before .before .before .table-out .ensures .1) })
+returns-4 c = let s = c .before .before .before .before .before .before .before .before .before .before in λ w. rw (c .before .before .before .before .before .before .enum-told .given .1) (record { back = c .hand-back4 .ensures; table = put-out [] (now (s .args .table)) (table-size (now (s .args .table)) _ (s .pre .0)) (c .before .before .before .before .before .empty .ensures) (c .before .before .before .table-out .ensures .1) })
 
 same-length-4 : tie.Need-same-length-4
 same-length-4 c = search needs
 
 returns-5 : tie.Need-returns-5
-returns-5 c = let s = c .before .before .before .before .before .before .before .before .before .before .before in λ w. rw (c .before .before .before .before .before .before .before .before .enum-told2 .given .1) (record { back = c .hand-back5 .ensures; table = put-out (without _ _) (now (s .args .table)) (table-size (now (s .args .table)) _ (s .pre .0)) (reset-rows _ _ (c .before .before .before .before .before .before .rows-in .ensures) (c .before .before .before .before .before .reset .ensures)) (c .before .before .before .table-out2 .ensures .1) })
+returns-5 c = let s = c .before .before .before .before .before .before .before .before .before .before .before .before in λ w. rw (c .before .before .before .before .before .before .before .before .enum-told2 .given .1) (record { back = c .hand-back5 .ensures; table = put-out (without _ _) (now (s .args .table)) (table-size (now (s .args .table)) _ (s .pre .0)) (reset-rows _ _ (c .before .before .before .before .before .before .rows-in .ensures) (c .before .before .before .before .before .reset .ensures)) (c .before .before .before .table-out2 .ensures .1) })
 
 pub finish-spec : {M : Type 1} → statement M
 finish-spec =

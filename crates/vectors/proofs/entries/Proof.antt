@@ -1,27 +1,29 @@
--- `vectors::entries` is safe and ends. Each row is inside. Assumes nothing.
+-- `vectors::entries` is safe and ends. Each word is inside. Assumes nothing.
 use borrow.Author.Needs.{needs}
-use Prim.Native.Nat.{_≤_, _-_}
-use native.Mathlib.Omega.{arith}
+use Prim.Native.Nat.{_-_, _≤_}
 use Rattle.vectors.proofs.entries.Statement.{statement}
 use Rattle.vectors.proofs.entries.Tie as tie
 
 abbrev Inv-loop : tie.InvT-loop
-Inv-loop a n i₀ t6 t7 t8 i = i ≤ 256
+Inv-loop words n i₀ t5 t6 t7 i = i ≤ 256
 
 abbrev μ-loop : tie.MeasureT-loop
-μ-loop a n i₀ t6 t7 t8 i = 256 - i
+μ-loop words n i₀ t5 t6 t7 i = 256 - i
 
 loop-holds : tie.Need-loop-holds Inv-loop μ-loop
-loop-holds c = omega arith
+loop-holds c = search needs
 
 returns : tie.Need-returns Inv-loop μ-loop
 returns c = search needs
 
-mul-e : tie.Need-mul-e Inv-loop μ-loop
-mul-e c = search needs
+mul-entry-of : tie.Need-mul-entry-of Inv-loop μ-loop
+mul-entry-of c = search needs
 
-element-copy-out-e : tie.Need-element-copy-out-e Inv-loop μ-loop
-element-copy-out-e c = search needs
+element-copy-out-entry-of : tie.Need-element-copy-out-entry-of Inv-loop μ-loop
+element-copy-out-entry-of c = search needs
+
+entry-of-requires : tie.Need-entry-of-requires Inv-loop μ-loop
+entry-of-requires c κs = search needs
 
 slice-aggregate-text : tie.Need-slice-aggregate-text Inv-loop μ-loop
 slice-aggregate-text c = search needs
@@ -66,7 +68,7 @@ loop-less : tie.Need-loop-less Inv-loop μ-loop
 loop-less c = search needs
 
 loop-again : tie.Need-loop-again Inv-loop μ-loop
-loop-again c = omega arith
+loop-again c = search needs
 
 returns-2 : tie.Need-returns-2 Inv-loop μ-loop
 returns-2 c = search needs
@@ -79,8 +81,9 @@ entries-spec =
     μ-loop
     loop-holds
     returns
-    mul-e
-    element-copy-out-e
+    mul-entry-of
+    element-copy-out-entry-of
+    entry-of-requires
     slice-aggregate-text
     text-requires
     cast-number

@@ -1,0 +1,70 @@
+-- The table call: read the table, judge the message, decide, and settle: the reply stands in front of the room and the table is the new one;
+-- or the reply does not fit, which is 10, and everything is as it was.
+use Prim.Native.Nat.{ℕ}
+use mathlib.Core.Bool.{Bool, true, false}
+use mathlib.Core.List.{List, [], _++_}
+use lib.Dec.{leb}
+use lib.ListN.{length, drop}
+use Rattle.identity.specs.declared.MceId.{MceId}
+use Rattle.editions.specs.declared.Edition.{Edition}
+use Rattle.verdicts.specs.Verdict.{Verdict, readOf}
+use Rattle.lent.specs.Lent.{Lent, Held, NoTable, readTable, tableOctets}
+use Rattle.requests.specs.Requests.{asks}
+use Rattle.replies.specs.Replies.{Replied, replyOctets}
+use Rattle.carry.specs.declared.Answer.{Answer}
+use Rattle.carry.specs.declared.Answer.the-variants as answer
+use Rattle.calls.specs.Decided.{Decided, keeps, changes, decided}
+
+-- what is handed over with the table
+pub record Call : Type 0 where
+  pub message : List ℕ
+  pub offered : MceId
+  pub room : List ℕ
+
+-- what comes back: the answer, the reply's octets, the table's and the room's
+pub record Back : Type 0 where
+  pub answer : Answer
+  pub reply : List ℕ
+  pub table : List ℕ
+  pub room : List ℕ
+
+abbrev pub repliedIn : Decided → Replied
+repliedIn (keeps a r) = r
+repliedIn (changes l r) = r
+
+abbrev pub answerOf : Decided → Answer
+answerOf (keeps a r) = a
+answerOf (changes l r) = answer.CarriedOut
+
+abbrev pub tableAfter : List ℕ → Decided → List ℕ
+tableAfter t (keeps a r) = t
+tableAfter t (changes l r) = tableOctets l
+
+abbrev pub nothing : Answer → List ℕ → List ℕ → Back
+nothing a t d = record { answer = a; reply = []; table = t; room = d }
+
+-- among the messages that ask
+abbrev pub judged : Edition → List ℕ → Verdict
+judged e s = readOf e asks s
+
+module _ (e : Edition) where
+  abbrev pub replyOf : Decided → List ℕ
+  replyOf x = replyOctets e (repliedIn x)
+
+  -- the reply fits the room, or not
+  abbrev pub settledIf : Bool → List ℕ → List ℕ → Decided → Back
+  settledIf true t d x = record { answer = answerOf x; reply = replyOf x; table = tableAfter t x; room = replyOf x ++ drop (length (replyOf x)) d }
+  settledIf false t d x = nothing answer.NoRoom t d
+
+  abbrev pub fits : List ℕ → Decided → Bool
+  fits d x = leb (length (replyOf x)) (length d)
+
+  unfoldable pub settled : List ℕ → List ℕ → Decided → Back
+  settled t d x = settledIf (fits d x) t d x
+
+  abbrev pub onTable : List ℕ → Call → Lent → Back
+  onTable t c (Held l) = settled t (c .room) (decided e l (c .offered) (judged e (c .message)))
+  onTable t c NoTable = nothing answer.NoTable t (c .room)
+
+  unfoldable pub call : List ℕ → Call → Back
+  call t c = onTable t c (readTable t)

@@ -1,0 +1,1 @@
+// The table call: what it means. No code: `unit` carries it out.

@@ -1,0 +1,25 @@
+-- `carry::refusal` meets its contract, by the case. Assumes nothing.
+use borrow.Author.Needs.{needs}
+use Rattle.carry.proofs.refusal.Statement.{statement}
+use Rattle.carry.proofs.refusal.Tie as tie
+
+enum-told : tie.Need-enum-told
+enum-told c = search needs
+
+enum-known-x : tie.Need-enum-known-x
+enum-known-x c = search needs
+
+enum-told-2 : tie.Need-enum-told-2
+enum-told-2 c = search needs
+
+returns : tie.Need-returns
+returns c = search needs
+
+returns-2 : tie.Need-returns-2
+returns-2 c = rw (c .before .x .given .1)
+
+returns-3 : tie.Need-returns-3
+returns-3 c = search needs
+
+pub refusal-spec : {M : Type 1} → statement M
+refusal-spec = tie.close (tie.spec enum-told enum-known-x enum-told-2 returns returns-2 returns-3)

@@ -1,0 +1,4 @@
+pub mod Putting
+pub mod Saying
+pub mod OneForm
+pub mod Determined

@@ -1,0 +1,6 @@
+pub mod TallyLaws
+pub mod StepLaws
+pub mod OpenedLaws
+pub mod NotedLaws
+pub mod FrontLaws
+pub mod Determined

@@ -1,0 +1,150 @@
+-- What is noted, as words: the first 256 of the entries, one more each time.
+--     noted-more                   an entry more, whether it is listed or not
+--     noted-length, one-length     the words are as many as before
+--     Unknowns, unknowns-*         the unknown elements, one after another
+--     Without, without-*           the rows that have no value, likewise
+-- Assumes nothing.
+use mathlib.Core.Path.{_≡_, _∙_, refl, sym, ap, subst}
+use mathlib.Core.Bool.{Bool, true, false}
+use mathlib.Core.List.{List, [], _∷_, _++_, map, append-nil, append-assoc}
+use Prim.Native.Nat.{ℕ, zero, suc, _+_, _-_, _≤_, _<_}
+use native.Mathlib.Omega.{arith}
+use native.Mathlib.Nat.{zero-add}
+use native.Mathlib.Numerals.{add-one}
+use borrow.Author.Tests.{lt-ltb, le-ltb}
+use lib.ListN.{length, length-append, length-map, length-set, take, set, getD}
+use lib.Seq.{sets, length-sets, take-length}
+use Rattle.lists.specs.Lists.{pick}
+use Rattle.lists.proofs.Copy.{map-append}
+use Rattle.octets.specs.Read.{got, stop}
+use Rattle.octets.specs.declared.Stop.{Stop}
+use Rattle.octets.specs.declared.Span.{Span}
+use Rattle.octets.specs.Span.{noSpan}
+use Rattle.octets.proofs.Writing.{sets-append}
+use Rattle.entries.specs.declared.Entry.{Entry}
+use Rattle.entry_words.specs.EntryWords.{entryWord}
+use Rattle.rows.specs.declared.Row.{Row}
+use Rattle.rows.specs.declared.Rows.{Rows}
+use Rattle.rows.specs.Table.{rowsIn, noRow, known}
+use Rattle.rows.proofs.TableLaws.{row-at}
+use Rattle.envelopes.specs.declared.Head.{Head}
+use Rattle.envelopes.specs.Envelope.{envelopeAt, headsAt}
+use Rattle.envelopes.proofs.ScanLaws.{heads-none, heads-one}
+use Rattle.elements.specs.Judge.{unknownOf, missingEntry, missingOf}
+use Rattle.elements.proofs.WalkLaws.{missing-snoc}
+use Rattle.judging.specs.Judging.{listing, NotedIn, OneNoted, MissingNoted}
+use Rattle.judging.proofs.TallyLaws.{listable, first-more, first-same}
+
+-- ---- an entry more
+
+pub noted-length : {l : List ℕ} {es : List Entry} {m : List ℕ} {r : ℕ} → NotedIn l es m r → length m ≡ length l
+noted-length {l} {es} p = ap length (p .words) ∙ length-sets l 0 (map entryWord es)
+
+one-length : {l : List ℕ} {count : ℕ} {e : Entry} {m : List ℕ} {r : ℕ} → OneNoted l count e m r → length m ≡ length l
+one-length {l} {count} {e} q = ap length (q .words) ∙ by (listing (e .crit) count)
+  where
+    by : (b : Bool) → length (pick b (set l count (entryWord e)) l) ≡ length l
+    by true = length-set l count (entryWord e)
+    by false = refl
+
+module _ (es : List Entry) (e : Entry) where
+  pub noted-more : {k l m : List ℕ} {count r : ℕ} → NotedIn k (take 256 es) l count → OneNoted l count e m r → NotedIn k (take 256 (es ++ listable e)) m r
+  noted-more {k} {l} {m} {count} {r} p q = by (listing (e .crit) count) refl (q .words) (q .next)
+    where
+      by : (b : Bool) → listing (e .crit) count ≡ b → m ≡ pick b (set l count (entryWord e)) l → r ≡ pick b (count + 1) count → NotedIn k (take 256 (es ++ listable e)) m r
+      by true g w n =
+          subst (λ (xs : List Entry). NotedIn k xs m r) (first-more es e (ap (listing (e .crit)) (sym (p .count)) ∙ g))
+          (record {
+            words = w ∙ (rw (p .words, p .count) (sym (rw (map-append entryWord (take 256 es) (e ∷ [])) (sets-append k 0 (map entryWord (take 256 es)) (entryWord e ∷ []) ∙ ap (λ (j : ℕ). set (sets k 0 (map entryWord (take 256 es))) j (entryWord e)) (simp (length-map, zero-add))))));
+            count = n ∙ (ap (λ (j : ℕ). j + 1) (p .count) ∙ sym (length-append (take 256 es) (e ∷ [])));
+          })
+      by false g w n =
+          subst (λ (xs : List Entry). NotedIn k xs m r) (first-same es e (ap (listing (e .crit)) (sym (p .count)) ∙ g))
+          (record { words = w ∙ p .words; count = n ∙ p .count })
+
+-- ---- the unknown elements
+
+heads-cut : (s : List ℕ) (n at : ℕ) {x : Stop} → stop x ≡ envelopeAt s at → headsAt s n at ≡ []
+unfolding headsAt
+heads-cut s zero at q = refl
+heads-cut s (suc n) at q = rw (← q)
+
+-- the entries es stand in the words, and with those of the elements left they are all
+pub record Unknowns (t : List Row) (s : List ℕ) (n from : ℕ) (l : List ℕ) (left at : ℕ) (m : List ℕ) (count : ℕ) : Type 0 where
+  pub done : List Entry
+  pub words : NotedIn l (take 256 done) m count
+  pub rest : done ++ unknownOf t (headsAt s left at) ≡ unknownOf t (headsAt s n from)
+
+pub unknowns-none : (t : List Row) (s : List ℕ) (n from : ℕ) (l : List ℕ) → Unknowns t s n from l n from l 0
+unknowns-none t s n from l = record { done = []; words = record { words = refl; count = refl }; rest = refl }
+
+module _ {t : List Row} {s : List ℕ} {n from : ℕ} {l : List ℕ} {left at : ℕ} {m : List ℕ} {count : ℕ} (p : Unknowns t s n from l left at m count) where
+  all : headsAt s left at ≡ [] → NotedIn l (take 256 (unknownOf t (headsAt s n from))) m count
+  unfolding unknownOf
+  all e = subst (λ (es : List Entry). NotedIn l (take 256 es) m count) (sym (append-nil (p .done)) ∙ (ap (λ (hs : List Head). p .done ++ unknownOf t hs) (sym e) ∙ p .rest)) (p .words)
+
+  pub unknowns-all : left ≡ 0 → NotedIn l (take 256 (unknownOf t (headsAt s n from))) m count
+  unknowns-all e = all (heads-none t s left at e)
+
+  pub unknowns-cut : {x : Stop} → stop x ≡ envelopeAt s at → NotedIn l (take 256 (unknownOf t (headsAt s n from))) m count
+  unknowns-cut q = all (heads-cut s left at q)
+
+  module _ (a : left ≡ 0 → ⊥) (h : Head) (q : got h ≡ envelopeAt s at) where
+    pub unknowns-known : known t (h .id) ≡ true → Unknowns t s n from l (left - 1) (h .value .to) m count
+    unfolding unknownOf
+    unknowns-known k = record { done = p .done; words = p .words; rest = rw (heads-one t s left at a h q, k) at (p .rest) }
+
+    pub unknowns-more : known t (h .id) ≡ false → {m′ : List ℕ} {r : ℕ} → OneNoted m count (record { crit = h .crit; id = h .id; error = 0 }) m′ r
+        → Unknowns t s n from l (left - 1) (h .value .to) m′ r
+    unfolding unknownOf
+    unknowns-more k o =
+        let e : Entry = record { crit = h .crit; id = h .id; error = 0 } in
+        record {
+          done = p .done ++ listable e;
+          words = noted-more (p .done) e (p .words) o;
+          rest = append-assoc (p .done) (listable e) _ ∙ rw (heads-one t s left at a h q, k) at (p .rest);
+        }
+
+-- ---- the rows that have no value
+
+-- the rows before k, behind whatever stood there
+pub record Without (t : Rows) (l : List Span) (before : List ℕ) (seen k : ℕ) (m : List ℕ) (count : ℕ) : Type 0 where
+  pub upto : k ≤ length (rowsIn t)
+  pub size : length m ≡ length before
+  pub list : (o : List ℕ) (es : List Entry) → NotedIn o (take 256 es) before seen → NotedIn o (take 256 (es ++ missingOf (take k (rowsIn t)) (take k l))) m count
+
+pub without-none : (t : Rows) (l : List Span) (m : List ℕ) (count : ℕ) → Without t l m count 0 m count
+unfolding missingOf
+without-none t l m count = record { upto = omega arith; size = refl; list = λ o es p. rw (append-nil es) p }
+
+module _ {t : Rows} {l : List Span} {before : List ℕ} {seen k : ℕ} {m : List ℕ} {count : ℕ} (p : Without t l before seen k m count) where
+  pub without-all : length (rowsIn t) ≤ k → MissingNoted (rowsIn t) l before seen m count
+  without-all h o es q = let u = p .upto in let e : k ≡ length (rowsIn t) = omega arith in
+      rw (e, take-length (rowsIn t)) at (p .list o es q)
+
+  module _ (h : k < length (rowsIn t)) (g : k < length l) where
+    -- the row at k adds what it misses
+    more : {m′ : List ℕ} {r : ℕ} → length m′ ≡ length m → ((o : List ℕ) (es : List Entry) → NotedIn o (take 256 es) m count → NotedIn o (take 256 (es ++ missingEntry (getD (t .rows) k noRow) (getD l k noSpan))) m′ r)
+        → Without t l before seen (k + 1) m′ r
+    more {m′} {r} z f =
+        record {
+          upto = omega arith;
+          size = z ∙ p .size;
+          list = λ o es q. subst (λ (xs : List Entry). NotedIn o (take 256 xs) m′ r)
+              (append-assoc es (missingOf (take k (rowsIn t)) (take k l)) (missingEntry (getD (t .rows) k noRow) (getD l k noSpan)) ∙ ap (λ (xs : List Entry). es ++ xs) (ap (λ (x : Row). missingOf (take k (rowsIn t)) (take k l) ++ missingEntry x (getD l k noSpan)) (row-at t k h) ∙ rw add-one (sym (missing-snoc (rowsIn t) l k h g))))
+              (f o (es ++ missingOf (take k (rowsIn t)) (take k l)) (p .list o es q));
+        }
+
+    nothing : missingEntry (getD (t .rows) k noRow) (getD l k noSpan) ≡ [] → Without t l before seen (k + 1) m count
+    nothing e = more refl (λ o es q. rw (e, append-nil es) q)
+
+    pub without-present : 0 < getD l k noSpan .to → Without t l before seen (k + 1) m count
+    without-present a = nothing (rw (lt-ltb _ _ a))
+
+    module _ (a : getD l k noSpan .to ≤ 0) where
+      pub without-optional : getD (t .rows) k noRow .mandatory ≡ false → Without t l before seen (k + 1) m count
+      without-optional b = nothing (rw (le-ltb _ _ a, b))
+
+      pub without-more : getD (t .rows) k noRow .mandatory ≡ true → {m′ : List ℕ} {r : ℕ}
+          → OneNoted m count (record { crit = getD (t .rows) k noRow .crit; id = getD (t .rows) k noRow .id; error = 1 }) m′ r → Without t l before seen (k + 1) m′ r
+      without-more b n = more (one-length n) (λ o es q. rw (le-ltb _ _ a, b) (noted-more es _ q n))

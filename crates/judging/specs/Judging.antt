@@ -1,0 +1,94 @@
+-- What is inside a message, with what is noted counted; and what the steps of the judging promise each other.
+use Prim.Native.Nat.{ℕ, _+_, _-_, _≤_}
+use mathlib.Core.Path.{_≡_}
+use mathlib.Core.Bool.{Bool, not, _&&_, _||_}
+use mathlib.Core.List.{List, [], _++_, map}
+use lib.Dec.{ltb, eqb}
+use lib.ListN.{length, set, take}
+use lib.Seq.{sets}
+use Rattle.lists.specs.Lists.{pick, some, fill}
+use Rattle.octets.specs.Read.{Read, got, stop, _>>=_}
+use Rattle.octets.specs.declared.Gate.the-variants as gate
+use Rattle.octets.specs.declared.Span.{Span}
+use Rattle.octets.specs.Span.{noSpan}
+use Rattle.entries.specs.declared.Entry.{Entry}
+use Rattle.entry_words.specs.EntryWords.{entryWord}
+use Rattle.rows.specs.declared.Row.{Row}
+use Rattle.envelopes.specs.declared.Head.{Head}
+use Rattle.envelopes.specs.Envelope.{scanAt, headsAt}
+use Rattle.elements.specs.Judge.{front, readOf, ignored, unknownOf, missingOf, elementsAt}
+use Rattle.verdicts.specs.declared.Outcome.{Outcome}
+use Rattle.verdicts.specs.declared.Outcome.the-variants.{Accepted, Misplaced, Rejected}
+use Rattle.verdicts.specs.Verdict.{Opening, openingBy}
+use Rattle.judging.specs.declared.Opened.{Opened}
+use Rattle.judging.specs.declared.Tally.{Tally}
+use Rattle.judging.specs.declared.Reached.{Reached}
+
+-- as the code answers: what is noted counted, spans in an array of 12
+abbrev pub openedBy : Read Opening → Opened
+openedBy (got o) = record { gate = gate.Pass; outcome = o .outcome; noted = length (o .noted); spans = fill noSpan 12 (o .spans) }
+openedBy (stop x) = record { gate = gate.Stop x; outcome = Accepted; noted = 0; spans = fill noSpan 12 [] }
+
+-- what n elements come to
+abbrev pub openingAt : List Row → List ℕ → ℕ → ℕ → Read Opening
+openingAt t s n at = elementsAt t s n at >>= λ x. got (openingBy n x)
+
+-- where all elements count
+abbrev pub rejectedBy : Bool → Outcome
+rejectedBy reject = pick reject Rejected Accepted
+
+-- ---- the steps: what is listed is counted
+
+-- whether one more is listed behind so many
+abbrev pub listing : ℕ → ℕ → Bool
+listing crit count = not (ignored crit) && ltb count 256
+
+-- the first 256 are counted; criticality reject anywhere rejects
+unfoldable pub tallyOf : List Entry → Tally
+tallyOf es = record { count = length (take 256 es); reject = some (λ (e : Entry). eqb (e .crit) 0) es }
+
+abbrev pub tallied : Tally → ℕ → Tally
+tallied n crit = record { count = pick (listing crit (n .count)) (n .count + 1) (n .count); reject = n .reject || eqb crit 0 }
+
+-- what was found of the elements f
+pub record Seen (t : List Row) (f : List Head) (r : Reached) : Type 0 where
+  pub place : r .place ≡ length f
+  pub spans : r .spans ≡ fill noSpan 12 (readOf t f)
+  pub tally : r .tally ≡ tallyOf (unknownOf t f)
+
+-- the faults are those from where the walk stopped; where there are none, it found what counts of all n elements
+pub record WalkedTo (t : List Row) (s : List ℕ) (n from : ℕ) (r : Reached) : Type 0 where
+  pub within : r .place ≤ n
+  pub faults : scanAt t s (n - r .place) (r .at) ≡ scanAt t s n from
+  pub seen : got tt ≡ scanAt t s (n - r .place) (r .at) → Seen t (front t 0 (headsAt s n from)) r
+
+-- a tally, and behind it the rows that have no value
+abbrev pub MissingCounted : List Row → List Span → Tally → Tally → Type 0
+MissingCounted t spans before after = (es : List Entry) → before ≡ tallyOf es → after ≡ tallyOf (es ++ missingOf t (take (length t) spans))
+
+-- ---- what is noted, as words
+
+abbrev pub notedOf : Read Opening → List Entry
+notedOf (got o) = o .noted
+notedOf (stop x) = []
+
+-- m is l with the entries as words in front, as far as it goes, and r is their number
+pub record NotedIn (l : List ℕ) (es : List Entry) (m : List ℕ) (r : ℕ) : Type 0 where
+  pub words : m ≡ sets l 0 (map entryWord es)
+  pub count : r ≡ length es
+
+-- how many of n elements count
+abbrev pub placeOf : ℕ → Outcome → ℕ
+placeOf n (Misplaced place) = place
+placeOf n Accepted = n
+placeOf n Rejected = n
+
+-- one more behind so many others, if it is listed
+pub record OneNoted (l : List ℕ) (count : ℕ) (e : Entry) (m : List ℕ) (r : ℕ) : Type 0 where
+  pub words : m ≡ pick (listing (e .crit) count) (set l count (entryWord e)) l
+  pub next : r ≡ pick (listing (e .crit) count) (count + 1) count
+
+-- behind those that stand there, the rows that have no value
+abbrev pub MissingNoted : List Row → List Span → List ℕ → ℕ → List ℕ → ℕ → Type 0
+MissingNoted t spans l count m r =
+    (k : List ℕ) (es : List Entry) → NotedIn k (take 256 es) l count → NotedIn k (take 256 (es ++ missingOf t (take (length t) spans))) m r

@@ -1,0 +1,330 @@
+// The elements of a message, judged over any table of rows: faults anywhere first, then the judging. What is noted is counted; where it is asked for, the elements are
+// gone over again for it.
+ghost use mathlib.Core.Path.{_≡_};
+ghost use lib.ListN.{take};
+ghost use Rattle.octets.specs.Read.{stop};
+ghost use Rattle.rows.specs.Table.{rowsIn, known};
+ghost use Rattle.envelopes.specs.Envelope.{headsAt};
+ghost use Rattle.elements.specs.Judge.{unknownOf};
+ghost use Rattle.verdicts.specs.Verdict.{openedAt};
+ghost use Rattle.judging.specs.Judging.{listing, tallied, WalkedTo, MissingCounted, rejectedBy, openedBy, openingAt, placeOf, notedOf, NotedIn, OneNoted, MissingNoted};
+use entries::Entry;
+use envelopes::Envelope;
+use octets::Gate;
+use octets::Span;
+use octets::Stop;
+use octets::Two;
+use rows::Rows;
+use verdicts::Outcome;
+
+// What is inside the frame of a message, before any value is taken over: the outcome, how many diagnostics are noted, and where the value of each row stands
+// (from 0 to 0 where there is none). Where octets are at fault the gate says so, and nothing else is found.
+pub struct Opened {
+    pub gate: Gate,
+    pub outcome: Outcome,
+    pub noted: usize,
+    pub spans: [Span; 12],
+}
+
+// How many are noted, and whether any, beyond the first 256 too, is a reason to reject.
+struct Tally {
+    count: usize,
+    reject: bool,
+}
+
+// Where the walk stopped, at which octet and behind how many elements, and what it found before.
+struct Reached {
+    at: usize,
+    place: usize,
+    tally: Tally,
+    spans: [Span; 12],
+}
+
+// Whether one more entry is noted: ignore never is, and of the others the first 256 are.
+fn is_listed(crit: u8, count: usize) -> bool
+    ensures { λ r. ⌜ r ≡ listing crit count ⌝ }
+{
+    (crit != 1) & (count < 256)
+}
+
+// One more entry.
+fn tally_with(seen: Tally, crit: u8) -> Tally
+    ensures { λ r. ⌜ r ≡ tallied seen crit ⌝ }
+{
+    let count = seen.count;
+    let reject = seen.reject | (crit == 0);
+    if is_listed(crit, count) {
+        return Tally {
+            count: count + 1,
+            reject: reject,
+        };
+    }
+    Tally {
+        count: count,
+        reject: reject,
+    }
+}
+
+// The walk over elements and rows: it stops at the first known element that is out of order or repeated, or that cannot be read.
+fn walk(t: Rows, s: &[u8], n: usize, from: usize) -> Reached
+    ensures { λ r. ⌜ WalkedTo (rowsIn t) (now (s .entry)) n from r ⌝ }
+{
+    let rows = rows::row_count(t);
+    let mut spans = [Span { from: 0, to: 0 }; 12];
+    let mut tally = Tally {
+        count: 0,
+        reject: false,
+    };
+    let mut at = from;
+    let mut row: usize = 0;
+    let mut i: usize = 0;
+    let place = 'walk: loop {
+        if n <= i {
+            break 'walk i;
+        }
+        match envelopes::envelope_at(s, at) {
+            Envelope::Stop(_) => {
+                break 'walk i;
+            }
+            Envelope::Is(h) => {
+                let id = h.id;
+                let value = h.value;
+                let to = value.to;
+                let mut k: usize = 0;
+                while k < rows {
+                    let r = t.rows[k];
+                    if r.id == id {
+                        if k < row {
+                            break 'walk i;
+                        }
+                        let kind = r.kind;
+                        match kinds::value_at(kind, &s[..to], value.from) {
+                            Gate::Pass => {}
+                            Gate::Stop(_) => {
+                                break 'walk i;
+                            }
+                        }
+                        row = k + 1;
+                        spans[k] = value;
+                        at = to;
+                        i += 1;
+                        continue 'walk;
+                    }
+                    k += 1;
+                }
+                at = to;
+                i += 1;
+                tally = tally_with(tally, h.crit);
+            }
+        }
+    };
+    Reached {
+        at: at,
+        place: place,
+        tally: tally,
+        spans: spans,
+    }
+}
+
+// The tally with the mandatory rows that have no value.
+fn with_missing(t: Rows, spans: [Span; 12], seen: Tally) -> Tally
+    ensures { λ r. ⌜ MissingCounted (rowsIn t) spans seen r ⌝ }
+{
+    let rows = rows::row_count(t);
+    let mut tally = seen;
+    let mut k: usize = 0;
+    while k < rows {
+        let r = t.rows[k];
+        let v = spans[k];
+        k += 1;
+        if 0 < v.to {
+            continue;
+        }
+        if !r.mandatory {
+            continue;
+        }
+        tally = tally_with(tally, r.crit);
+    }
+    tally
+}
+
+fn not_opened(x: Stop) -> Opened
+    ensures { λ r. ⌜ r ≡ openedBy (stop x) ⌝ }
+{
+    Opened {
+        gate: Gate::Stop(x),
+        outcome: Outcome::Accepted,
+        noted: 0,
+        spans: [Span { from: 0, to: 0 }; 12],
+    }
+}
+
+fn outcome_by(reject: bool) -> Outcome
+    ensures { λ r. ⌜ r ≡ rejectedBy reject ⌝ }
+{
+    if reject {
+        return Outcome::Rejected;
+    }
+    Outcome::Accepted
+}
+
+// n elements from a place on.
+fn opening_at(t: Rows, s: &[u8], n: usize, from: usize) -> Opened
+    ensures { λ r. ⌜ r ≡ openedBy (openingAt (rowsIn t) (now (s .entry)) n from) ⌝ }
+{
+    let w = walk(t, s, n, from);
+    let place = w.place;
+    match envelopes::scan(t, s, n - place, w.at) {
+        Gate::Stop(x) => {
+            return not_opened(x);
+        }
+        Gate::Pass => {}
+    }
+    let spans = w.spans;
+    let seen = w.tally;
+    if place < n {
+        return Opened {
+            gate: Gate::Pass,
+            outcome: Outcome::Misplaced(place),
+            noted: seen.count,
+            spans: spans,
+        };
+    }
+    let all = with_missing(t, spans, seen);
+    Opened {
+        gate: Gate::Pass,
+        outcome: outcome_by(all.reject),
+        noted: all.count,
+        spans: spans,
+    }
+}
+
+// What is inside the frame of a message, from a place on.
+pub fn opened_at(t: Rows, s: &[u8], from: usize) -> Opened
+    ensures { λ r. ⌜ r ≡ openedBy (openedAt (rowsIn t) (now (s .entry)) from) ⌝ }
+{
+    match frames::count_at(s, from) {
+        Two::Is(v) => opening_at(t, s, numbers::wide16(v), from + 3),
+        Two::Stop(x) => not_opened(x),
+    }
+}
+
+// Whether an id has a row.
+pub fn is_known(t: Rows, id: u16) -> bool
+    ensures { λ r. ⌜ r ≡ known (rowsIn t) id ⌝ }
+{
+    let rows = rows::row_count(t);
+    let mut k: usize = 0;
+    while k < rows {
+        let r = t.rows[k];
+        if r.id == id {
+            return true;
+        }
+        k += 1;
+    }
+    false
+}
+
+// One more entry, if it is listed, as a word behind so many others; how many they are then.
+fn note(words: &mut [u64], count: usize, e: Entry) -> usize
+    ensures { λ r. ⌜ OneNoted (now (words .entry)) count e (now (words .exit)) r ⌝ }
+{
+    if !is_listed(e.crit, count) {
+        return count;
+    }
+    entry_words::put_word(words, count, entry_words::entry_word(e));
+    count + 1
+}
+
+// The unknown ones of n elements, as far as they can be read.
+fn note_unknown(t: Rows, s: &[u8], n: usize, from: usize, words: &mut [u64]) -> usize
+    ensures { λ r. ⌜ NotedIn (now (words .entry)) (take 256 (unknownOf (rowsIn t) (headsAt (now (s .entry)) n from))) (now (words .exit)) r ⌝ }
+{
+    let mut count: usize = 0;
+    let mut left = n;
+    let mut at = from;
+    while 0 < left {
+        match envelopes::envelope_at(s, at) {
+            Envelope::Stop(_) => {
+                return count;
+            }
+            Envelope::Is(h) => {
+                let id = h.id;
+                at = h.value.to;
+                left -= 1;
+                if is_known(t, id) {
+                    continue;
+                }
+                let e = Entry {
+                    id: id,
+                    crit: h.crit,
+                    error: 0,
+                };
+                count = note(words, count, e);
+            }
+        }
+    }
+    count
+}
+
+// The mandatory rows that have no value, behind so many others.
+fn note_missing(t: Rows, spans: [Span; 12], seen: usize, words: &mut [u64]) -> usize
+    ensures { λ r. ⌜ MissingNoted (rowsIn t) spans (now (words .entry)) seen (now (words .exit)) r ⌝ }
+{
+    let rows = rows::row_count(t);
+    let mut count = seen;
+    let mut k: usize = 0;
+    while k < rows {
+        let r = t.rows[k];
+        let v = spans[k];
+        k += 1;
+        if 0 < v.to {
+            continue;
+        }
+        if !r.mandatory {
+            continue;
+        }
+        let e = Entry {
+            id: r.id,
+            crit: r.crit,
+            error: 1,
+        };
+        count = note(words, count, e);
+    }
+    count
+}
+
+// How many of n elements count.
+fn place_of(n: usize, o: Outcome) -> usize
+    ensures { λ r. ⌜ r ≡ placeOf n o ⌝ }
+{
+    match o {
+        Outcome::Misplaced(place) => place,
+        Outcome::Accepted => n,
+        Outcome::Rejected => n,
+    }
+}
+
+// What is noted, as words in front, as far as they go; how many there are.
+pub fn noted_into(t: Rows, s: &[u8], from: usize, words: &mut [u64]) -> usize
+    ensures { λ r. ⌜ NotedIn (now (words .entry)) (notedOf (openedAt (rowsIn t) (now (s .entry)) from)) (now (words .exit)) r ⌝ }
+{
+    let o = opened_at(t, s, from);
+    if o.noted == 0 {
+        return 0;
+    }
+    let n = match frames::count_at(s, from) {
+        Two::Is(v) => numbers::wide16(v),
+        Two::Stop(_) => {
+            return 0;
+        }
+    };
+    let outcome = o.outcome;
+    let upto = place_of(n, outcome);
+    let count = note_unknown(t, s, upto, from + 3, words);
+    if upto < n {
+        return count;
+    }
+    let spans = o.spans;
+    note_missing(t, spans, count, words)
+}

@@ -1,2 +1,0 @@
-pub mod InsideLaws
-pub mod Determined

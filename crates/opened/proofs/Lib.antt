@@ -1,2 +1,0 @@
-pub mod OpenedLaws
-pub mod Determined

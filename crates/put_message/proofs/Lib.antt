@@ -1,0 +1,5 @@
+pub mod Values
+pub mod Sizes
+pub mod Words
+pub mod Messages
+pub mod Determined

@@ -1,0 +1,16 @@
+-- `put_reply::is_list_good` meets its contract: by the test. Assumes nothing.
+use borrow.Author.Needs.{needs}
+use Rattle.put_reply.proofs.is_list_good.Statement.{statement}
+use Rattle.put_reply.proofs.is_list_good.Tie as tie
+
+are-good-requires : tie.Need-are-good-requires
+are-good-requires c κs = search needs
+
+returns : tie.Need-returns
+returns c = rw (c .before .if1 .taken) (c .are-good .ensures)
+
+returns-2 : tie.Need-returns-2
+returns-2 c = search needs
+
+pub is-list-good-spec : {M : Type 1} → statement M
+is-list-good-spec = tie.close (tie.spec are-good-requires returns returns-2)

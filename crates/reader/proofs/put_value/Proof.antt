@@ -1,0 +1,199 @@
+-- `reader::put_value` meets its contract. By the kind, what was called says it. Assumes nothing.
+use mathlib.Core.Path.{sym}
+use native.Mathlib.Omega.{arith}
+use lib.Seq.{length-take-le}
+use Rattle.items.specs.Items.{resetAt, itemsAt}
+use Rattle.diagnostics.specs.Diagnostics.{diagnosticsAt}
+use Rattle.meaning.specs.Reading.{readAs}
+use Rattle.reader.proofs.Slots.{got-of, list-slot}
+use borrow.Author.Needs.{needs}
+use Rattle.reader.proofs.put_value.Statement.{statement}
+use Rattle.reader.proofs.put_value.Tie as tie
+
+enum-told : tie.Need-enum-told
+enum-told c = search needs
+
+put-carried-requires : tie.Need-put-carried-requires
+put-carried-requires c κs = search needs
+
+enum-told-2 : tie.Need-enum-told-2
+enum-told-2 c = search needs
+
+slice-aggregate-mme-slot : tie.Need-slice-aggregate-mme-slot
+slice-aggregate-mme-slot c = sym (length-take-le _ _ (c .before .before .before .before .before .before .pre .1 .within))
+
+mme-slot-requires : tie.Need-mme-slot-requires
+mme-slot-requires c κs = search needs
+
+enum-told-3 : tie.Need-enum-told-3
+enum-told-3 c = search needs
+
+slice-aggregate-mce-slot : tie.Need-slice-aggregate-mce-slot
+slice-aggregate-mce-slot c = sym (length-take-le _ _ (c .before .before .before .before .before .before .pre .1 .within))
+
+mce-slot-requires : tie.Need-mce-slot-requires
+mce-slot-requires c κs = search needs
+
+enum-told-4 : tie.Need-enum-told-4
+enum-told-4 c = search needs
+
+slice-aggregate-tmgi-slot : tie.Need-slice-aggregate-tmgi-slot
+slice-aggregate-tmgi-slot c = sym (length-take-le _ _ (c .before .before .before .before .before .before .pre .1 .within))
+
+tmgi-slot-requires : tie.Need-tmgi-slot-requires
+tmgi-slot-requires c κs = search needs
+
+enum-told-5 : tie.Need-enum-told-5
+enum-told-5 c = search needs
+
+slice-aggregate-session-slot : tie.Need-slice-aggregate-session-slot
+slice-aggregate-session-slot c = sym (length-take-le _ _ (c .before .before .before .before .before .before .pre .1 .within))
+
+session-slot-requires : tie.Need-session-slot-requires
+session-slot-requires c κs = search needs
+
+enum-told-6 : tie.Need-enum-told-6
+enum-told-6 c = search needs
+
+slice-aggregate-cause-slot : tie.Need-slice-aggregate-cause-slot
+slice-aggregate-cause-slot c = sym (length-take-le _ _ (c .before .before .before .before .before .before .pre .1 .within))
+
+cause-slot-requires : tie.Need-cause-slot-requires
+cause-slot-requires c κs = search needs
+
+enum-told-7 : tie.Need-enum-told-7
+enum-told-7 c = search needs
+
+slice-aggregate-reset-slot : tie.Need-slice-aggregate-reset-slot
+slice-aggregate-reset-slot c = sym (length-take-le _ _ (c .before .before .before .before .before .before .pre .1 .within))
+
+reset-slot-requires : tie.Need-reset-slot-requires
+unfolding readAs
+reset-slot-requires c κs = (omega arith, got-of (resetAt _ _) _ (rw (c .before .before .enum-told7 .given .1) at (c .before .before .before .before .before .before .pre .1 .value)))
+
+enum-told-8 : tie.Need-enum-told-8
+enum-told-8 c = search needs
+
+put-first-requires : tie.Need-put-first-requires
+put-first-requires c κs = search needs
+
+enum-told-9 : tie.Need-enum-told-9
+enum-told-9 c = search needs
+
+slice-aggregate-diagnostics-slot : tie.Need-slice-aggregate-diagnostics-slot
+slice-aggregate-diagnostics-slot c = sym (length-take-le _ _ (c .before .before .before .before .before .before .pre .1 .within))
+
+diagnostics-slot-requires : tie.Need-diagnostics-slot-requires
+unfolding readAs
+diagnostics-slot-requires c κs = (omega arith, got-of (diagnosticsAt _ _) _ (rw (c .before .before .enum-told9 .given .1) at (c .before .before .before .before .before .before .pre .1 .value)))
+
+same-length : tie.Need-same-length
+same-length c = search needs
+
+returns : tie.Need-returns
+unfolding readAs
+returns c = rw (c .before .before .before .before .enum-told .given .1) (c .before .before .put-carried .ensures)
+
+same-length-2 : tie.Need-same-length-2
+same-length-2 c = search needs
+
+returns-2 : tie.Need-returns-2
+unfolding readAs
+returns-2 c = rw (c .before .before .before .before .before .enum-told2 .given .1) (c .before .before .mme-slot .ensures)
+
+same-length-3 : tie.Need-same-length-3
+same-length-3 c = search needs
+
+returns-3 : tie.Need-returns-3
+unfolding readAs
+returns-3 c = rw (c .before .before .before .before .before .enum-told3 .given .1) (c .before .before .mce-slot .ensures)
+
+same-length-4 : tie.Need-same-length-4
+same-length-4 c = search needs
+
+returns-4 : tie.Need-returns-4
+unfolding readAs
+returns-4 c = rw (c .before .before .before .before .before .enum-told4 .given .1) (c .before .before .tmgi-slot .ensures)
+
+same-length-5 : tie.Need-same-length-5
+same-length-5 c = search needs
+
+returns-5 : tie.Need-returns-5
+unfolding readAs
+returns-5 c = rw (c .before .before .before .before .before .enum-told5 .given .1) (c .before .before .session-slot .ensures)
+
+same-length-6 : tie.Need-same-length-6
+same-length-6 c = search needs
+
+returns-6 : tie.Need-returns-6
+unfolding readAs
+returns-6 c = rw (c .before .before .before .before .before .enum-told6 .given .1) (c .before .before .cause-slot .ensures)
+
+same-length-7 : tie.Need-same-length-7
+same-length-7 c = search needs
+
+returns-7 : tie.Need-returns-7
+unfolding readAs
+returns-7 c = rw (c .before .before .before .before .before .enum-told7 .given .1) (c .before .before .reset-slot .ensures)
+
+same-length-8 : tie.Need-same-length-8
+same-length-8 c = search needs
+
+returns-8 : tie.Need-returns-8
+unfolding readAs
+returns-8 c = rw (c .before .before .before .before .enum-told8 .given .1, list-slot (itemsAt _ _) (got-of (itemsAt _ _) _ (rw (c .before .before .before .before .enum-told8 .given .1) at (c .before .before .before .before .before .before .before .before .pre .1 .value)))) (c .before .before .put-first .ensures)
+
+same-length-9 : tie.Need-same-length-9
+same-length-9 c = search needs
+
+returns-9 : tie.Need-returns-9
+unfolding readAs
+returns-9 c = rw (c .before .before .before .before .before .enum-told9 .given .1) (c .before .before .diagnostics-slot .ensures)
+
+pub put-value-spec : {M : Type 1} → statement M
+put-value-spec =
+    tie.close
+    (tie.spec
+    enum-told
+    put-carried-requires
+    enum-told-2
+    slice-aggregate-mme-slot
+    mme-slot-requires
+    enum-told-3
+    slice-aggregate-mce-slot
+    mce-slot-requires
+    enum-told-4
+    slice-aggregate-tmgi-slot
+    tmgi-slot-requires
+    enum-told-5
+    slice-aggregate-session-slot
+    session-slot-requires
+    enum-told-6
+    slice-aggregate-cause-slot
+    cause-slot-requires
+    enum-told-7
+    slice-aggregate-reset-slot
+    reset-slot-requires
+    enum-told-8
+    put-first-requires
+    enum-told-9
+    slice-aggregate-diagnostics-slot
+    diagnostics-slot-requires
+    same-length
+    returns
+    same-length-2
+    returns-2
+    same-length-3
+    returns-3
+    same-length-4
+    returns-4
+    same-length-5
+    returns-5
+    same-length-6
+    returns-6
+    same-length-7
+    returns-7
+    same-length-8
+    returns-8
+    same-length-9
+    returns-9)

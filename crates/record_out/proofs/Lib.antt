@@ -1,4 +1,0 @@
-pub mod Over
-pub mod Sizes
-pub mod Examples
-pub mod Determined

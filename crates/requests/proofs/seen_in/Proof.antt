@@ -1,0 +1,79 @@
+-- `requests::seen_in` meets its contract: from the last row to the first, what is seen of the rows from there on. Assumes nothing.
+use mathlib.Core.Path.{_≡_, _∙_}
+use Prim.Native.Nat.{_≤_}
+use native.Mathlib.Omega.{arith}
+use borrow.Author.Needs.{needs}
+use denote.Ref.{now}
+use lib.ListN.{length, drop}
+use Rattle.lists.proofs.Slices.{length-of}
+use Rattle.rows.specs.Table.{rowsIn}
+use Rattle.meaning.specs.Reading.{valuesIn}
+use Rattle.requests.specs.Requests.{seen}
+use Rattle.requests.proofs.Laws.{seen-none, seen-row-at}
+use Rattle.requests.proofs.seen_in.Statement.{statement}
+use Rattle.requests.proofs.seen_in.Tie as tie
+
+abbrev Inv-loop : tie.InvT-loop
+Inv-loop s t spans k₀ x₀ k x = (k ≤ 12) × (k ≤ length (rowsIn t)) × (x ≡ seen (valuesIn (drop k (rowsIn t)) s (drop k spans)))
+
+abbrev μ-loop : tie.MeasureT-loop
+μ-loop s t spans k₀ x₀ k x = k
+
+row-count-requires : tie.Need-row-count-requires Inv-loop μ-loop
+row-count-requires c κs = search needs
+
+nothing-seen-requires : tie.Need-nothing-seen-requires Inv-loop μ-loop
+nothing-seen-requires c κs = search needs
+
+loop-holds : tie.Need-loop-holds Inv-loop μ-loop
+loop-holds c = (c .before .row-count .ensures .1, omega (arith, c .before .row-count .ensures .0), seen-none _ _ _ (c .before .row-count .ensures .0) (c .nothing-seen .ensures))
+
+sub-k : tie.Need-sub-k Inv-loop μ-loop
+sub-k c = omega arith
+
+mul-r : tie.Need-mul-r Inv-loop μ-loop
+mul-r c = omega arith
+
+element-copy-out-r : tie.Need-element-copy-out-r Inv-loop μ-loop
+element-copy-out-r c = omega arith
+
+mul-v : tie.Need-mul-v Inv-loop μ-loop
+mul-v c = omega arith
+
+array-copy-out-v : tie.Need-array-copy-out-v Inv-loop μ-loop
+array-copy-out-v c = omega arith
+
+with-value-requires : tie.Need-with-value-requires Inv-loop μ-loop
+with-value-requires c κs = search needs
+
+loop-less : tie.Need-loop-less Inv-loop μ-loop
+loop-less c = omega arith
+
+loop-again : tie.Need-loop-again Inv-loop μ-loop
+loop-again c =
+    let a = c .before .before .before .before .before .before .before .before .args in
+    let l = c .before .before .before .before .loop in
+    let b : length (a .t3) ≡ 12 = search (needs, length-of) in
+    (omega arith, omega arith, c .with-value .ensures ∙ seen-row-at (a .t1) (a .t3) (now (a .s)) (l .k) (l .x) (omega arith) (l .inv .1) (omega arith) (l .inv .2))
+
+returns : tie.Need-returns Inv-loop μ-loop
+returns c = let z : c .before .loop .k ≡ 0 = omega arith in rw z at (c .before .loop .inv .2)
+
+pub seen-in-spec : {M : Type 1} → statement M
+seen-in-spec =
+    tie.close
+    (tie.spec
+    Inv-loop
+    μ-loop
+    row-count-requires
+    nothing-seen-requires
+    loop-holds
+    sub-k
+    mul-r
+    element-copy-out-r
+    mul-v
+    array-copy-out-v
+    with-value-requires
+    loop-less
+    loop-again
+    returns)

@@ -1,3 +1,0 @@
-pub mod Typed
-pub mod Ties
-pub mod Examples

@@ -1,1 +1,0 @@
-// The ties between reading and writing. No code: theorems over the definitions.

@@ -1,0 +1,160 @@
+-- The verdict on a message, by the steps in which the code comes to it; and what is decided then.
+-- Assumes nothing.
+use Prim.Native.Nat.{ℕ, _-_, _≤_, _<_}
+use mathlib.Core.Path.{_≡_, _∙_, refl, sym, ap, subst}
+use mathlib.Core.Bool.{Bool, true, false}
+use mathlib.Core.List.{List, [], _∷_, _++_}
+use native.Mathlib.Omega.{arith}
+use borrow.Author.Tests.{lt-ltb, le-ltb}
+use lib.ListN.{length, replicate}
+use lib.Seq.{take-append-seam}
+use Rattle.lists.specs.Lists.{pick}
+use Rattle.octets.specs.Read.{Read, got, stop}
+use Rattle.octets.specs.Many.{Each}
+use Rattle.octets.specs.declared.Stop.{Stop}
+use Rattle.octets.specs.declared.Gate.{Gate}
+use Rattle.octets.specs.declared.Gate.the-variants as gate
+use Rattle.octets.specs.declared.Span.{Span}
+use Rattle.octets.specs.Span.{noSpan}
+use Rattle.identity.specs.declared.MceId.{MceId}
+use Rattle.rows.specs.declared.Row.{Row}
+use Rattle.rows.specs.declared.Rows.{Rows}
+use Rattle.rows.specs.Table.{rowsIn}
+use Rattle.editions.specs.declared.Edition.{Edition}
+use Rattle.editions.specs.declared.Message.{Message}
+use Rattle.editions.specs.declared.Named.the-variants as named
+use Rattle.editions.specs.Editions.{tableOf, rowsOf, namedBy}
+use Rattle.editions.proofs.Tables.{Fits, rows-fit}
+use Rattle.frames.specs.declared.Frame.{Frame}
+use Rattle.frames.specs.Frame.{frameAt}
+use Rattle.meaning.specs.Value.{Given}
+use Rattle.meaning.specs.Reading.{valueIn, valuesIn}
+use Rattle.layout.specs.Record.{listsOf}
+use Rattle.verdicts.specs.declared.Refusal.the-variants as refusal
+use Rattle.verdicts.specs.Verdict.{Opening, openedAt, refused, verdictOf, ofThose, readOf}
+use Rattle.judging.specs.declared.Opened.{Opened}
+use Rattle.judging.specs.Judging.{openedBy, notedOf}
+use Rattle.entries.specs.declared.Entry.{Entry}
+use Rattle.verdicts.specs.declared.Outcome.{Outcome}
+use Rattle.requests.specs.declared.Request.{Request}
+use Rattle.requests.specs.Requests.{seen, requestOf, asks}
+use Rattle.table.specs.Table.{State, standing}
+use Rattle.carry.specs.Carry.{asked, decision}
+use Rattle.calls.specs.Decided.{applied, decided}
+use Rattle.unit.specs.Unit.{NumbersFit}
+use Rattle.unit.proofs.Noted.{opened-rows}
+
+-- ---- the steps of reading
+
+module _ (e : Edition) (s : List ℕ) where
+  pub too-long : 8192 < length s → readOf e asks s ≡ refused refusal.TooLong
+  unfolding readOf
+  too-long h = rw (lt-ltb 8192 (length s) h)
+
+  module _ (h : length s ≤ 8192) where
+    pub frame-stops : {x : Stop} → stop x ≡ frameAt s → readOf e asks s ≡ refused (refusal.Stopped x)
+    unfolding readOf
+    frame-stops q = rw (le-ltb 8192 (length s) h, ← q)
+
+    module _ (f : Frame) (q : got f ≡ frameAt s) where
+      framed-by : readOf e asks s ≡ ofThose e asks s f (namedBy e (f .kind) (f .code))
+      unfolding readOf
+      framed-by = rw (le-ltb 8192 (length s) h, ← q)
+
+      pub not-named : named.Other ≡ namedBy e (f .kind) (f .code) → readOf e asks s ≡ refused refusal.NotAmong
+      not-named n = framed-by ∙ ap (ofThose e asks s f) (sym n)
+
+      module _ (m : Message) (n : named.Is m ≡ namedBy e (f .kind) (f .code)) where
+        named-by : readOf e asks s ≡ pick (asks m) (verdictOf (tableOf e m) m f s (openedAt (tableOf e m) s (f .from))) (refused refusal.NotAmong)
+        named-by = framed-by ∙ ap (ofThose e asks s f) (sym n)
+
+        pub not-asking : asks m ≡ false → readOf e asks s ≡ refused refusal.NotAmong
+        not-asking a = named-by ∙ ap (λ (b : Bool). pick b (verdictOf (tableOf e m) m f s (openedAt (tableOf e m) s (f .from))) (refused refusal.NotAmong)) a
+
+        pub asking : asks m ≡ true → readOf e asks s ≡ verdictOf (tableOf e m) m f s (openedAt (tableOf e m) s (f .from))
+        asking a = named-by ∙ ap (λ (b : Bool). pick b (verdictOf (tableOf e m) m f s (openedAt (tableOf e m) s (f .from))) (refused refusal.NotAmong)) a
+
+-- ---- the opening
+
+-- by the gate that the code answers
+abbrev Passing : Gate → Read Opening → Type 0
+Passing gate.Pass r = (y : Opening) × (r ≡ got y)
+Passing (gate.Stop x) r = r ≡ stop x
+
+passing : (r : Read Opening) → Passing (openedBy r .gate) r
+passing (got y) = (y, refl)
+passing (stop x) = refl
+
+module _ (r : Read Opening) {o : Opened} (q : o ≡ openedBy r) where
+  by-gate : {g : Gate} → o .gate ≡ g → Passing g r
+  by-gate e = subst (λ (g : Gate). Passing g r) (sym (ap (λ (z : Opened). z .gate) q) ∙ e) (passing r)
+
+  pub passed : o .gate ≡ gate.Pass → (y : Opening) × (r ≡ got y)
+  passed e = by-gate e
+
+  pub stopped-at : {x : Stop} → o .gate ≡ gate.Stop x → r ≡ stop x
+  stopped-at e = by-gate e
+
+-- ---- the table of a message, and the values by its rows
+
+pub rows-of : (e : Edition) (m : Message) {t : Rows} → t ≡ rowsOf e m → rowsIn t ≡ tableOf e m
+rows-of e m q = ap rowsIn q ∙ take-append-seam (tableOf e m) _
+
+pub numbers-fit : (e : Edition) (m : Message) {t : Rows} → t ≡ rowsOf e m → Each NumbersFit (rowsIn t)
+numbers-fit e m q = subst (Each NumbersFit) (sym (rows-of e m q)) (each (tableOf e m) (rows-fit e m))
+  where
+    each : (t : List Row) → Each Fits t → Each NumbersFit t
+    each [] g = tt
+    each (r ∷ t) g = (record { id = g .0 .id; crit = g .0 .crit }, each t (g .1))
+
+-- what stands behind the places of the rows is not looked at
+values-front : (t : List Row) (s : List ℕ) (l k : List Span) → length l ≡ length t → valuesIn t s (l ++ k) ≡ valuesIn t s l
+unfolding valuesIn
+values-front [] s l k q = refl
+values-front (r ∷ t) s [] k q = absurd (omega arith)
+values-front (r ∷ t) s (v ∷ l) k q = let n : length l ≡ length t = omega arith in ap (valueIn (r .kind) s v ∷_) (values-front t s l k n)
+
+-- ---- what the code has found, step by step, is what is decided
+
+decided-so : (e : Edition) (m : Message) (f : Frame) (s : List ℕ) (c : MceId) (l : State) (y : Opening) {x : Read Opening} {vs : List (Given Span)} {es : List Entry} {w : Outcome} {u : Request}
+    → x ≡ got y → vs ≡ valuesIn (tableOf e m) s (y .spans) → es ≡ y .noted → w ≡ y .outcome → u ≡ requestOf m (seen vs)
+    → applied e l f (listsOf vs .items) es (decision (standing (asked c u) l) c u w) ≡ decided e l c (verdictOf (tableOf e m) m f s x)
+unfolding decided
+decided-so e m f s c l y {x} {vs} {es} {w} {u} a b g h k =
+    (λ i. applied e l f (listsOf (b i) .items) (g i) (decision (standing (asked c (z i)) l) c (z i) (h i)))
+    ∙ sym (ap (λ (r : Read Opening). decided e l c (verdictOf (tableOf e m) m f s r)) a)
+  where
+    z : u ≡ requestOf m (seen (valuesIn (tableOf e m) s (y .spans)))
+    z = k ∙ ap (λ (v : List (Given Span)). requestOf m (seen v)) b
+
+module _ (e : Edition) (m : Message) (f : Frame) (s : List ℕ) {t : Rows} {o : Opened} (rows : t ≡ rowsOf e m) (q : o ≡ openedBy (openedAt (rowsIn t) s (f .from))) where
+  opened-so : o ≡ openedBy (openedAt (tableOf e m) s (f .from))
+  opened-so = q ∙ ap (λ (x : List Row). openedBy (openedAt x s (f .from))) (rows-of e m rows)
+
+  pub noted-count : o .gate ≡ gate.Pass → o .noted ≡ length (notedOf (openedAt (rowsIn t) s (f .from)))
+  noted-count p = let y = passed (openedAt (rowsIn t) s (f .from)) q p in rw (q, y .1)
+
+  pub verdict-stops : {x : Stop} → o .gate ≡ gate.Stop x → verdictOf (tableOf e m) m f s (openedAt (tableOf e m) s (f .from)) ≡ refused (refusal.Stopped x)
+  verdict-stops p = ap (verdictOf (tableOf e m) m f s) (stopped-at (openedAt (tableOf e m) s (f .from)) opened-so p)
+
+  module _ (p : o .gate ≡ gate.Pass) where
+    opening : Opening
+    opening = passed (openedAt (tableOf e m) s (f .from)) opened-so p .0
+
+    opening-is : openedAt (tableOf e m) s (f .from) ≡ got opening
+    unfolding opening
+    opening-is = passed (openedAt (tableOf e m) s (f .from)) opened-so p .1
+
+    values-by : valuesIn (rowsIn t) s (o .spans) ≡ valuesIn (tableOf e m) s (opening .spans)
+    values-by =
+        let a : o .spans ≡ opening .spans ++ replicate (12 - length (opening .spans)) noSpan = ap (λ (z : Opened). z .spans) (opened-so ∙ ap openedBy opening-is) in
+        ap (λ (x : List Row). valuesIn x s (o .spans)) (rows-of e m rows)
+        ∙ (ap (λ (x : List Span). valuesIn (tableOf e m) s x) a ∙ values-front (tableOf e m) s (opening .spans) _ (opened-rows (tableOf e m) s (f .from) (sym opening-is)))
+
+    pub decided-by : {u : Request} → u ≡ requestOf m (seen (valuesIn (rowsIn t) s (o .spans))) → (c : MceId) (l : State)
+        → applied e l f (listsOf (valuesIn (rowsIn t) s (o .spans)) .items) (notedOf (openedAt (rowsIn t) s (f .from))) (decision (standing (asked c u) l) c u (o .outcome))
+        ≡ decided e l c (verdictOf (tableOf e m) m f s (openedAt (tableOf e m) s (f .from)))
+    decided-by a c l =
+        let w : o .outcome ≡ opening .outcome = ap (λ (z : Opened). z .outcome) (opened-so ∙ ap openedBy opening-is) in
+        let n : notedOf (openedAt (rowsIn t) s (f .from)) ≡ opening .noted = ap (λ (x : List Row). notedOf (openedAt x s (f .from))) (rows-of e m rows) ∙ ap notedOf opening-is in
+        decided-so e m f s c l opening opening-is values-by n w a
