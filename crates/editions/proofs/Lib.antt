@@ -1,4 +1,5 @@
 pub mod Only
+pub mod Search
 pub mod Listed
 pub mod Names
 pub mod Tables

@@ -1,4 +1,4 @@
--- A message is named by its own frame and by its own number, and by no other: frames and numbers of an edition are apart, by computing.
+-- A message is named by its own frame and by its own number, and by no other: frames of an edition are apart, by computing; numbers are in Listed.
 --     code-names, number-names      forth;   named-code, numbered-number   back
 --     bounds                        what the frame and the number fit in
 -- Assumes nothing.
@@ -18,6 +18,7 @@ use Rattle.editions.specs.declared.Message.{Message}
 use Rattle.editions.specs.declared.Named.the-variants.{Is}
 use Rattle.editions.specs.Editions.{release18, messagesOf, codeOf, numberOf, firstOf, namedBy, numberedBy}
 use Rattle.editions.proofs.Listed.{listed, every}
+pub use Rattle.editions.proofs.Listed.{number-names}
 
 -- the first that passes passes
 first-passes : (p : Message → Bool) (m : Message) (ms : List Message) → Is m ≡ firstOf p ms → p m ≡ true
@@ -41,24 +42,13 @@ first-alike alike m self (List·Memᴰ·tail {x = x} {xs = xs} d) e =
 abbrev sameCode : Edition → Message → Message → Bool
 sameCode e m x = eqb (codeOf e m .kind) (codeOf e x .kind) && eqb (codeOf e m .code) (codeOf e x .code)
 
-abbrev sameNumber : Edition → Message → Message → Bool
-sameNumber e m x = eqb (numberOf e m) (numberOf e x)
-
 codes-apart : (e : Edition) → apart (λ (x y : Message). sameCode e y x) (messagesOf e) ≡ true
 unfolding release18
 codes-apart Release18 = refl
 
-numbers-apart : (e : Edition) → apart (λ (x y : Message). sameNumber e y x) (messagesOf e) ≡ true
-unfolding release18
-numbers-apart Release18 = refl
-
 pub code-names : (e : Edition) (m : Message) → namedBy e (codeOf e m .kind) (codeOf e m .code) ≡ Is m
 unfolding namedBy
 code-names e m = first-alike (sameCode e) m (rw (eq-eqb (codeOf e m .kind) _ refl, eq-eqb (codeOf e m .code) _ refl)) (listed e m) (codes-apart e)
-
-pub number-names : (e : Edition) (m : Message) → numberedBy e (numberOf e m) ≡ Is m
-unfolding numberedBy
-number-names e m = first-alike (sameNumber e) m (eq-eqb (numberOf e m) _ refl) (listed e m) (numbers-apart e)
 
 -- a message has the kind and the code by which it was named
 pub named-code : (e : Edition) (kind code : ℕ) (m : Message) → Is m ≡ namedBy e kind code → (kind ≡ codeOf e m .kind) × (code ≡ codeOf e m .code)

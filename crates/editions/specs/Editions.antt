@@ -1,5 +1,5 @@
 -- The messages of an edition. Each is one clause: its number for C, its frame (9.3.3) and its table of elements (9.3.4).
--- A new message is a clause of its edition and its name in messagesOf; nothing else here asks which message it is.
+-- A new message is a clause of form18 and its name in messagesOf; nothing else here asks which message it is.
 use Prim.Native.Nat.{ℕ}
 use mathlib.Core.Bool.{Bool, true, false, _&&_}
 use mathlib.Core.List.{List, [], _∷_}
@@ -44,8 +44,8 @@ pub record Form : Type 0 where
 abbrev form : ℕ → Code → List Row → Form
 form n c t = record { number = n; code = c; rows = t }
 
-unfoldable pub release18 : Message → Form
-release18 StartRequest = form 1 (frame 0 0 reject)
+abbrev pub form18 : Message → Form
+form18 StartRequest = form 1 (frame 0 0 reject)
     (mandatory id-MME-MBMS-M3AP-ID reject Mme
     ∷ mandatory id-TMGI reject Tmgi
     ∷ optional id-MBMS-Session-ID ignore Session
@@ -58,33 +58,37 @@ release18 StartRequest = form 1 (frame 0 0 reject)
     ∷ optional id-Reestablishment ignore Carried
     ∷ optional id-Alternative-TNL-Information ignore Carried
     ∷ optional id-MBMS-Cell-List reject Carried ∷ [])
-release18 StartResponse = form 2 (frame 1 0 reject)
+form18 StartResponse = form 2 (frame 1 0 reject)
     (mandatory id-MME-MBMS-M3AP-ID ignore Mme
     ∷ mandatory id-MCE-MBMS-M3AP-ID ignore Mce
     ∷ optional id-CriticalityDiagnostics ignore Diagnostics ∷ [])
-release18 StartFailure = form 3 (frame 2 0 reject)
+form18 StartFailure = form 3 (frame 2 0 reject)
     (mandatory id-MME-MBMS-M3AP-ID ignore Mme
     ∷ mandatory id-Cause ignore Cause
     ∷ optional id-CriticalityDiagnostics ignore Diagnostics ∷ [])
-release18 StopRequest = form 4 (frame 0 1 reject)
+form18 StopRequest = form 4 (frame 0 1 reject)
     (mandatory id-MME-MBMS-M3AP-ID reject Mme
     ∷ mandatory id-MCE-MBMS-M3AP-ID reject Mce
     ∷ optional id-Time-ofMBMS-DataStop ignore Carried ∷ [])
-release18 StopResponse = form 5 (frame 1 1 reject)
+form18 StopResponse = form 5 (frame 1 1 reject)
     (mandatory id-MME-MBMS-M3AP-ID ignore Mme
     ∷ mandatory id-MCE-MBMS-M3AP-ID ignore Mce
     ∷ optional id-CriticalityDiagnostics ignore Diagnostics ∷ [])
-release18 Reset = form 6 (frame 0 4 reject)
+form18 Reset = form 6 (frame 0 4 reject)
     (mandatory id-Cause ignore Cause
     ∷ mandatory id-ResetType reject ResetType ∷ [])
-release18 ResetAcknowledge = form 7 (frame 1 4 reject)
+form18 ResetAcknowledge = form 7 (frame 1 4 reject)
     (optional id-MBMS-Service-associatedLogicalM3-ConnectionListResAck ignore Acknowledged
     ∷ optional id-CriticalityDiagnostics ignore Diagnostics ∷ [])
-release18 ErrorIndication = form 8 (frame 0 2 ignore)
+form18 ErrorIndication = form 8 (frame 0 2 ignore)
     (optional id-MME-MBMS-M3AP-ID ignore Mme
     ∷ optional id-MCE-MBMS-M3AP-ID ignore Mce
     ∷ optional id-Cause ignore Cause
     ∷ optional id-CriticalityDiagnostics ignore Diagnostics ∷ [])
+
+-- the same, shut: what is shown of a message shows no table
+unfoldable pub release18 : Message → Form
+release18 m = form18 m
 
 abbrev pub formOf : Edition → Message → Form
 formOf Release18 m = release18 m

@@ -1,3 +1,4 @@
 pub mod Ids
 pub mod Editions
 pub mod Lawful
+pub mod Steps

@@ -1,6 +1,14 @@
 // The messages of an edition, with the number, the frame and the table of elements of each.
 ghost use mathlib.Core.Path.{_≡_};
-ghost use Rattle.editions.specs.Editions.{rowsOf, codeOf, numberOf, namedBy, numberedBy};
+ghost use mathlib.Core.Bool.{_&&_};
+ghost use mathlib.Core.List.{_∷_, []};
+ghost use Prim.Native.Nat.{_<_};
+ghost use lib.Dec.{eqb};
+ghost use lib.ListN.{length, getD};
+ghost use Rattle.lists.specs.Lists.{fill};
+ghost use Rattle.rows.specs.Table.{noRow};
+ghost use Rattle.editions.specs.Editions.{form18, formOf, messagesOf, rowsOf, codeOf, numberOf, namedBy, numberedBy};
+ghost use Rattle.editions.specs.Steps.{Heads, rowsBy};
 use rows::Kind;
 use rows::Row;
 use rows::Rows;
@@ -38,7 +46,7 @@ const REJECT: u8 = 0;
 
 const IGNORE: u8 = 1;
 
-// No row stands here.
+// The rows, each written out, since a check follows every step of a constant. With _R mandatory of reject, with _M mandatory of ignore.
 const NO: Row = Row {
     id: 0,
     crit: REJECT,
@@ -46,124 +54,219 @@ const NO: Row = Row {
     mandatory: false,
 };
 
-// Of a value that is carried: optional of ignore, mandatory of reject.
-const MAY: Row = Row { crit: IGNORE, ..NO };
-
-const MUST: Row = Row {
-    mandatory: true,
-    ..NO
-};
-
-// Rows that tables share. With _R mandatory of reject, with _M mandatory of ignore, else optional of ignore.
 const MME: Row = Row {
     id: 0,
+    crit: IGNORE,
     kind: Kind::Mme,
-    ..MAY
+    mandatory: false,
 };
 
 const MCE: Row = Row {
     id: 1,
+    crit: IGNORE,
     kind: Kind::Mce,
-    ..MAY
+    mandatory: false,
 };
 
 const CAUSE: Row = Row {
     id: 9,
+    crit: IGNORE,
     kind: Kind::Cause,
-    ..MAY
+    mandatory: false,
 };
 
 const DIAG: Row = Row {
     id: 8,
+    crit: IGNORE,
     kind: Kind::Diagnostics,
-    ..MAY
+    mandatory: false,
 };
 
 const SESSION: Row = Row {
     id: 3,
+    crit: IGNORE,
     kind: Kind::Session,
-    ..MAY
+    mandatory: false,
 };
 
 const ITEMS: Row = Row {
     id: 15,
+    crit: IGNORE,
     kind: Kind::Acknowledged,
-    ..MAY
+    mandatory: false,
 };
 
-const STOP_AT: Row = Row { id: 22, ..MAY };
+const STOP_AT: Row = Row {
+    id: 22,
+    crit: IGNORE,
+    kind: Kind::Carried,
+    mandatory: false,
+};
 
 const MME_M: Row = Row {
+    id: 0,
+    crit: IGNORE,
+    kind: Kind::Mme,
     mandatory: true,
-    ..MME
 };
 
 const MCE_M: Row = Row {
+    id: 1,
+    crit: IGNORE,
+    kind: Kind::Mce,
     mandatory: true,
-    ..MCE
 };
 
 const CAUSE_M: Row = Row {
+    id: 9,
+    crit: IGNORE,
+    kind: Kind::Cause,
     mandatory: true,
-    ..CAUSE
 };
 
 const MME_R: Row = Row {
     id: 0,
+    crit: REJECT,
     kind: Kind::Mme,
-    ..MUST
+    mandatory: true,
 };
 
 const MCE_R: Row = Row {
     id: 1,
+    crit: REJECT,
     kind: Kind::Mce,
-    ..MUST
+    mandatory: true,
 };
 
 const TMGI_R: Row = Row {
     id: 2,
+    crit: REJECT,
     kind: Kind::Tmgi,
-    ..MUST
+    mandatory: true,
 };
 
 const RESET_R: Row = Row {
     id: 13,
+    crit: REJECT,
     kind: Kind::ResetType,
-    ..MUST
+    mandatory: true,
 };
 
-// The tables, as 9.3.4 has them.
+const QOS: Row = Row {
+    id: 4,
+    crit: REJECT,
+    kind: Kind::Carried,
+    mandatory: true,
+};
+
+const DURATION: Row = Row {
+    id: 5,
+    crit: REJECT,
+    kind: Kind::Carried,
+    mandatory: true,
+};
+
+const AREA: Row = Row {
+    id: 6,
+    crit: REJECT,
+    kind: Kind::Carried,
+    mandatory: true,
+};
+
+const MINIMUM: Row = Row {
+    id: 16,
+    crit: REJECT,
+    kind: Kind::Carried,
+    mandatory: true,
+};
+
+const TNL: Row = Row {
+    id: 7,
+    crit: REJECT,
+    kind: Kind::Carried,
+    mandatory: true,
+};
+
+const TIME: Row = Row {
+    id: 21,
+    crit: IGNORE,
+    kind: Kind::Carried,
+    mandatory: false,
+};
+
+const AGAIN: Row = Row {
+    id: 23,
+    crit: IGNORE,
+    kind: Kind::Carried,
+    mandatory: false,
+};
+
+const ALTERNATIVE: Row = Row {
+    id: 24,
+    crit: IGNORE,
+    kind: Kind::Carried,
+    mandatory: false,
+};
+
+const CELLS: Row = Row {
+    id: 25,
+    crit: REJECT,
+    kind: Kind::Carried,
+    mandatory: false,
+};
+
 const START_REQUEST: [Row; 12] = [
     MME_R,
     TMGI_R,
     SESSION,
-    Row { id: 4, ..MUST }, // E-RAB QoS Parameters
-    Row { id: 5, ..MUST }, // Session Duration
-    Row { id: 6, ..MUST }, // Service Area
-    Row { id: 16, ..MUST }, // Minimum Time to Data Transfer
-    Row { id: 7, ..MUST }, // TNL Information
-    Row { id: 21, ..MAY }, // Time of Data Transfer
-    Row { id: 23, ..MAY }, // Reestablishment
-    Row { id: 24, ..MAY }, // Alternative TNL Information
-    Row { id: 25, ..NO }, // Cell List, of reject
+    QOS,
+    DURATION,
+    AREA,
+    MINIMUM,
+    TNL,
+    TIME,
+    AGAIN,
+    ALTERNATIVE,
+    CELLS,
 ];
 
-const START_RESPONSE: [Row; 12] = [MME_M, MCE_M, DIAG, NO, NO, NO, NO, NO, NO, NO, NO, NO];
+// ---- Release 18: of each message its name, its number and frame, and its table. head_18 and rows_18 are proved with no proof written, so a message is said only here.
 
-const START_FAILURE: [Row; 12] = [MME_M, CAUSE_M, DIAG, NO, NO, NO, NO, NO, NO, NO, NO, NO];
+const COUNT: usize = 8;
 
-const STOP_REQUEST: [Row; 12] = [MME_R, MCE_R, STOP_AT, NO, NO, NO, NO, NO, NO, NO, NO, NO];
+const MESSAGES: [Message; COUNT] = [
+    Message::StartRequest,
+    Message::StartResponse,
+    Message::StartFailure,
+    Message::StopRequest,
+    Message::StopResponse,
+    Message::Reset,
+    Message::ResetAcknowledge,
+    Message::ErrorIndication,
+];
 
-const STOP_RESPONSE: [Row; 12] = [MME_M, MCE_M, DIAG, NO, NO, NO, NO, NO, NO, NO, NO, NO];
+// Number for C, kind, procedure code, criticality.
+struct Head(u8, u8, u8, u8);
 
-const RESET: [Row; 12] = [CAUSE_M, RESET_R, NO, NO, NO, NO, NO, NO, NO, NO, NO, NO];
+fn head_18(m: Message) -> Head
+    ensures { λ r. ⌜ Heads (form18 m) r ⌝ }
+{
+    match m {
+        Message::StartRequest => Head(1, 0, 0, REJECT),
+        Message::StartResponse => Head(2, 1, 0, REJECT),
+        Message::StartFailure => Head(3, 2, 0, REJECT),
+        Message::StopRequest => Head(4, 0, 1, REJECT),
+        Message::StopResponse => Head(5, 1, 1, REJECT),
+        Message::Reset => Head(6, 0, 4, REJECT),
+        Message::ResetAcknowledge => Head(7, 1, 4, REJECT),
+        Message::ErrorIndication => Head(8, 0, 2, IGNORE),
+    }
+}
 
-const RESET_ACKNOWLEDGE: [Row; 12] = [ITEMS, DIAG, NO, NO, NO, NO, NO, NO, NO, NO, NO, NO];
-
-const ERROR_INDICATION: [Row; 12] = [MME, MCE, CAUSE, DIAG, NO, NO, NO, NO, NO, NO, NO, NO];
-
-fn start_request() -> Rows
-    ensures { λ r. ⌜ r ≡ rowsOf Edition.Release18 Message.StartRequest ⌝ }
+// Who calls sees which message m is; so the contract needs no case.
+fn start_request(m: Message) -> Rows
+    requires { ⌜ m ≡ Message.StartRequest ⌝ }
+    ensures { λ r. ⌜ r ≡ rowsBy (form18 m) ⌝ }
 {
     Rows {
         rows: START_REQUEST,
@@ -171,66 +274,39 @@ fn start_request() -> Rows
     }
 }
 
-fn start_response() -> Rows
-    ensures { λ r. ⌜ r ≡ rowsOf Edition.Release18 Message.StartResponse ⌝ }
+// A table of the first n of these rows, which x has; m is x.
+fn few(m: Message, x: Message, a: Row, b: Row, c: Row, d: Row, n: usize) -> Rows
+    requires { ⌜ (m ≡ x) × (record { rows = fill noRow 12 (a ∷ b ∷ c ∷ d ∷ []); count = n } ≡ rowsBy (form18 x)) ⌝ }
+    ensures { λ r. ⌜ r ≡ rowsBy (form18 m) ⌝ }
 {
     Rows {
-        rows: START_RESPONSE,
-        count: 3,
+        rows: [a, b, c, d, NO, NO, NO, NO, NO, NO, NO, NO],
+        count: n,
     }
 }
 
-fn start_failure() -> Rows
-    ensures { λ r. ⌜ r ≡ rowsOf Edition.Release18 Message.StartFailure ⌝ }
+fn rows_18(m: Message) -> Rows
+    ensures { λ r. ⌜ r ≡ rowsBy (form18 m) ⌝ }
 {
-    Rows {
-        rows: START_FAILURE,
-        count: 3,
+    match m {
+        Message::StartRequest => start_request(m),
+        Message::StartResponse => few(m, Message::StartResponse, MME_M, MCE_M, DIAG, NO, 3),
+        Message::StartFailure => few(m, Message::StartFailure, MME_M, CAUSE_M, DIAG, NO, 3),
+        Message::StopRequest => few(m, Message::StopRequest, MME_R, MCE_R, STOP_AT, NO, 3),
+        Message::StopResponse => few(m, Message::StopResponse, MME_M, MCE_M, DIAG, NO, 3),
+        Message::Reset => few(m, Message::Reset, CAUSE_M, RESET_R, NO, NO, 2),
+        Message::ResetAcknowledge => few(m, Message::ResetAcknowledge, ITEMS, DIAG, NO, NO, 2),
+        Message::ErrorIndication => few(m, Message::ErrorIndication, MME, MCE, CAUSE, DIAG, 4),
     }
 }
 
-fn stop_request() -> Rows
-    ensures { λ r. ⌜ r ≡ rowsOf Edition.Release18 Message.StopRequest ⌝ }
-{
-    Rows {
-        rows: STOP_REQUEST,
-        count: 3,
-    }
-}
+// ---- any edition
 
-fn stop_response() -> Rows
-    ensures { λ r. ⌜ r ≡ rowsOf Edition.Release18 Message.StopResponse ⌝ }
+fn head_of(e: Edition, m: Message) -> Head
+    ensures { λ r. ⌜ Heads (formOf e m) r ⌝ }
 {
-    Rows {
-        rows: STOP_RESPONSE,
-        count: 3,
-    }
-}
-
-fn reset() -> Rows
-    ensures { λ r. ⌜ r ≡ rowsOf Edition.Release18 Message.Reset ⌝ }
-{
-    Rows {
-        rows: RESET,
-        count: 2,
-    }
-}
-
-fn reset_acknowledge() -> Rows
-    ensures { λ r. ⌜ r ≡ rowsOf Edition.Release18 Message.ResetAcknowledge ⌝ }
-{
-    Rows {
-        rows: RESET_ACKNOWLEDGE,
-        count: 2,
-    }
-}
-
-fn error_indication() -> Rows
-    ensures { λ r. ⌜ r ≡ rowsOf Edition.Release18 Message.ErrorIndication ⌝ }
-{
-    Rows {
-        rows: ERROR_INDICATION,
-        count: 4,
+    match e {
+        Edition::Release18 => head_18(m),
     }
 }
 
@@ -239,40 +315,19 @@ pub fn rows_of(e: Edition, m: Message) -> Rows
     ensures { λ r. ⌜ r ≡ rowsOf e m ⌝ }
 {
     match e {
-        Edition::Release18 => match m {
-            Message::StartRequest => start_request(),
-            Message::StartResponse => start_response(),
-            Message::StartFailure => start_failure(),
-            Message::StopRequest => stop_request(),
-            Message::StopResponse => stop_response(),
-            Message::Reset => reset(),
-            Message::ResetAcknowledge => reset_acknowledge(),
-            Message::ErrorIndication => error_indication(),
-        },
+        Edition::Release18 => rows_18(m),
     }
-}
-
-fn frame(kind: u8, code: u8, crit: u8) -> Code
-    ensures { λ r. ⌜ r ≡ record { kind = kind; code = code; crit = crit } ⌝ }
-{
-    Code { kind, code, crit }
 }
 
 // The frame of a message.
 pub fn code_of(e: Edition, m: Message) -> Code
     ensures { λ r. ⌜ r ≡ codeOf e m ⌝ }
 {
-    match e {
-        Edition::Release18 => match m {
-            Message::StartRequest => frame(0, 0, REJECT),
-            Message::StartResponse => frame(1, 0, REJECT),
-            Message::StartFailure => frame(2, 0, REJECT),
-            Message::StopRequest => frame(0, 1, REJECT),
-            Message::StopResponse => frame(1, 1, REJECT),
-            Message::Reset => frame(0, 4, REJECT),
-            Message::ResetAcknowledge => frame(1, 4, REJECT),
-            Message::ErrorIndication => frame(0, 2, IGNORE),
-        },
+    let h = head_of(e, m);
+    Code {
+        kind: h.1,
+        code: h.2,
+        crit: h.3,
     }
 }
 
@@ -280,81 +335,62 @@ pub fn code_of(e: Edition, m: Message) -> Code
 pub fn number_of(e: Edition, m: Message) -> u8
     ensures { λ r. ⌜ r ≡ numberOf e m ⌝ }
 {
+    let h = head_of(e, m);
+    h.0
+}
+
+// How many messages there are, and each.
+fn message_count(e: Edition) -> usize
+    ensures { λ r. ⌜ r ≡ length (messagesOf e) ⌝ }
+{
     match e {
-        Edition::Release18 => match m {
-            Message::StartRequest => 1,
-            Message::StartResponse => 2,
-            Message::StartFailure => 3,
-            Message::StopRequest => 4,
-            Message::StopResponse => 5,
-            Message::Reset => 6,
-            Message::ResetAcknowledge => 7,
-            Message::ErrorIndication => 8,
-        },
+        Edition::Release18 => COUNT,
     }
 }
 
-fn initiating(code: u8) -> Named
-    ensures { λ r. ⌜ r ≡ namedBy Edition.Release18 0 code ⌝ }
+fn message_at(e: Edition, i: usize) -> Message
+    requires { ⌜ i < length (messagesOf e) ⌝ }
+    ensures { λ r. ⌜ r ≡ getD (messagesOf e) i Message.StartRequest ⌝ }
 {
-    match code {
-        0 => Named::Is(Message::StartRequest),
-        1 => Named::Is(Message::StopRequest),
-        2 => Named::Is(Message::ErrorIndication),
-        4 => Named::Is(Message::Reset),
-        _ => Named::Other,
+    match e {
+        Edition::Release18 => MESSAGES[i],
     }
 }
 
-fn successful(code: u8) -> Named
-    ensures { λ r. ⌜ r ≡ namedBy Edition.Release18 1 code ⌝ }
+fn is_of(h: Head, kind: u8, code: u8) -> bool
+    ensures { λ r. ⌜ r ≡ (eqb kind (h .1) && eqb code (h .2)) ⌝ }
 {
-    match code {
-        0 => Named::Is(Message::StartResponse),
-        1 => Named::Is(Message::StopResponse),
-        4 => Named::Is(Message::ResetAcknowledge),
-        _ => Named::Other,
-    }
-}
-
-fn unsuccessful(code: u8) -> Named
-    ensures { λ r. ⌜ r ≡ namedBy Edition.Release18 2 code ⌝ }
-{
-    match code {
-        0 => Named::Is(Message::StartFailure),
-        _ => Named::Other,
-    }
+    (kind == h.1) & (code == h.2)
 }
 
 // The message of a kind and a procedure code.
 pub fn message_of(e: Edition, kind: u8, code: u8) -> Named
     ensures { λ r. ⌜ r ≡ namedBy e kind code ⌝ }
 {
-    match e {
-        Edition::Release18 => match kind {
-            0 => initiating(code),
-            1 => successful(code),
-            2 => unsuccessful(code),
-            _ => Named::Other,
-        },
+    let n = message_count(e);
+    let mut i: usize = 0;
+    while i < n {
+        let m = message_at(e, i);
+        if is_of(head_of(e, m), kind, code) {
+            return Named::Is(m);
+        }
+        i += 1;
     }
+    Named::Other
 }
 
 // The message of a number.
 pub fn numbered(e: Edition, n: u8) -> Named
     ensures { λ r. ⌜ r ≡ numberedBy e n ⌝ }
 {
-    match e {
-        Edition::Release18 => match n {
-            1 => Named::Is(Message::StartRequest),
-            2 => Named::Is(Message::StartResponse),
-            3 => Named::Is(Message::StartFailure),
-            4 => Named::Is(Message::StopRequest),
-            5 => Named::Is(Message::StopResponse),
-            6 => Named::Is(Message::Reset),
-            7 => Named::Is(Message::ResetAcknowledge),
-            8 => Named::Is(Message::ErrorIndication),
-            _ => Named::Other,
-        },
+    let count = message_count(e);
+    let mut i: usize = 0;
+    while i < count {
+        let m = message_at(e, i);
+        if n == number_of(e, m) {
+            return Named::Is(m);
+        }
+        i += 1;
     }
+    Named::Other
 }

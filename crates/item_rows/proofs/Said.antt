@@ -1,16 +1,15 @@
 -- What rows say: the item of each row, by the word that its octets make. An octet that is missing is taken for 0.
 --     length-rows, row-at      the rows one by one
---     half-none, half-some     the half of a word that three octets say
---     row-word                 the item that such a word says is the row's
+--     half-said                the half of a word that three octets say
+--     row-item, row-word       the item that such a word says is the row's
 --     said-octets, sized-row   their octets in a message
 -- Assumes nothing.
 use mathlib.Core.Path.{_≡_, _∙_, refl, sym, ap}
 use mathlib.Core.Bool.{Bool, true, false}
 use mathlib.Core.List.{List, [], _∷_, _++_}
-use Prim.Native.Nat.{ℕ, zero, suc, min, _+_, _*_, _-_, _<_, _≤_}
+use Prim.Native.Nat.{ℕ, zero, suc, min, _+_, _*_, _-_, _^_, _<_, _≤_}
 use native.Mathlib.Nat.{add-zero, mul-zero, mul-suc}
 use native.Mathlib.Omega.{arith}
-use borrow.Author.Tests.{eq-eqb, ne-eqb}
 use lib.Dec.{eqb}
 use lib.ListN.{length, length-append, take, drop, getD}
 use lib.Seq.{getD-drop, drop-drop, take-all}
@@ -29,8 +28,10 @@ use Rattle.items.specs.Written.{mmeIn, mceIn, GoodMaybe, GoodItem, itemElementO
 use Rattle.put_values.proofs.Put.{Sized}
 use Rattle.layout.specs.Rows.{rowMme, rowMce, rowItem, eachRow}
 use Rattle.layout.specs.Record.{listsIn}
-use Rattle.item_words.specs.Words.{mmeNumber, mceNumber, wordOf, itemOf}
+use Rattle.item_words.specs.Words.{mmeNumber, mceNumber, wordOf, itemOf, thereIn}
 use Rattle.item_words.proofs.Back.{item-back}
+use Rattle.item_words.proofs.Written.{size-by-halves}
+use Rattle.item_rows.specs.Tests.{halfOf}
 
 -- ---- rows
 
@@ -57,13 +58,12 @@ module _ (s : List ℕ) (at : ℕ) where
   first-drop : getD (drop at s) 0 0 ≡ getD s at 0
   first-drop = getD-drop at s 0 0 ∙ ap (λ (k : ℕ). getD s k 0) (add-zero at)
 
-  pub half-none : getD s at 0 ≡ 0 → 0 ≡ mmeNumber (rowMme (drop at s))
-  half-none e = rw (eq-eqb (getD (drop at s) 0 0) 0 (first-drop ∙ e))
-
-  pub half-some : {x : ℕ} → (getD s at 0 ≡ 0 → ⊥) → x ≡ getD s (at + 1) 0 * 256 + getD s (at + 2) 0 → x + 1 ≡ mmeNumber (rowMme (drop at s))
-  half-some {x} n e =
-      let f : x ≡ valueAt 2 (drop at s) 1 = rw (getD-drop at s 1 0, getD-drop at s 2 0) (omega arith) in
-      rw (ne-eqb (getD (drop at s) 0 0) 0 (λ z. n (sym first-drop ∙ z)), f)
+  pub half-said : {a b : ℕ} → a ≡ at + 1 → b ≡ at + 2 → halfOf (getD s at 0) (getD s a 0) (getD s b 0) ≡ mmeNumber (rowMme (drop at s))
+  half-said e f = rw (e, f, first-drop, getD-drop at s 1 0, getD-drop at s 2 0) (by (eqb (getD s at 0) 0) (getD s (at + 1) 0) (getD s (at + 2) 0))
+    where
+      by : (b : Bool) (h l : ℕ) → pick b 0 (h * 256 + l + 1) ≡ mmeNumber (pick b mme.Absent (mme.Is (record { 0 = h * 256 ^ 1 + (l * 256 ^ 0 + 0) })))
+      by true h l = refl
+      by false h l = omega arith
 
   pub octets-drop : Octets s → Octets (drop at s)
   octets-drop o i = rw (getD-drop at s i 0) (o (at + i))
@@ -93,11 +93,13 @@ good-row p o = (mme-good (eqb (getD p 0 0) 0), mce-good (eqb (getD (drop 3 p) 0 
     mce-good true = tt
     mce-good false = value-below 2 (drop 3 p) 1 (octets-drop p 3 o)
 
-pub row-word : (s : List ℕ) (i : ℕ) {w : ℕ} → Octets s → i < length (listsIn s .items) → w ≡ wordOf (rowItem (drop (100 + 6 * i) s)) → itemOf w ≡ getD (listsIn s .items) i emptyItem
-row-word s i {w} o h e =
+pub row-item : (s : List ℕ) (i : ℕ) → i < length (listsIn s .items) → getD (listsIn s .items) i emptyItem ≡ rowItem (drop (100 + 6 * i) s)
+row-item s i h =
     let n = count-said s in
-    let r : getD (listsIn s .items) i emptyItem ≡ rowItem (drop (6 * i) (drop 100 s)) = row-at rowItem 6 (min (valueAt 2 s 98) 256) (drop 100 s) i emptyItem (omega arith) in
-    rw (r, drop-drop (6 * i) 100 s, e) (item-back (rowItem (drop (100 + 6 * i) s)) (good-row (drop (100 + 6 * i) s) (octets-drop s (100 + 6 * i) o)))
+    row-at rowItem 6 (min (valueAt 2 s 98) 256) (drop 100 s) i emptyItem (omega arith) ∙ ap (λ (p : List ℕ). rowItem p) (drop-drop (6 * i) 100 s)
+
+pub row-word : (s : List ℕ) (i : ℕ) {w : ℕ} → Octets s → i < length (listsIn s .items) → w ≡ wordOf (rowItem (drop (100 + 6 * i) s)) → itemOf w ≡ getD (listsIn s .items) i emptyItem
+row-word s i o h e = rw (row-item s i h, e) (item-back (rowItem (drop (100 + 6 * i) s)) (good-row (drop (100 + 6 * i) s) (octets-drop s (100 + 6 * i) o)))
 
 -- ---- octets in a message
 
@@ -107,10 +109,18 @@ said-octets crit is {x} h e =
     let f : length is - 1 ≡ x = omega arith in
     rw (f, number-one x (omega arith))
 
-pub sized-row : (is : List Item) (i w : ℕ) {size r : ℕ} → i < length is → Sized is i size → itemOf w ≡ getD is i emptyItem → ((crit : ℕ) → r ≡ length (itemElementOctets crit (itemOf w))) → Sized is (i + 1) (size + r)
-sized-row is i w {size} {r} h s e f crit =
+-- by the flags of a row
+pub row-sized : (s : List ℕ) (at : ℕ) {x y a b : ℕ} → x ≡ getD s at 0 → y ≡ getD s (at + 3) 0 → a ≡ thereIn x → b ≡ thereIn y
+    → (crit : ℕ) → 5 + 2 * a + 2 * b ≡ length (itemElementOctets crit (rowItem (drop at s)))
+row-sized s at e f g h crit =
+    let u = g ∙ ap (λ (k : ℕ). thereIn k) (e ∙ sym (first-drop s at)) in
+    let v = h ∙ ap (λ (k : ℕ). thereIn k) (f ∙ (sym (first-drop s (at + 3)) ∙ ap (λ (l : List ℕ). getD l 0 0) (sym (drop-drop 3 at s)))) in
+    rw (u, v) (size-by-halves crit (valueAt 2 (drop at s) 1) (valueAt 2 (drop 3 (drop at s)) 1) (eqb (getD (drop at s) 0 0) 0) (eqb (getD (drop 3 (drop at s)) 0 0) 0))
+
+pub sized-row : (is : List Item) (i : ℕ) {size r : ℕ} → i < length is → Sized is i size → ((crit : ℕ) → r ≡ length (itemElementOctets crit (getD is i emptyItem))) → Sized is (i + 1) (size + r)
+sized-row is i h s f crit =
     let a = s crit in
-    let b : r ≡ length (itemElementOctets crit (getD is i emptyItem)) = rw (← e) (f crit) in
+    let b = f crit in
     rw (each-take (itemElementOctets crit) is i emptyItem h, length-append) (omega arith)
 
 pub sized-said : (is : List Item) (i : ℕ) {size : ℕ} → length is ≤ 256 → length is ≤ i → Sized is i size → (crit : ℕ) → size ≡ length (itemsOctets crit is)

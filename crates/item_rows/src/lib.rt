@@ -16,7 +16,7 @@ ghost use Rattle.layout.specs.Rows.{mmeRow, itemRow, rowMme, rowItem, listOctet
 ghost use Rattle.layout.specs.Record.{listsIn};
 ghost use Rattle.item_words.specs.Words.{mmeNumber, wordOf, mmeBy, itemOf};
 ghost use Rattle.item_words.specs.Taken.{orNone};
-ghost use Rattle.item_rows.specs.Tests.{halfGood, itemRowsGood};
+ghost use Rattle.item_rows.specs.Tests.{halfGood, itemRowsGood, halfOf};
 use item_words::WordRead;
 use octets::Gate;
 use octets::Octet;
@@ -163,24 +163,43 @@ fn octet_in(s: &[u8], at: usize) -> u8
 }
 
 // The half of a word that three octets say.
+fn half_of(flag: u8, high: u8, low: u8) -> u64
+    ensures { λ r. ⌜ (r ≡ halfOf flag high low) × (r ≤ 65536) ⌝ }
+{
+    if flag == 0 {
+        return 0;
+    }
+    numbers::two(high, low) as u64 + 1
+}
+
 fn half_in(s: &[u8], at: usize) -> u64
     requires { ⌜ at ≤ 2000 ⌝ }
     ensures { λ r. ⌜ (r ≡ mmeNumber (rowMme (drop at (now (s .entry))))) × (r ≤ 65536) ⌝ }
 {
-    if octet_in(s, at) == 0 {
-        return 0;
-    }
-    numbers::two(octet_in(s, at + 1), octet_in(s, at + 2)) as u64 + 1
+    half_of(octet_in(s, at), octet_in(s, at + 1), octet_in(s, at + 2))
 }
 
-// The word of the item that a row says.
+// The word of the item that a row says; the row is looked for once where all of it is there.
 fn word_in(s: &[u8], at: usize) -> u64
     requires { ⌜ at ≤ 1900 ⌝ }
     ensures { λ r. ⌜ r ≡ wordOf (rowItem (drop at (now (s .entry)))) ⌝ }
 {
-    let mme = half_in(s, at);
-    let mce = half_in(s, at + 3);
-    mme + mce * 4294967296
+    if at + 6 <= s.len() {
+        let mme = half_of(s[at], s[at + 1], s[at + 2]);
+        let mce = half_of(s[at + 3], s[at + 4], s[at + 5]);
+        return mme + mce * 4294967296;
+    }
+    half_in(s, at) + half_in(s, at + 3) * 4294967296
+}
+
+// The octets of that item in its envelope, of whatever criticality.
+fn row_size(s: &[u8], at: usize) -> usize
+    requires { ⌜ at ≤ 1900 ⌝ }
+    ensures { λ r. ⌜ ((crit : ℕ) → r ≡ length (itemElementOctets crit (rowItem (drop at (now (s .entry)))))) × (r ≤ 9) ⌝ }
+{
+    let a = item_words::there(octet_in(s, at) as u64);
+    let b = item_words::there(octet_in(s, at + 3) as u64);
+    numbers::wide(5 + 2 * a + 2 * b)
 }
 
 // How many items octets say, which need not be a record's.
@@ -201,7 +220,7 @@ pub fn said_size(s: &[u8]) -> usize
     let mut size: usize = 1;
     let mut i: usize = 0;
     while i < n {
-        size += item_words::word_size(word_in(s, 100 + 6 * i));
+        size += row_size(s, 100 + 6 * i);
         i += 1;
     }
     size

@@ -20,8 +20,8 @@ use Rattle.item_words.proofs.reset_into.Kinds as reset-into'
 use Rattle.item_words.proofs.reset_into.Reads as reset-into
 use Rattle.item_words.proofs.put_word_element.Kinds as put-word-element'
 use Rattle.item_words.proofs.put_word_element.Reads as put-word-element
-use Rattle.item_words.proofs.word_size.Kinds as word-size'
-use Rattle.item_words.proofs.word_size.Reads as word-size
+use Rattle.item_words.proofs.there.Kinds as there'
+use Rattle.item_words.proofs.there.Reads as there
 use Rattle.item_words.proofs.put_words.Kinds as put-words'
 use Rattle.item_words.proofs.put_words.Reads as put-words
 use Rattle.item_words.proofs.words_size.Kinds as words-size'
@@ -53,8 +53,8 @@ reset-into-is κs a p x y e f = (e .0 same f .0) & refl & refl & (e .1 same f .1
 pub put-word-element-is : Determined put-word-element'.ps put-word-element'.r put-word-element.Asked put-word-element.Learnt
 put-word-element-is κs a p x y e f = (e .next same f .next) & (e .octets same f .octets) & refl
 
-pub word-size-is : Determined word-size'.ps word-size'.r word-size.Asked word-size.Learnt
-word-size-is κs a p x y e f = (e 0 same f 0) & refl
+pub there-is : Determined there'.ps there'.r there.Asked there.Learnt
+there-is κs a p x y e f = (e .0 same f .0) & refl
 
 pub put-words-is : Determined put-words'.ps put-words'.r put-words.Asked put-words.Learnt
 put-words-is κs a p x y e f = (e .next same f .next) & (e .octets same f .octets) & refl

@@ -87,5 +87,9 @@ word-here s at x y f p q =
     let v : y ≡ valueAt 2 s (at + 4 + 1 + 2) = rw (a, c, d, q) (omega arith) in
     rw (← element-here s at f, u, v)
 
+-- whatever word it is
+pub full-passes : (s : List ℕ) (at : ℕ) → FullAt s at → (w : ℕ) × (got (record { value = w; next = at + 9 }) ≡ worded (itemElementAt s at))
+full-passes s at f = (_, word-here s at (getD s (at + 5) 0 * 256 + getD s (at + 6) 0) (getD s (at + 7) 0 * 256 + getD s (at + 8) 0) f refl refl)
+
 pub if-full : (b : Bool) {s : List ℕ} {at : ℕ} → b ≡ true → IfFull b s at → FullAt s at
 if-full b {s} {at} e h = subst (λ (t : Bool). IfFull t s at) e h

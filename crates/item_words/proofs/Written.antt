@@ -1,10 +1,11 @@
 -- The octets of the item that a word says, from the word's halves: whichever identities are there, the item's octets are these runs. And lists of them.
 -- Assumes nothing.
-use mathlib.Core.Path.{_≡_, _∙_, refl, sym, ap}
+use mathlib.Core.Path.{_≡_, _∙_, refl, sym, ap, subst}
 use mathlib.Core.Bool.{Bool, true, false, not}
 use mathlib.Core.List.{List, [], _∷_, _++_, map}
 use Prim.Native.Nat.{ℕ, suc, min, _+_, _*_, _-_, _/_, _%_, _≤_, _<_}
 use native.Mathlib.Omega.{arith}
+use borrow.Author.Tests.{ne-eqb}
 use lib.Dec.{eqb}
 use lib.ListN.{length, length-append, length-map, length-take, take, getD, set}
 use lib.Seq.{take-all, sets, getD-set-other}
@@ -15,29 +16,29 @@ use Rattle.packed.specs.Packed.{_bits_, packed, packedIn}
 use Rattle.octets.specs.Write.{numberOctets, lengthOctets, Wrote}
 use Rattle.octets.specs.Many.{eachOctets}
 use Rattle.octets.proofs.EachWritten.{each-take}
-use Rattle.octets.proofs.Writing.{wrote-then}
+use Rattle.octets.proofs.Writing.{wrote-then, number-two}
 use Rattle.identity.specs.declared.Mme.the-variants as mme
 use Rattle.identity.specs.declared.Mce.the-variants as mce
 use Rattle.identity.specs.declared.Item.{Item}
 use Rattle.items.specs.Written.{itemOctets, itemElementOctets, itemsOctets}
-use Rattle.item_words.specs.Words.{itemOf, identified, thereIn, halfOctets}
+use Rattle.item_words.specs.Words.{itemOf, identified, thereIn, halfOctets, IfNine, fullOctets}
 
 -- by which identities are there
 module _ (crit u v : ℕ) where
-  pieces : Bool → Bool → Item
+  abbrev pub pieces : Bool → Bool → Item
   pieces p q = record { mme = pick p mme.Absent (mme.Is (record { 0 = u })); mce = pick q mce.Absent (mce.Is (record { 0 = v })) }
 
   by-halves : (p q : Bool)
       → ((((0 ∷ 14 ∷ packed (2 bits crit ∷ []) ∷ []) ++ (1 + 2 * pick p 0 1 + 2 * pick q 0 1) ∷ []) ++ (64 * pick p 0 1 + 32 * pick q 0 1) ∷ []) ++ pick p [] (numberOctets 2 u)) ++ pick q [] (numberOctets 2 v)
       ≡ itemElementOctets crit (pieces p q)
-  unfolding pieces itemElementOctets itemOctets numberOctets lengthOctets packedIn
+  unfolding itemElementOctets itemOctets numberOctets lengthOctets packedIn
   by-halves true true = refl
   by-halves true false = refl
   by-halves false true = refl
   by-halves false false = refl
 
-  size-by-halves : (p q : Bool) → 5 + 2 * pick p 0 1 + 2 * pick q 0 1 ≡ length (itemElementOctets crit (pieces p q))
-  unfolding pieces itemElementOctets itemOctets numberOctets lengthOctets packedIn
+  pub size-by-halves : (p q : Bool) → 5 + 2 * pick p 0 1 + 2 * pick q 0 1 ≡ length (itemElementOctets crit (pieces p q))
+  unfolding itemElementOctets itemOctets numberOctets lengthOctets packedIn
   size-by-halves true true = refl
   size-by-halves true false = refl
   size-by-halves false true = refl
@@ -46,12 +47,35 @@ module _ (crit u v : ℕ) where
 module _ (crit w : ℕ) {a b : ℕ} (e : a ≡ thereIn (w % 4294967296)) (f : b ≡ thereIn (w / 4294967296)) where
   pub word-octets : {x : ℕ} → x ≡ packed (2 bits crit ∷ [])
       → ((((0 ∷ 14 ∷ x ∷ []) ++ (1 + 2 * a + 2 * b) ∷ []) ++ (64 * a + 32 * b) ∷ []) ++ halfOctets (w % 4294967296)) ++ halfOctets (w / 4294967296) ≡ itemElementOctets crit (itemOf w)
-  unfolding pieces
   word-octets g = rw (e, f, g) (by-halves crit ((w % 4294967296 - 1) % 65536) ((w / 4294967296 - 1) % 65536) (eqb (w % 4294967296) 0) (eqb (w / 4294967296) 0))
 
   pub word-length : 5 + 2 * a + 2 * b ≡ length (itemElementOctets crit (itemOf w))
-  unfolding pieces
   word-length = rw (e, f) (size-by-halves crit ((w % 4294967296 - 1) % 65536) ((w / 4294967296 - 1) % 65536) (eqb (w % 4294967296) 0) (eqb (w / 4294967296) 0))
+
+-- nine stores in a row
+pub stored-nine : (l : List ℕ) (at x m c : ℕ) → at + 9 ≤ length l
+    → Wrote l at (fullOctets x m c) (set (set (set (set (set (set (set (set (set l at 0) (at + 1) 14) (at + 2) x) (at + 3) 5) (at + 4) 96) (at + 5) (m / 256)) (at + 6) (m % 256)) (at + 7) (c / 256)) (at + 8) (c % 256)) (at + 9)
+stored-nine l at x m c h =
+    let a : at + 1 ≡ suc at = omega arith in
+    let b : at + 2 ≡ suc (suc at) = omega arith in
+    let d : at + 3 ≡ suc (suc (suc at)) = omega arith in
+    let e : at + 4 ≡ suc (suc (suc (suc at))) = omega arith in
+    let f : at + 5 ≡ suc (suc (suc (suc (suc at)))) = omega arith in
+    let g : at + 6 ≡ suc (suc (suc (suc (suc (suc at))))) = omega arith in
+    let i : at + 7 ≡ suc (suc (suc (suc (suc (suc (suc at)))))) = omega arith in
+    let j : at + 8 ≡ suc (suc (suc (suc (suc (suc (suc (suc at))))))) = omega arith in
+    record { octets = rw (a, b, d, e, f, g, i, j); next = omega arith }
+
+-- an item with both identities
+pub full-octets : (crit w : ℕ) {x : ℕ} → 0 < w % 4294967296 → 0 < w / 4294967296 → x ≡ packed (2 bits crit ∷ [])
+    → fullOctets x ((w % 4294967296 - 1) % 65536) ((w / 4294967296 - 1) % 65536) ≡ itemElementOctets crit (itemOf w)
+full-octets crit w h k e =
+    let u = number-two ((w % 4294967296 - 1) % 65536) (omega arith) in
+    let v = number-two ((w / 4294967296 - 1) % 65536) (omega arith) in
+    rw (ne-eqb (w % 4294967296) 0 (λ z. omega arith), ne-eqb (w / 4294967296) 0 (λ z. omega arith), ← by-halves crit ((w % 4294967296 - 1) % 65536) ((w / 4294967296 - 1) % 65536) false false, u, v, e)
+
+pub if-nine : (b : Bool) (m c at room : ℕ) → b ≡ true → IfNine b m c at room → (0 < m) × (0 < c) × (at + 9 ≤ room)
+if-nine b m c at room e h = subst (λ (t : Bool). IfNine t m c at room) e h
 
 pub word-small : (w : ℕ) {r : ℕ} → ((crit : ℕ) → r ≡ length (itemElementOctets crit (itemOf w))) → r ≤ 9
 word-small w e = small (thereIn (w % 4294967296)) (thereIn (w / 4294967296)) (one (eqb (w % 4294967296) 0)) (one (eqb (w / 4294967296) 0)) (e 0 ∙ sym (word-length 0 w refl refl))

@@ -1,7 +1,7 @@
 -- Items as words. A word of 0 is the item without an identity.
-use Prim.Native.Nat.{ℕ, _+_, _-_, _*_, _/_, _%_}
-use mathlib.Core.Bool.{not}
-use mathlib.Core.List.{List, []}
+use Prim.Native.Nat.{ℕ, _+_, _-_, _*_, _/_, _%_, _<_, _≤_}
+use mathlib.Core.Bool.{Bool, true, false, not}
+use mathlib.Core.List.{List, [], _∷_}
 use lib.Dec.{eqb}
 use Rattle.lists.specs.Lists.{pick, keep}
 use Rattle.octets.specs.Write.{numberOctets}
@@ -44,3 +44,12 @@ thereIn n = pick (eqb n 0) 0 1
 
 abbrev pub halfOctets : ℕ → List ℕ
 halfOctets n = pick (eqb n 0) [] (numberOctets 2 ((n - 1) % 65536))
+
+-- said where the answer is yes: both halves of a word say an identity, and a room has nine octets from at on
+abbrev pub IfNine : Bool → ℕ → ℕ → ℕ → ℕ → Type 0
+IfNine true m c at room = (0 < m) × (0 < c) × (at + 9 ≤ room)
+IfNine false m c at room = Unit
+
+-- an item with both identities in its envelope: 14, the criticality's octet, five octets, both marks
+abbrev pub fullOctets : ℕ → ℕ → ℕ → List ℕ
+fullOctets crit m c = 0 ∷ 14 ∷ crit ∷ 5 ∷ 96 ∷ (m / 256) ∷ (m % 256) ∷ (c / 256) ∷ (c % 256) ∷ []

@@ -3,10 +3,11 @@
 ghost use mathlib.Core.Path.{_≡_};
 ghost use mathlib.Core.Bool.{true, false};
 ghost use mathlib.Core.List.{List, [], _∷_, map};
-ghost use Prim.Native.Nat.{ℕ, _-_, _%_, _≤_};
+ghost use Prim.Native.Nat.{ℕ, _+_, _-_, _%_, _≤_};
 ghost use lib.ListN.{length, take};
 ghost use lib.Seq.{sets};
 ghost use Rattle.packed.specs.Packed.{_bits_, packed};
+ghost use Rattle.octets.specs.Read.{got};
 ghost use Rattle.octets.specs.Many.{many};
 ghost use Rattle.octets.specs.Found.{foundGate};
 ghost use Rattle.octets.specs.Write.{Wrote};
@@ -14,8 +15,8 @@ ghost use Rattle.item.specs.Item.{itemElementAt};
 ghost use Rattle.items.specs.Items.{itemsAt, resetBy, resetAt};
 ghost use Rattle.items.specs.Written.{itemElementOctets, itemsOctets};
 ghost use Rattle.put_values.specs.Put.{critOf};
-ghost use Rattle.item_words.specs.Words.{mmeNumber, mceNumber, wordOf, mmeBy, mceBy, itemOf, identified, thereIn, halfOctets};
-ghost use Rattle.item_words.specs.Taken.{checked, IfFull, foundWord, worded, Filling, Taking, ResetTaking};
+ghost use Rattle.item_words.specs.Words.{mmeNumber, mceNumber, wordOf, mmeBy, mceBy, itemOf, identified, thereIn, halfOctets, IfNine, fullOctets};
+ghost use Rattle.item_words.specs.Taken.{checked, FullAt, IfFull, foundWord, worded, Filling, Taking, ResetTaking};
 use identity::Item;
 use identity::Mce;
 use identity::MceId;
@@ -136,14 +137,22 @@ fn is_full(s: &[u8], at: usize) -> bool
     true
 }
 
+// The word of such an item.
+fn full_word(s: &[u8], at: usize) -> u64
+    requires { ⌜ FullAt (now s) at ⌝ }
+    ensures { λ r. ⌜ got (record { value = r; next = at + 9 }) ≡ worded (itemElementAt (now (s .entry)) at) ⌝ }
+{
+    let m = numbers::two(s[at + 5], s[at + 6]);
+    let c = numbers::two(s[at + 7], s[at + 8]);
+    m as u64 + 1 + (c as u64 + 1) * 4294967296
+}
+
 // An item in its envelope as a word, at once where it has both identities.
 pub fn word_element_at(s: &[u8], at: usize) -> WordRead
     ensures { λ r. ⌜ foundWord r ≡ worded (itemElementAt (now (s .entry)) at) ⌝ }
 {
     if is_full(s, at) {
-        let m = numbers::two(s[at + 5], s[at + 6]);
-        let c = numbers::two(s[at + 7], s[at + 8]);
-        return WordRead::Is(m as u64 + 1 + (c as u64 + 1) * 4294967296, at + 9);
+        return WordRead::Is(full_word(s, at), at + 9);
     }
     match item::item_element_at(s, at) {
         ElementRead::Is(i, to) => WordRead::Is(word_of(i), to),
@@ -151,7 +160,7 @@ pub fn word_element_at(s: &[u8], at: usize) -> WordRead
     }
 }
 
-// A list of items can be read, or why not. Nothing is kept of it.
+// A list of items can be read, or why not. Nothing is kept of it. An item with both identities is passed at once.
 pub fn items_gate(s: &[u8], at: usize) -> Gate
     ensures { λ r. ⌜ foundGate r ≡ checked (itemsAt (now (s .entry)) at) ⌝ }
 {
@@ -165,12 +174,16 @@ pub fn items_gate(s: &[u8], at: usize) -> Gate
     let mut i: usize = 0;
     let mut next = at + 1;
     while i < count {
-        match word_element_at(s, next) {
-            WordRead::Is(_, to) => {
-                next = to;
-            }
-            WordRead::Stop(x) => {
-                return Gate::Stop(x);
+        if is_full(s, next) {
+            next += 9;
+        } else {
+            match item::item_element_at(s, next) {
+                ElementRead::Is(_, to) => {
+                    next = to;
+                }
+                ElementRead::Stop(x) => {
+                    return Gate::Stop(x);
+                }
             }
         }
         i += 1;
@@ -324,8 +337,8 @@ pub fn reset_into(s: &[u8], at: usize, words: &mut [u64]) -> ResetTaken
 
 // ---- written
 
-// 1 for a half of a word that says an identity.
-fn there(n: u64) -> u8
+// 1 for a number that says an identity, 0 for none.
+pub fn there(n: u64) -> u8
     ensures { λ r. ⌜ (r ≡ thereIn n) × (r ≤ 1) ⌝ }
 {
     if n == 0 {
@@ -354,8 +367,8 @@ fn crit_octet(crit: Criticality) -> u8
     }
 }
 
-// The item that a word says, in its envelope.
-pub fn put_word_element(room: &mut [u8], at: usize, crit: Criticality, w: u64) -> usize
+// The item that a word says, in its envelope, octet by octet.
+fn put_by_octets(room: &mut [u8], at: usize, crit: Criticality, w: u64) -> usize
     ensures { λ r. ⌜ Wrote (now (room .entry)) at (itemElementOctets (critOf crit) (itemOf w)) (now (room .exit)) r ⌝ }
 {
     let m = w % 4294967296;
@@ -369,8 +382,58 @@ pub fn put_word_element(room: &mut [u8], at: usize, crit: Criticality, w: u64) -
     put_half(room, mce, c)
 }
 
+// Both halves say an identity, and the room has nine octets from here on.
+fn is_nine(m: u64, c: u64, at: usize, room: usize) -> bool
+    ensures { λ r. ⌜ IfNine r m c at room ⌝ }
+{
+    if m == 0 {
+        return false;
+    }
+    if c == 0 {
+        return false;
+    }
+    if room <= at {
+        return false;
+    }
+    if room - at < 9 {
+        return false;
+    }
+    true
+}
+
+// The nine octets of an item with both identities.
+fn put_full(room: &mut [u8], at: usize, crit: u8, m: u16, c: u16) -> usize
+    requires { ⌜ at + 9 ≤ length (now room) ⌝ }
+    ensures { λ r. ⌜ Wrote (now (room .entry)) at (fullOctets crit m c) (now (room .exit)) r ⌝ }
+{
+    room[at] = 0;
+    room[at + 1] = 14;
+    room[at + 2] = crit;
+    room[at + 3] = 5;
+    room[at + 4] = 96;
+    room[at + 5] = (m / 256) as u8;
+    room[at + 6] = (m % 256) as u8;
+    room[at + 7] = (c / 256) as u8;
+    room[at + 8] = (c % 256) as u8;
+    at + 9
+}
+
+// The item that a word says, in its envelope, at once where it has both identities.
+pub fn put_word_element(room: &mut [u8], at: usize, crit: Criticality, w: u64) -> usize
+    ensures { λ r. ⌜ Wrote (now (room .entry)) at (itemElementOctets (critOf crit) (itemOf w)) (now (room .exit)) r ⌝ }
+{
+    let m = w % 4294967296;
+    let c = w / 4294967296;
+    if is_nine(m, c, at, room.len()) {
+        let mme = ((m - 1) % 65536) as u16;
+        let mce = ((c - 1) % 65536) as u16;
+        return put_full(room, at, crit_octet(crit), mme, mce);
+    }
+    put_by_octets(room, at, crit, w)
+}
+
 // The octets of the item that a word says, in its envelope of whatever criticality.
-pub fn word_size(w: u64) -> usize
+fn word_size(w: u64) -> usize
     ensures { λ r. ⌜ ((crit : ℕ) → r ≡ length (itemElementOctets crit (itemOf w))) ⌝ }
 {
     let a = there(w % 4294967296);

@@ -10,7 +10,7 @@ use Rattle.judging.proofs.noted_into.Kinds as noted-into'
 use Rattle.judging.proofs.noted_into.Reads as noted-into
 
 pub opened-at-is : Determined opened-at'.ps opened-at'.r opened-at.Asked opened-at.Learnt
-opened-at-is κs a p x y e f = (e same f) & refl
+opened-at-is κs a p x y e f = (e .result same f .result) & refl & refl & refl & (e .places same f .places) & refl
 
 pub is-known-is : Determined is-known'.ps is-known'.r is-known.Asked is-known.Learnt
 is-known-is κs a p x y e f = (e same f) & refl

@@ -18,6 +18,7 @@ use Rattle.octets.specs.declared.Stop.{Stop}
 use Rattle.octets.specs.declared.Span.{Span}
 use Rattle.octets.specs.Span.{noSpan}
 use Rattle.octets.proofs.Chain.{past, halt, then-got, same-got}
+use Rattle.places.specs.Places.{spansIn, placesOf}
 use Rattle.entries.specs.declared.Entry.{Entry}
 use Rattle.rows.specs.declared.Row.{Row}
 use Rattle.rows.specs.Table.{find, known}
@@ -29,7 +30,8 @@ use Rattle.frames.specs.Frame.{countAt}
 use Rattle.verdicts.specs.declared.Outcome.the-variants.{Accepted, Misplaced, Rejected}
 use Rattle.verdicts.specs.Verdict.{Opening, openingBy, openedAt}
 use Rattle.judging.specs.declared.Opened.{Opened}
-use Rattle.judging.specs.Judging.{openedBy, openingAt, placeOf, notedOf, NotedIn, MissingNoted}
+use Rattle.judging.specs.Judging.{openedBy, spansBy, openingAt, placeOf, notedOf, NotedIn, MissingNoted}
+use Rattle.judging.proofs.OpenedLaws.{spans-back}
 
 -- ---- the elements that count
 
@@ -159,9 +161,9 @@ module _ (t : List Row) (s : List ℕ) (from : ℕ) (o : Opened) (e : o ≡ open
       pub some-front : place < n → NotedIn l (notedOf (openedAt t s from)) m r
       some-front g = subst (λ (es : List Entry). NotedIn l es m r) (noted-front t s n (from + 3) opening which g ∙ ap notedOf (inside .1)) w
 
-      pub some-all : n ≤ place → {m′ : List ℕ} {r′ : ℕ} → MissingNoted t (o .spans) m r m′ r′ → NotedIn l (notedOf (openedAt t s from)) m′ r′
-      some-all g {m′} {r′} k =
+      pub some-all : length t ≤ 12 → n ≤ place → {ps : List ℕ} → ps ≡ placesOf (spansBy (openedAt t s from)) → {m′ : List ℕ} {r′ : ℕ} → MissingNoted t (spansIn ps) m r m′ r′ → NotedIn l (notedOf (openedAt t s from)) m′ r′
+      some-all a g e {m′} {r′} k =
           subst (λ (es : List Entry). NotedIn l es m′ r′)
-          (ap (λ (y : Opened). take 256 (unknownOf t (headsAt s place (from + 3)) ++ missingOf t (take (length t) (y .spans)))) same
+          (ap (λ (vs : List Span). take 256 (unknownOf t (headsAt s place (from + 3)) ++ missingOf t (take (length t) vs))) (spans-back t s from a e ∙ ap spansBy (sym (inside .1)))
           ∙ (noted-all t s n (from + 3) opening which g ∙ ap notedOf (inside .1)))
           (k l (unknownOf t (headsAt s place (from + 3))) w)

@@ -1,32 +1,39 @@
 -- What the walk found, and then the rows, as what is inside the frame.
 --     count-in                  the elements begin inside
+--     opens-as                  the answer to what is the same
+--     opened-places             where the values stand
 --     opened-front, opened-all  by rule 1, or by rules 2 and 3
+--     opened-rows, spans-back   there is a place for each row; the places, as they are read
 -- Assumes nothing.
 use Prim.Native.Nat.{ℕ, _+_, _≤_, _<_}
-use mathlib.Core.Path.{_≡_, _∙_, sym, ap}
+use mathlib.Core.Path.{_≡_, _∙_, refl, sym, ap, subst}
 use mathlib.Core.List.{List, _++_, append-nil}
 use native.Mathlib.Omega.{arith}
 use borrow.Author.Tests.{lt-ltb, le-ltb, eq-eqb, ne-eqb}
 use lib.ListN.{length, take}
 use Rattle.lists.specs.Lists.{fill}
-use Rattle.lists.proofs.Fill.{take-fill}
-use Rattle.octets.specs.Read.{got}
+use Rattle.lists.proofs.Fill.{take-fill, length-fill}
+use Rattle.octets.specs.Read.{Read, got, stop}
 use Rattle.octets.specs.Field.{plainAt, padAt}
 use Rattle.octets.specs.declared.Gate.the-variants as gate
 use Rattle.octets.specs.declared.Span.{Span}
 use Rattle.octets.specs.Span.{noSpan}
-use Rattle.octets.proofs.Chain.{then-got}
+use Rattle.octets.proofs.Chain.{then-got, same-got}
 use Rattle.octets.proofs.Got.{number-got}
+use Rattle.places.specs.Places.{spansIn, placesOf}
+use Rattle.places.proofs.Laws.{spans-of}
 use Rattle.rows.specs.declared.Row.{Row}
 use Rattle.envelopes.specs.declared.Head.{Head}
-use Rattle.elements.specs.Judge.{front, readOf, unknownOf, missingOf, judgedOf}
+use Rattle.envelopes.specs.Envelope.{scanAt, headsAt}
+use Rattle.elements.specs.Judge.{front, readOf, unknownOf, missingOf, judgedOf, elementsAt}
 use Rattle.elements.proofs.WalkLaws.{read-rows}
 use Rattle.frames.specs.Frame.{countAt}
 use Rattle.verdicts.specs.declared.Outcome.the-variants.{Misplaced}
-use Rattle.verdicts.specs.Verdict.{openingBy}
+use Rattle.verdicts.specs.Verdict.{Opening, openingBy, openedAt}
+use Rattle.judging.specs.declared.Opened.{Opened}
 use Rattle.judging.specs.declared.Tally.{Tally}
 use Rattle.judging.specs.declared.Reached.{Reached}
-use Rattle.judging.specs.Judging.{openedBy, rejectedBy, tallyOf, Seen, MissingCounted}
+use Rattle.judging.specs.Judging.{openedBy, spansBy, Opens, rejectedBy, tallyOf, Seen, MissingCounted}
 
 pub count-in : (s : List ℕ) (from : ℕ) {n : ℕ} → got n ≡ countAt s from → from + 3 ≤ length s
 unfolding countAt
@@ -36,22 +43,49 @@ count-in s from q =
     let h = number-got s (from + 1) 2 (b .2) .0 in
     omega arith
 
-module _ (t : List Row) (n : ℕ) (hs : List Head) (w : Reached) (p : Seen t (front t 0 hs) w) where
+pub opens-as : {o w : Read Opening} {r : Opened} {m : List ℕ} → o ≡ w → Opens o r m → Opens w r m
+opens-as {o} {w} {r} {m} q g = subst (λ (x : Read Opening). Opens x r m) q g
+
+module _ (t : List Row) (n : ℕ) (hs : List Head) (places : List ℕ) (w : Reached) (p : Seen t (front t 0 hs) places w) where
+  pub opened-places : places ≡ placesOf (spansBy (got (openingBy n (judgedOf t n hs))))
+  unfolding judgedOf
+  opened-places = p .spans
+
   -- nothing counts as missing where the walk stopped
   pub opened-front : w .place < n
-      → record { gate = gate.Pass; outcome = Misplaced (w .place); noted = w .tally .count; spans = w .spans } ≡ openedBy (got (openingBy n (judgedOf t n hs)))
+      → record { gate = gate.Pass; outcome = Misplaced (w .place); noted = w .tally .count } ≡ openedBy (got (openingBy n (judgedOf t n hs)))
   unfolding judgedOf tallyOf
   opened-front h =
       let l = p .place in
-      rw (lt-ltb (length (front t 0 hs)) n (omega arith), ne-eqb (length (front t 0 hs)) n (λ q. omega arith), append-nil (unknownOf t (front t 0 hs)), p .place, p .spans, p .tally)
+      rw (lt-ltb (length (front t 0 hs)) n (omega arith), ne-eqb (length (front t 0 hs)) n (λ q. omega arith), append-nil (unknownOf t (front t 0 hs)), p .place, p .tally)
 
-  pub opened-all : n ≤ w .place → w .place ≤ n → (m : Tally) → MissingCounted t (w .spans) (w .tally) m
-      → record { gate = gate.Pass; outcome = rejectedBy (m .reject); noted = m .count; spans = w .spans } ≡ openedBy (got (openingBy n (judgedOf t n hs)))
+  pub opened-all : length t ≤ 12 → n ≤ w .place → w .place ≤ n → (m : Tally) → MissingCounted t (spansIn places) (w .tally) m
+      → record { gate = gate.Pass; outcome = rejectedBy (m .reject); noted = m .count } ≡ openedBy (got (openingBy n (judgedOf t n hs)))
   unfolding judgedOf tallyOf
-  opened-all h b m q =
+  opened-all a h b m q =
       let l = p .place in
-      let z : take (length t) (w .spans) ≡ readOf t (front t 0 hs) =
-      ap (take (length t)) (p .spans) ∙ (ap (λ (k : ℕ). take k (fill noSpan 12 (readOf t (front t 0 hs)))) (sym (read-rows t (front t 0 hs))) ∙ take-fill noSpan 12 (readOf t (front t 0 hs))) in
+      let e = read-rows t (front t 0 hs) in
+      let s : spansIn places ≡ fill noSpan 12 (readOf t (front t 0 hs)) =
+      ap spansIn (p .spans) ∙ spans-of _ (length-fill noSpan 12 (readOf t (front t 0 hs)) (omega arith)) in
+      let z : take (length t) (spansIn places) ≡ readOf t (front t 0 hs) =
+      ap (take (length t)) s ∙ (ap (λ (k : ℕ). take k (fill noSpan 12 (readOf t (front t 0 hs)))) (sym (read-rows t (front t 0 hs))) ∙ take-fill noSpan 12 (readOf t (front t 0 hs))) in
       let g : m ≡ tallyOf (unknownOf t (front t 0 hs) ++ missingOf t (readOf t (front t 0 hs))) =
       q (unknownOf t (front t 0 hs)) (p .tally) ∙ ap (λ (x : List Span). tallyOf (unknownOf t (front t 0 hs) ++ missingOf t x)) z in
-      rw (g, p .spans, le-ltb (length (front t 0 hs)) n (omega arith), eq-eqb (length (front t 0 hs)) n (omega arith))
+      rw (g, le-ltb (length (front t 0 hs)) n (omega arith), eq-eqb (length (front t 0 hs)) n (omega arith))
+
+module _ (t : List Row) (s : List ℕ) (from : ℕ) where
+  pub opened-rows : {o : Opening} → got o ≡ openedAt t s from → length (o .spans) ≡ length t
+  unfolding openedAt elementsAt judgedOf
+  opened-rows {o} q =
+      let a = then-got (countAt s from) _ q in
+      let b = then-got (elementsAt t s (a .0) (from + 3)) _ (a .2) in
+      let d = then-got (scanAt t s (a .0) (from + 3)) _ (b .1) in
+      ap (λ (x : Opening). length (x .spans)) (same-got (b .2) ∙ ap (openingBy (a .0)) (same-got (d .2)))
+      ∙ read-rows t (front t 0 (headsAt s (a .0) (from + 3)))
+
+  pub spans-back : length t ≤ 12 → {m : List ℕ} → m ≡ placesOf (spansBy (openedAt t s from)) → spansIn m ≡ spansBy (openedAt t s from)
+  spans-back h q = ap spansIn q ∙ spans-of _ (by (openedAt t s from) refl)
+    where
+      by : (r : Read Opening) → r ≡ openedAt t s from → length (spansBy r) ≡ 12
+      by (got o) e = let z = opened-rows e in length-fill noSpan 12 (o .spans) (omega arith)
+      by (stop x) e = refl

@@ -21,6 +21,8 @@ use Rattle.octets.specs.declared.Stop.{Stop}
 use Rattle.octets.specs.declared.Span.{Span}
 use Rattle.octets.specs.Span.{noSpan}
 use Rattle.octets.proofs.Chain.{got-stop}
+use Rattle.places.specs.Places.{placesOf, withSpan}
+use Rattle.places.proofs.Laws.{places-none, places-set}
 use Rattle.kinds.specs.Kinds.{valueAt}
 use Rattle.kinds.proofs.Laws.{carried}
 use Rattle.entries.specs.declared.Entry.{Entry}
@@ -44,18 +46,18 @@ fill-none n h =
 
 -- ---- what the walk holds
 
-pub record Step (t : List Row) (s : List ℕ) (n from row i at : ℕ) (spans : List Span) (tally : Tally) : Type 0 where
+pub record Step (t : List Row) (s : List ℕ) (n from row i at : ℕ) (places : List ℕ) (tally : Tally) : Type 0 where
   pub done : List Head
   pub order : done ++ front t row (headsAt s (n - i) at) ≡ front t 0 (headsAt s n from)
   pub size : length done ≡ i
   pub count : i ≤ n
-  pub read : spans ≡ fill noSpan 12 (readOf t done)
+  pub read : places ≡ placesOf (fill noSpan 12 (readOf t done))
   pub list : tally ≡ tallyOf (unknownOf t done)
   pub faults : scanAt t s (n - i) at ≡ scanAt t s n from
 
 -- an element was read, and its id stands in none of the first k rows
-pub record Sought (t : Rows) (s : List ℕ) (n from row i at : ℕ) (spans : List Span) (tally : Tally) (h : Head) (k : ℕ) : Type 0 where
-  pub step : Step (rowsIn t) s n from row i at spans tally
+pub record Sought (t : Rows) (s : List ℕ) (n from row i at : ℕ) (places : List ℕ) (tally : Tally) (h : Head) (k : ℕ) : Type 0 where
+  pub step : Step (rowsIn t) s n from row i at places tally
   pub more : i < n
   pub read : got h ≡ envelopeAt s at
   pub rest : k + find (h .id) (drop k (rowsIn t)) ≡ find (h .id) (rowsIn t)
@@ -65,46 +67,46 @@ abbrev unknown : Head → Entry
 unknown h = record { crit = h .crit; id = h .id; error = 0 }
 
 -- it stops there
-abbrev Stops : List Row → List ℕ → ℕ → ℕ → ℕ → ℕ → List Span → Tally → Type 0
-Stops t s n from i at spans tally = WalkedTo t s n from (record { at = at; place = i; spans = spans; tally = tally })
+abbrev Stops : List Row → List ℕ → ℕ → ℕ → ℕ → ℕ → List ℕ → Tally → Type 0
+Stops t s n from i at places tally = WalkedTo t s n from places (record { at = at; place = i; tally = tally })
 
-pub step-start : (t : List Row) {s : List ℕ} {n from : ℕ} → length t ≤ 12 → Step t s n from 0 0 from (replicate 12 noSpan) (tallyOf [])
+pub step-start : (t : List Row) {s : List ℕ} {n from : ℕ} → length t ≤ 12 → Step t s n from 0 0 from (replicate 24 0) (tallyOf [])
 unfolding readInto unknownOf
-step-start t h = record { done = []; order = rw sub-zero; size = refl; count = omega arith; read = fill-none (length t) h; list = refl; faults = rw sub-zero }
+step-start t h = record { done = []; order = rw sub-zero; size = refl; count = omega arith; read = places-none ∙ ap placesOf (fill-none (length t) h); list = refl; faults = rw sub-zero }
 
-module _ {t : List Row} {s : List ℕ} {n from row i at : ℕ} {spans : List Span} {tally : Tally} (p : Step t s n from row i at spans tally) where
+module _ {t : List Row} {s : List ℕ} {n from row i at : ℕ} {places : List ℕ} {tally : Tally} (p : Step t s n from row i at places tally) where
   -- nothing more counts
-  over : front t row (headsAt s (n - i) at) ≡ [] → Stops t s n from i at spans tally
+  over : front t row (headsAt s (n - i) at) ≡ [] → Stops t s n from i at places tally
   over e =
       let q : p .done ≡ front t 0 (headsAt s n from) = sym (append-nil (p .done)) ∙ (ap (λ (x : List Head). p .done ++ x) (sym e) ∙ p .order) in
       record {
         within = p .count;
         faults = p .faults;
-        seen = λ g. subst (λ (f : List Head). Seen t f (record { at = at; place = i; spans = spans; tally = tally })) q
+        seen = λ g. subst (λ (f : List Head). Seen t f places (record { at = at; place = i; tally = tally })) q
             (record { place = sym (p .size); spans = p .read; tally = p .list });
       }
 
   -- something cannot be read
-  broken : {x : Stop} → stop x ≡ scanAt t s (n - i) at → Stops t s n from i at spans tally
+  broken : {x : Stop} → stop x ≡ scanAt t s (n - i) at → Stops t s n from i at places tally
   broken q = record { within = p .count; faults = p .faults; seen = λ g. got-stop (g ∙ sym q) }
 
-  pub walk-end : n ≤ i → Stops t s n from i at spans tally
+  pub walk-end : n ≤ i → Stops t s n from i at places tally
   unfolding front
   walk-end h = over (rw (heads-none t s (n - i) at (omega arith)))
 
-  pub walk-cut : i < n → {x : Stop} → stop x ≡ envelopeAt s at → Stops t s n from i at spans tally
+  pub walk-cut : i < n → {x : Stop} → stop x ≡ envelopeAt s at → Stops t s n from i at places tally
   walk-cut b {x} q = broken {x = x} (scan-cut t s (n - i) at (λ e. omega arith) q)
 
-module _ {t : Rows} {s : List ℕ} {n from row i at : ℕ} {spans : List Span} {tally : Tally} {h : Head} {k : ℕ} (p : Sought t s n from row i at spans tally h k) where
+module _ {t : Rows} {s : List ℕ} {n from row i at : ℕ} {places : List ℕ} {tally : Tally} {h : Head} {k : ℕ} (p : Sought t s n from row i at places tally h k) where
   left : n - i ≡ 0 → ⊥
   left e = let b = p .more in omega arith
 
   -- the element is done, and row′ is the first row that may still come
   done-with : (row′ : ℕ) → front (rowsIn t) row (headsAt s (n - i) at) ≡ h ∷ front (rowsIn t) row′ (headsAt s (n - i - 1) (h .value .to))
       → got tt ≡ valueAt (kindOf (rowsIn t) (h .id)) (take (h .value .to) s) (h .value .from)
-      → {spans′ : List Span} → spans′ ≡ fill noSpan 12 (readOf (rowsIn t) (p .step .done ++ h ∷ []))
+      → {places′ : List ℕ} → places′ ≡ placesOf (fill noSpan 12 (readOf (rowsIn t) (p .step .done ++ h ∷ [])))
       → {after : Tally} → after ≡ tallyOf (unknownOf (rowsIn t) (p .step .done) ++ unknownEntry (rowsIn t) h)
-      → Step (rowsIn t) s n from row′ (i + 1) (h .value .to) spans′ after
+      → Step (rowsIn t) s n from row′ (i + 1) (h .value .to) places′ after
   done-with row′ g r x l =
       let z : n - (i + 1) ≡ n - i - 1 = omega arith in
       let b = p .more in
@@ -120,7 +122,7 @@ module _ {t : Rows} {s : List ℕ} {n from row i at : ℕ} {spans : List Span} {
       }
 
   module _ (a : length (rowsIn t) ≤ k) where
-    pub step-unknown : Step (rowsIn t) s n from row (i + 1) (h .value .to) spans (tallied tally (h .crit))
+    pub step-unknown : Step (rowsIn t) s n from row (i + 1) (h .value .to) places (tallied tally (h .crit))
     unfolding front
     step-unknown =
         let f = ended (rowsIn t) (h .id) k a (p .rest) in
@@ -128,11 +130,11 @@ module _ {t : Rows} {s : List ℕ} {n from row i at : ℕ} {spans : List Span} {
         done-with row
         (rw (heads-one (rowsIn t) s (n - i) at left h (p .read), f, le-ltb k (length (rowsIn t)) a))
         (rw (← unread (rowsIn t) (h .id) (rw f a)) (carried _ _))
-        (p .step .read ∙ ap (fill noSpan 12) (sym (set-out (readOf (rowsIn t) (p .step .done)) (find (h .id) (rowsIn t)) (h .value) (omega arith)) ∙ read-snoc (rowsIn t) _ (p .step .done) h))
+        (p .step .read ∙ ap (λ (l : List Span). placesOf (fill noSpan 12 l)) (sym (set-out (readOf (rowsIn t) (p .step .done)) (find (h .id) (rowsIn t)) (h .value) (omega arith)) ∙ read-snoc (rowsIn t) _ (p .step .done) h))
         (rw (f, le-ltb k (length (rowsIn t)) a) (tally-more tally _ (p .step .list) (unknown h)))
 
   module _ (a : k < length (rowsIn t)) where
-    pub sought-past : (getD (t .rows) k noRow .id ≡ h .id → ⊥) → Sought t s n from row i at spans tally h (k + 1)
+    pub sought-past : (getD (t .rows) k noRow .id ≡ h .id → ⊥) → Sought t s n from row i at places tally h (k + 1)
     sought-past e = record { step = p .step; more = p .more; read = p .read; rest = row-past t (h .id) k a (p .rest) e }
 
     module _ (e : getD (t .rows) k noRow .id ≡ h .id) where
@@ -142,20 +144,20 @@ module _ {t : Rows} {s : List ℕ} {n from row i at : ℕ} {spans : List Span} {
       kind : getD (t .rows) k noRow .kind ≡ kindOf (rowsIn t) (h .id)
       kind = row-kind t (h .id) k a (p .rest) e
 
-      pub walk-bad : {x : Stop} → stop x ≡ valueAt (getD (t .rows) k noRow .kind) (take (h .value .to) s) (h .value .from) → Stops (rowsIn t) s n from i at spans tally
+      pub walk-bad : {x : Stop} → stop x ≡ valueAt (getD (t .rows) k noRow .kind) (take (h .value .to) s) (h .value .from) → Stops (rowsIn t) s n from i at places tally
       walk-bad {x} r = broken (p .step) {x = x} (scan-bad (rowsIn t) s (n - i) at left h (p .read) (rw kind at r))
 
-      pub walk-misplaced : k < row → Stops (rowsIn t) s n from i at spans tally
+      pub walk-misplaced : k < row → Stops (rowsIn t) s n from i at places tally
       unfolding front
       walk-misplaced c = over (p .step) (rw (heads-one (rowsIn t) s (n - i) at left h (p .read), here, lt-ltb k (length (rowsIn t)) a, lt-ltb k row c))
 
-      pub step-known : row ≤ k → got tt ≡ valueAt (getD (t .rows) k noRow .kind) (take (h .value .to) s) (h .value .from)
-          → Step (rowsIn t) s n from (k + 1) (i + 1) (h .value .to) (set spans k (h .value)) tally
+      pub step-known : k < 12 → row ≤ k → got tt ≡ valueAt (getD (t .rows) k noRow .kind) (take (h .value .to) s) (h .value .from)
+          → Step (rowsIn t) s n from (k + 1) (i + 1) (h .value .to) (withSpan places k (h .value)) tally
       unfolding front
-      step-known c r =
+      step-known b c r =
           let d = p .step .done in
           done-with (k + 1)
           (rw (heads-one (rowsIn t) s (n - i) at left h (p .read), here, lt-ltb k (length (rowsIn t)) a, le-ltb k row c))
           (rw kind at r)
-          (rw (p .step .read) (fill-set noSpan 12 (readOf (rowsIn t) d) (h .value) k (rw (read-rows (rowsIn t) d) a) ∙ ap (fill noSpan 12) (ap (λ (j : ℕ). set (readOf (rowsIn t) d) j (h .value)) (sym here) ∙ read-snoc (rowsIn t) _ d h)))
+          (rw (p .step .read) (places-set (fill noSpan 12 (readOf (rowsIn t) d)) k (h .value) b ∙ ap placesOf (fill-set noSpan 12 (readOf (rowsIn t) d) (h .value) k (rw (read-rows (rowsIn t) d) a) ∙ ap (fill noSpan 12) (ap (λ (j : ℕ). set (readOf (rowsIn t) d) j (h .value)) (sym here) ∙ read-snoc (rowsIn t) _ d h))))
           (p .step .list ∙ ap tallyOf (sym (rw (here, lt-ltb k (length (rowsIn t)) a) (append-nil _))))

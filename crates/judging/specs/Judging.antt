@@ -1,7 +1,7 @@
 -- What is inside a message, with what is noted counted; and what the steps of the judging promise each other.
 use Prim.Native.Nat.{ℕ, _+_, _-_, _≤_}
 use mathlib.Core.Path.{_≡_}
-use mathlib.Core.Bool.{Bool, not, _&&_, _||_}
+use mathlib.Core.Bool.{Bool, true, false, not, _&&_, _||_}
 use mathlib.Core.List.{List, [], _++_, map}
 use lib.Dec.{ltb, eqb}
 use lib.ListN.{length, set, take}
@@ -9,8 +9,10 @@ use lib.Seq.{sets}
 use Rattle.lists.specs.Lists.{pick, some, fill}
 use Rattle.octets.specs.Read.{Read, got, stop, _>>=_}
 use Rattle.octets.specs.declared.Gate.the-variants as gate
+use Rattle.octets.specs.declared.Stop.{Stop}
 use Rattle.octets.specs.declared.Span.{Span}
 use Rattle.octets.specs.Span.{noSpan}
+use Rattle.places.specs.Places.{placesOf}
 use Rattle.entries.specs.declared.Entry.{Entry}
 use Rattle.entry_words.specs.EntryWords.{entryWord}
 use Rattle.rows.specs.declared.Row.{Row}
@@ -24,10 +26,20 @@ use Rattle.judging.specs.declared.Opened.{Opened}
 use Rattle.judging.specs.declared.Tally.{Tally}
 use Rattle.judging.specs.declared.Reached.{Reached}
 
--- as the code answers: what is noted counted, spans in an array of 12
+-- as the code answers: what is noted counted
 abbrev pub openedBy : Read Opening → Opened
-openedBy (got o) = record { gate = gate.Pass; outcome = o .outcome; noted = length (o .noted); spans = fill noSpan 12 (o .spans) }
-openedBy (stop x) = record { gate = gate.Stop x; outcome = Accepted; noted = 0; spans = fill noSpan 12 [] }
+openedBy (got o) = record { gate = gate.Pass; outcome = o .outcome; noted = length (o .noted) }
+openedBy (stop x) = record { gate = gate.Stop x; outcome = Accepted; noted = 0 }
+
+-- where the value of each of 12 rows stands; nowhere in octets at fault
+abbrev pub spansBy : Read Opening → List Span
+spansBy (got o) = fill noSpan 12 (o .spans)
+spansBy (stop x) = fill noSpan 12 []
+
+-- the answer is r, and m is what is left in the places
+pub record Opens (o : Read Opening) (r : Opened) (m : List ℕ) : Type 0 where
+  pub result : r ≡ openedBy o
+  pub places : m ≡ placesOf (spansBy o)
 
 -- what n elements come to
 abbrev pub openingAt : List Row → List ℕ → ℕ → ℕ → Read Opening
@@ -50,17 +62,22 @@ tallyOf es = record { count = length (take 256 es); reject = some (λ (e : Entry
 abbrev pub tallied : Tally → ℕ → Tally
 tallied n crit = record { count = pick (listing crit (n .count)) (n .count + 1) (n .count); reject = n .reject || eqb crit 0 }
 
+-- whether something was read
+abbrev pub ReadIf : Bool → Read Unit → Type 0
+ReadIf true x = got tt ≡ x
+ReadIf false x = (y : Stop) × (stop y ≡ x)
+
 -- what was found of the elements f
-pub record Seen (t : List Row) (f : List Head) (r : Reached) : Type 0 where
+pub record Seen (t : List Row) (f : List Head) (places : List ℕ) (r : Reached) : Type 0 where
   pub place : r .place ≡ length f
-  pub spans : r .spans ≡ fill noSpan 12 (readOf t f)
+  pub spans : places ≡ placesOf (fill noSpan 12 (readOf t f))
   pub tally : r .tally ≡ tallyOf (unknownOf t f)
 
 -- the faults are those from where the walk stopped; where there are none, it found what counts of all n elements
-pub record WalkedTo (t : List Row) (s : List ℕ) (n from : ℕ) (r : Reached) : Type 0 where
+pub record WalkedTo (t : List Row) (s : List ℕ) (n from : ℕ) (places : List ℕ) (r : Reached) : Type 0 where
   pub within : r .place ≤ n
   pub faults : scanAt t s (n - r .place) (r .at) ≡ scanAt t s n from
-  pub seen : got tt ≡ scanAt t s (n - r .place) (r .at) → Seen t (front t 0 (headsAt s n from)) r
+  pub seen : got tt ≡ scanAt t s (n - r .place) (r .at) → Seen t (front t 0 (headsAt s n from)) places r
 
 -- a tally, and behind it the rows that have no value
 abbrev pub MissingCounted : List Row → List Span → Tally → Tally → Type 0

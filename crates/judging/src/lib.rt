@@ -3,27 +3,28 @@
 ghost use mathlib.Core.Path.{_≡_};
 ghost use lib.ListN.{take};
 ghost use Rattle.octets.specs.Read.{stop};
+ghost use Rattle.places.specs.Places.{spansIn};
 ghost use Rattle.rows.specs.Table.{rowsIn, known};
+ghost use Rattle.kinds.specs.Kinds.{valueAt};
 ghost use Rattle.envelopes.specs.Envelope.{headsAt};
 ghost use Rattle.elements.specs.Judge.{unknownOf};
 ghost use Rattle.verdicts.specs.Verdict.{openedAt};
-ghost use Rattle.judging.specs.Judging.{listing, tallied, WalkedTo, MissingCounted, rejectedBy, openedBy, openingAt, placeOf, notedOf, NotedIn, OneNoted, MissingNoted};
+ghost use Rattle.judging.specs.Judging.{listing, tallied, ReadIf, WalkedTo, MissingCounted, rejectedBy, Opens, openingAt, placeOf, notedOf, NotedIn, OneNoted, MissingNoted};
 use entries::Entry;
 use envelopes::Envelope;
 use octets::Gate;
-use octets::Span;
 use octets::Stop;
 use octets::Two;
+use rows::Kind;
 use rows::Rows;
 use verdicts::Outcome;
 
-// What is inside the frame of a message, before any value is taken over: the outcome, how many diagnostics are noted, and where the value of each row stands
-// (from 0 to 0 where there is none). Where octets are at fault the gate says so, and nothing else is found.
+// What is inside the frame of a message, before any value is taken over: the outcome, and how many diagnostics are noted. Where the value of each row stands is
+// put into places that are lent. Where octets are at fault the gate says so, and nothing else is found.
 pub struct Opened {
     pub gate: Gate,
     pub outcome: Outcome,
     pub noted: usize,
-    pub spans: [Span; 12],
 }
 
 // How many are noted, and whether any, beyond the first 256 too, is a reason to reject.
@@ -37,7 +38,6 @@ struct Reached {
     at: usize,
     place: usize,
     tally: Tally,
-    spans: [Span; 12],
 }
 
 // Whether one more entry is noted: ignore never is, and of the others the first 256 are.
@@ -65,12 +65,25 @@ fn tally_with(seen: Tally, crit: u8) -> Tally
     }
 }
 
+// Whether a value can be read. Most are carried, and nothing is looked at.
+fn is_legible(kind: Kind, s: &[u8], at: usize) -> bool
+    ensures { λ r. ⌜ ReadIf r (valueAt kind (now (s .entry)) at) ⌝ }
+{
+    match kind {
+        Kind::Carried => true,
+        _ => match kinds::value_at(kind, s, at) {
+            Gate::Pass => true,
+            Gate::Stop(_) => false,
+        },
+    }
+}
+
 // The walk over elements and rows: it stops at the first known element that is out of order or repeated, or that cannot be read.
-fn walk(t: Rows, s: &[u8], n: usize, from: usize) -> Reached
-    ensures { λ r. ⌜ WalkedTo (rowsIn t) (now (s .entry)) n from r ⌝ }
+fn walk(t: Rows, s: &[u8], n: usize, from: usize, places: &mut [usize; 24]) -> Reached
+    ensures { λ r. ⌜ WalkedTo (rowsIn t) (now (s .entry)) n from (now (places .exit)) r ⌝ }
 {
     let rows = rows::row_count(t);
-    let mut spans = [Span { from: 0, to: 0 }; 12];
+    *places = [0; 24];
     let mut tally = Tally {
         count: 0,
         reject: false,
@@ -98,14 +111,11 @@ fn walk(t: Rows, s: &[u8], n: usize, from: usize) -> Reached
                             break 'walk i;
                         }
                         let kind = r.kind;
-                        match kinds::value_at(kind, &s[..to], value.from) {
-                            Gate::Pass => {}
-                            Gate::Stop(_) => {
-                                break 'walk i;
-                            }
+                        if !is_legible(kind, &s[..to], value.from) {
+                            break 'walk i;
                         }
                         row = k + 1;
-                        spans[k] = value;
+                        places::put_span(places, k, value);
                         at = to;
                         i += 1;
                         continue 'walk;
@@ -122,20 +132,19 @@ fn walk(t: Rows, s: &[u8], n: usize, from: usize) -> Reached
         at: at,
         place: place,
         tally: tally,
-        spans: spans,
     }
 }
 
 // The tally with the mandatory rows that have no value.
-fn with_missing(t: Rows, spans: [Span; 12], seen: Tally) -> Tally
-    ensures { λ r. ⌜ MissingCounted (rowsIn t) spans seen r ⌝ }
+fn with_missing(t: Rows, places: &[usize; 24], seen: Tally) -> Tally
+    ensures { λ r. ⌜ MissingCounted (rowsIn t) (spansIn (now (places .entry))) seen r ⌝ }
 {
     let rows = rows::row_count(t);
     let mut tally = seen;
     let mut k: usize = 0;
     while k < rows {
         let r = t.rows[k];
-        let v = spans[k];
+        let v = places::span_in(places, k);
         k += 1;
         if 0 < v.to {
             continue;
@@ -148,14 +157,14 @@ fn with_missing(t: Rows, spans: [Span; 12], seen: Tally) -> Tally
     tally
 }
 
-fn not_opened(x: Stop) -> Opened
-    ensures { λ r. ⌜ r ≡ openedBy (stop x) ⌝ }
+fn not_opened(x: Stop, places: &mut [usize; 24]) -> Opened
+    ensures { λ r. ⌜ Opens (stop x) r (now (places .exit)) ⌝ }
 {
+    *places = [0; 24];
     Opened {
         gate: Gate::Stop(x),
         outcome: Outcome::Accepted,
         noted: 0,
-        spans: [Span { from: 0, to: 0 }; 12],
     }
 }
 
@@ -169,43 +178,40 @@ fn outcome_by(reject: bool) -> Outcome
 }
 
 // n elements from a place on.
-fn opening_at(t: Rows, s: &[u8], n: usize, from: usize) -> Opened
-    ensures { λ r. ⌜ r ≡ openedBy (openingAt (rowsIn t) (now (s .entry)) n from) ⌝ }
+fn opening_at(t: Rows, s: &[u8], n: usize, from: usize, places: &mut [usize; 24]) -> Opened
+    ensures { λ r. ⌜ Opens (openingAt (rowsIn t) (now (s .entry)) n from) r (now (places .exit)) ⌝ }
 {
-    let w = walk(t, s, n, from);
+    let w = walk(t, s, n, from, places);
     let place = w.place;
     match envelopes::scan(t, s, n - place, w.at) {
         Gate::Stop(x) => {
-            return not_opened(x);
+            return not_opened(x, places);
         }
         Gate::Pass => {}
     }
-    let spans = w.spans;
     let seen = w.tally;
     if place < n {
         return Opened {
             gate: Gate::Pass,
             outcome: Outcome::Misplaced(place),
             noted: seen.count,
-            spans: spans,
         };
     }
-    let all = with_missing(t, spans, seen);
+    let all = with_missing(t, places, seen);
     Opened {
         gate: Gate::Pass,
         outcome: outcome_by(all.reject),
         noted: all.count,
-        spans: spans,
     }
 }
 
 // What is inside the frame of a message, from a place on.
-pub fn opened_at(t: Rows, s: &[u8], from: usize) -> Opened
-    ensures { λ r. ⌜ r ≡ openedBy (openedAt (rowsIn t) (now (s .entry)) from) ⌝ }
+pub fn opened_at(t: Rows, s: &[u8], from: usize, places: &mut [usize; 24]) -> Opened
+    ensures { λ r. ⌜ Opens (openedAt (rowsIn t) (now (s .entry)) from) r (now (places .exit)) ⌝ }
 {
     match frames::count_at(s, from) {
-        Two::Is(v) => opening_at(t, s, numbers::wide16(v), from + 3),
-        Two::Stop(x) => not_opened(x),
+        Two::Is(v) => opening_at(t, s, numbers::wide16(v), from + 3, places),
+        Two::Stop(x) => not_opened(x, places),
     }
 }
 
@@ -268,15 +274,15 @@ fn note_unknown(t: Rows, s: &[u8], n: usize, from: usize, words: &mut [u64]) -> 
 }
 
 // The mandatory rows that have no value, behind so many others.
-fn note_missing(t: Rows, spans: [Span; 12], seen: usize, words: &mut [u64]) -> usize
-    ensures { λ r. ⌜ MissingNoted (rowsIn t) spans (now (words .entry)) seen (now (words .exit)) r ⌝ }
+fn note_missing(t: Rows, places: &[usize; 24], seen: usize, words: &mut [u64]) -> usize
+    ensures { λ r. ⌜ MissingNoted (rowsIn t) (spansIn (now (places .entry))) (now (words .entry)) seen (now (words .exit)) r ⌝ }
 {
     let rows = rows::row_count(t);
     let mut count = seen;
     let mut k: usize = 0;
     while k < rows {
         let r = t.rows[k];
-        let v = spans[k];
+        let v = places::span_in(places, k);
         k += 1;
         if 0 < v.to {
             continue;
@@ -309,7 +315,8 @@ fn place_of(n: usize, o: Outcome) -> usize
 pub fn noted_into(t: Rows, s: &[u8], from: usize, words: &mut [u64]) -> usize
     ensures { λ r. ⌜ NotedIn (now (words .entry)) (notedOf (openedAt (rowsIn t) (now (s .entry)) from)) (now (words .exit)) r ⌝ }
 {
-    let o = opened_at(t, s, from);
+    let mut places: [usize; 24] = [0; 24];
+    let o = opened_at(t, s, from, &mut places);
     if o.noted == 0 {
         return 0;
     }
@@ -325,6 +332,5 @@ pub fn noted_into(t: Rows, s: &[u8], from: usize, words: &mut [u64]) -> usize
     if upto < n {
         return count;
     }
-    let spans = o.spans;
-    note_missing(t, spans, count, words)
+    note_missing(t, &places, count, words)
 }

@@ -1,27 +1,30 @@
 -- The rows gone over one by one: what is found of those passed.
 use mathlib.Core.Path.{_≡_, refl, ap, sym, _∙_}
-use mathlib.Core.Bool.{Bool, true, false, _&&_, _||_}
-use mathlib.Core.List.{List, [], _∷_}
-use Prim.Native.Nat.{ℕ, zero, suc, _+_, _-_, _*_, _≤_, _<_}
+use mathlib.Core.Bool.{Bool, true, false, not, _&&_, _||_, and-assoc}
+use mathlib.Core.List.{List, [], _∷_, map}
+use Prim.Native.Nat.{ℕ, zero, suc, _+_, _-_, _*_, _%_, _≤_, _<_}
 use native.Mathlib.Omega.{arith}
-use borrow.Author.Tests.{le-leb}
+use borrow.Author.Tests.{eqb-true, eq-eqb, le-leb, not-true}
 use lib.Dec.{eqb, leb}
-use lib.ListN.{length, getD, take, drop, set, replicate, length-drop, length-set}
+use lib.ListN.{length, getD, take, drop, set, replicate, length-drop, length-map, length-set, take-append-drop, List·getD-map}
 use lib.Seq.{drop-drop, take-all, length-take-le}
 use Rattle.lists.specs.Lists.{some, apart, fill}
 use Rattle.lists.proofs.Apart.{apart-map}
-use Rattle.lists.proofs.Copy.{Copied, copied-none, copied-more, copied-front}
 use Rattle.lists.proofs.Fill.{fill-more}
 use Rattle.lists.proofs.Slices.{take-next}
-use Rattle.lists.proofs.Some.{some-append, some-nothing}
+use Rattle.lists.proofs.Some.{some-append, some-map, some-nothing}
+use Rattle.lists.proofs.Tests.{and-left, and-right, or-left, or-right}
+use Rattle.distinct.specs.Bits.{inSet, withIn}
+use Rattle.distinct.proofs.Sets.{Met, met-none, met-again, met-more, met-all}
 use Rattle.identity.specs.declared.Mme.{Mme}
 use Rattle.identity.specs.declared.Mme.the-variants as mme
 use Rattle.identity.specs.declared.Mce.{Mce}
 use Rattle.identity.specs.declared.Mce.the-variants as mce
-use Rattle.table.specs.Table.{State, emptyAssociation, tableOf, names, full, heldBy, distinctHeld}
+use Rattle.table.specs.Table.{State, emptyAssociation, tableOf, names, hasMme, hasMce, hasPair, full, heldBy, shareMme, shareMce, distinctHeld}
 use Rattle.table.specs.declared.Association.{Association}
 use Rattle.lent.specs.Lent.{rowOf, rowIn, rowsOf}
-use Rattle.lent.specs.Tests.{sessionGood, rowsGood, rowsRight}
+use Rattle.lent.specs.Tests.{sessionGood, rowsGood, rowsRight, mmeAmong, mceAmong, seriesOf}
+use Rattle.lent.specs.declared.Series.the-variants as series
 use Rattle.lent.proofs.Rows.{length-rows}
 use Rattle.lent.proofs.Reading.{tail-part}
 
@@ -43,82 +46,164 @@ module _ (s : List ℕ) (n i : ℕ) (h : i < n) (b : 2 + 12 * n ≤ length s) wh
   next-row z e =
       e ∙ rw (le-leb 12 _ row-there, tail-part s (2 + 12 * i), ← drop-drop (12 * i) 2 s) (sym (rows-at n (drop 2 s) i z h))
 
--- ---- the rows are right: of i of n rows the octets were good, and the identities stand in two arrays
-abbrev mmeOf : Association → ℕ
-mmeOf a = a .mme .0
+-- ---- of i of n rows the octets were good
+pub record GoodTo (s : List ℕ) (n i : ℕ) : Type 0 where
+  pub rest : rowsGood (n - i) (drop (2 + 12 * i) s) ≡ rowsGood n (drop 2 s)
 
-abbrev mceOf : Association → ℕ
-mceOf a = a .mce .0
+pub good-none : (s : List ℕ) (n : ℕ) → GoodTo s n 0
+good-none s n = let z : n - 0 ≡ n = omega arith in record { rest = rw z }
 
-pub record RightTo (s : List ℕ) (n : ℕ) (mmes mces : List ℕ) (i : ℕ) : Type 0 where
-  pub good : rowsGood (n - i) (drop (2 + 12 * i) s) ≡ rowsGood n (drop 2 s)
-  pub first : Copied mmeOf 0 256 (rowsOf n (drop 2 s)) n mmes i
-  pub second : Copied mceOf 0 256 (rowsOf n (drop 2 s)) n mces i
-
-pub right-none : (s : List ℕ) (n : ℕ) → RightTo s n (replicate 256 0) (replicate 256 0) 0
-right-none s n = let z : n - 0 ≡ n = omega arith in record { good = rw z; first = copied-none; second = copied-none }
-
-module _ {s : List ℕ} {n : ℕ} {mmes mces : List ℕ} {i : ℕ} (g : RightTo s n mmes mces i) where
-  module _ (h : i < n) where
-    good-next : rowsGood (n - i) (drop (2 + 12 * i) s) ≡ (sessionGood (getD (drop (2 + 12 * i) s) 10 0) (getD (drop (2 + 12 * i) s) 11 0) && rowsGood (n - (i + 1)) (drop (2 + 12 * (i + 1)) s))
+module _ {s : List ℕ} {n i : ℕ} (g : GoodTo s n i) where
+  module _ (h : i < n) {b : Bool} (e : b ≡ sessionGood (getD (drop (2 + 12 * i) s) 10 0) (getD (drop (2 + 12 * i) s) 11 0)) where
+    good-next : rowsGood (n - i) (drop (2 + 12 * i) s) ≡ (b && rowsGood (n - (i + 1)) (drop (2 + 12 * (i + 1)) s))
     unfolding rowsGood
     good-next =
         let less : n - i ≡ suc (n - (i + 1)) = omega arith in
         let next : 2 + 12 * (i + 1) ≡ 2 + 12 * i + 12 = omega arith in
-        rw (less, next, drop-drop 12 (2 + 12 * i) s)
+        rw (e, less, next, drop-drop 12 (2 + 12 * i) s)
 
-    abbrev part : List ℕ
-    part = take (length s - (2 + 12 * i)) (drop (2 + 12 * i) s)
+    pub good-stop : b ≡ false → rowsGood n (drop 2 s) ≡ false
+    good-stop f = sym (g .rest) ∙ good-next ∙ rw f
 
-    pub right-stop : sessionGood (getD part 10 0) (getD part 11 0) ≡ false → false ≡ rowsRight n (drop 2 s)
-    right-stop e = let f : rowsGood n (drop 2 s) ≡ false = sym (g .good) ∙ good-next ∙ rw (rw tail-part at e) in rw f
+    pub good-more : b ≡ true → GoodTo s n (i + 1)
+    good-more f = record { rest = sym (good-next ∙ rw f) ∙ g .rest }
 
-    pub right-more : n ≤ 256 → sessionGood (getD part 10 0) (getD part 11 0) ≡ true → {a : Association} → a ≡ getD (rowsOf n (drop 2 s)) i emptyAssociation →
-        RightTo s n (set mmes i (a .mme .0)) (set mces i (a .mce .0)) (i + 1)
-    right-more b e q =
-        let l = length-rows n (drop 2 s) in
-        record {
-          good = sym (good-next ∙ rw (rw tail-part at e)) ∙ g .good;
-          first = rw q (copied-more (g .first) emptyAssociation h b (omega arith));
-          second = rw q (copied-more (g .second) emptyAssociation h b (omega arith));
-        }
+  pub good-all : n ≤ i → rowsGood n (drop 2 s) ≡ true
+  unfolding rowsGood
+  good-all h = let none : n - i ≡ 0 = omega arith in sym (g .rest) ∙ rw none
+
+-- ---- the identities of one series, or what of them is put into a set: of i of n rows all different, and the set
+abbrev pub mmeOf : Association → ℕ
+mmeOf a = a .mme .0
+
+abbrev pub mceOf : Association → ℕ
+mceOf a = a .mce .0
+
+abbrev pub lowMme : Association → ℕ
+lowMme a = a .mme .0 % 4096
+
+abbrev pub lowMce : Association → ℕ
+lowMce a = a .mce .0 % 4096
+
+abbrev pub alike : (Association → ℕ) → Association → Association → Bool
+alike f a b = eqb (f a) (f b)
+
+pub record SeriesTo (f : Association → ℕ) (w : ℕ) (s : List ℕ) (n : ℕ) (words : List ℕ) (i : ℕ) : Type 0 where
+  pub blank : f emptyAssociation ≡ 0
+  pub met : Met w (map f (rowsOf n (drop 2 s))) n words i
+
+pub series-none : (f : Association → ℕ) → f emptyAssociation ≡ 0 → (w : ℕ) → 0 < w → (s : List ℕ) (n : ℕ) → SeriesTo f w s n (replicate w 0) 0
+series-none f e w h s n = record { blank = e; met = met-none w h (map f (rowsOf n (drop 2 s))) n }
+
+module _ {f : Association → ℕ} {w : ℕ} {s : List ℕ} {n : ℕ} {words : List ℕ} {i : ℕ} (g : SeriesTo f w s n words i) where
+  long : length (map f (rowsOf n (drop 2 s))) ≡ n
+  long = length-map (rowsOf n (drop 2 s)) f ∙ length-rows n (drop 2 s)
+
+  all-of : take n (map f (rowsOf n (drop 2 s))) ≡ map f (rowsOf n (drop 2 s))
+  all-of = take-all n (map f (rowsOf n (drop 2 s))) (omega (arith, long))
+
+  -- the next row's number, and whether it is in the set
+  module _ (h : i < n) {x : ℕ} (q : x ≡ f (rowOf (drop (2 + 12 * i) s))) {r : Bool} (e : r ≡ inSet w words x) where
+    there : x ≡ getD (map f (rowsOf n (drop 2 s))) i 0
+    there =
+        q ∙ ap (λ (l : List ℕ). f (rowOf l)) (sym (drop-drop (12 * i) 2 s)) ∙ ap f (sym (rows-at n (drop 2 s) i emptyAssociation h))
+        ∙ sym (List·getD-map f (rowsOf n (drop 2 s)) i emptyAssociation) ∙ ap (getD (map f (rowsOf n (drop 2 s))) i) (g .blank)
+
+    pub series-shared : r ≡ true → apart (alike f) (rowsOf n (drop 2 s)) ≡ false
+    series-shared t =
+        let l = long in
+        sym (apart-map eqb f (rowsOf n (drop 2 s))) ∙ ap (apart eqb) (sym all-of)
+        ∙ met-again (g .met) h (omega arith) (rw (← there) (sym e ∙ t))
+
+    pub series-more : r ≡ false → {out : List ℕ} → out ≡ withIn w words x → SeriesTo f w s n out (i + 1)
+    series-more t o =
+        let l = long in
+        record { blank = g .blank; met = rw (o, there) (met-more (g .met) h (omega arith) (rw (← there) (sym e ∙ t))) }
 
   module _ (h : n ≤ i) where
-    good-all : rowsGood n (drop 2 s) ≡ true
-    unfolding rowsGood
-    good-all = let none : n - i ≡ 0 = omega arith in sym (g .good) ∙ rw none
+    pub series-apart : apart (alike f) (rowsOf n (drop 2 s)) ≡ true
+    series-apart = sym (apart-map eqb f (rowsOf n (drop 2 s))) ∙ ap (apart eqb) (sym all-of) ∙ met-all (g .met) h
 
-    series-apart : (f : Association → ℕ) {ids : List ℕ} → Copied f 0 256 (rowsOf n (drop 2 s)) n ids i → apart eqb (take n ids) ≡ apart (λ (x y : Association). eqb (f x) (f y)) (rowsOf n (drop 2 s))
-    series-apart f v =
-        let l = length-rows n (drop 2 s) in
-        rw (copied-front v h (omega arith), take-all n (rowsOf n (drop 2 s)) (omega arith)) (apart-map eqb f (rowsOf n (drop 2 s)))
+    pub series-holds : (y : ℕ) → inSet w words y ≡ some (λ (a : Association). eqb (f a) y) (rowsOf n (drop 2 s))
+    series-holds y =
+        let e : i ≡ n = omega (arith, g .met .within) in
+        g .met .holds y ∙ rw (e, all-of) (some-map (λ (x : ℕ). eqb x y) f (rowsOf n (drop 2 s)))
 
-    pub right-all : rowsRight n (drop 2 s) ≡ (apart eqb (take n mmes) && apart eqb (take n mces))
-    unfolding distinctHeld
-    right-all = rw (good-all, series-apart mmeOf (g .first), series-apart mceOf (g .second))
+-- what is said of a series
+pub series-is : (b h x : Bool) → seriesOf b h ≡ series.Apart x → (b ≡ true) × (x ≡ h)
+series-is true h x e = (refl, cc)
+series-is false h x e = absurd (let z : _≡_ {A = ℕ} 0 1 = cc in omega arith)
 
--- ---- what is held: whether one of the first i rows passes a test
-pub record Met (p : Association → Bool) (l : State) (b : Bool) (i : ℕ) : Type 0 where
+pub series-not : (b h : Bool) → seriesOf b h ≡ series.Shared → b ≡ false
+series-not true h e = absurd (let z : _≡_ {A = ℕ} 0 1 = cc in omega arith)
+series-not false h e = refl
+
+pub both-series : (n : ℕ) (s : List ℕ) → rowsRight n s ≡ ((rowsGood n s && apart shareMme (rowsOf n s)) && apart shareMce (rowsOf n s))
+unfolding distinctHeld
+both-series n s = sym (and-assoc (rowsGood n s) (apart shareMme (rowsOf n s)) (apart shareMce (rowsOf n s)))
+
+-- what is in the set of all is held
+pub mme-held : (set : List ℕ) (l : State) → ((y : ℕ) → inSet 1024 set y ≡ some (λ (a : Association). eqb (mmeOf a) y) l) → (x : Mme) → mmeAmong set x ≡ heldBy x mce.Absent l
+mme-held set l h (mme.Is m) = h (m .0)
+mme-held set l h mme.Absent = refl
+
+pub mce-held : (set : List ℕ) (l : State) → ((y : ℕ) → inSet 1024 set y ≡ some (λ (a : Association). eqb (mceOf a) y) l) → (x : Mce) → mceAmong set x ≡ heldBy mme.Absent x l
+mce-held set l h (mce.Is c) = h (c .0)
+mce-held set l h mce.Absent = refl
+
+-- what passes no weaker test passes no stronger one; what is apart by a weaker likeness is so by a stronger one
+pub none-less : {A : Type 0} (p q : A → Bool) → ((a : A) → q a ≡ true → p a ≡ true) → (l : List A) → some p l ≡ false → some q l ≡ false
+none-less p q f [] e = refl
+none-less p q f (a ∷ l) e = by (q a) refl (none-less p q f l (or-right (p a) (some p l) e))
+  where
+    by : (b : Bool) → q a ≡ b → some q l ≡ false → (b || some q l) ≡ false
+    by true t n = let z : true ≡ false = sym (f a t) ∙ or-left (p a) (some p l) e in cc
+    by false t n = n
+
+apart-less : {A : Type 0} (p q : A → A → Bool) → ((a b : A) → q a b ≡ true → p a b ≡ true) → (l : List A) → apart p l ≡ true → apart q l ≡ true
+apart-less p q f [] e = refl
+apart-less p q f (a ∷ l) e =
+    let x = not-true _ (and-left (not (some (p a) l)) (apart p l) e) in
+    rw (none-less (p a) (q a) (f a) l x, apart-less p q f l (and-right (not (some (p a) l)) (apart p l) e))
+
+pub low-apart : (f : Association → ℕ) (l : State) → apart (alike (λ (a : Association). f a % 4096)) l ≡ true → apart (alike f) l ≡ true
+low-apart f l e = apart-less (alike (λ (a : Association). f a % 4096)) (alike f) (λ a b t. eq-eqb _ _ (ap (_% 4096) (eqb-true (f a) (f b) t))) l e
+
+-- ---- no row of the first i is named
+pub record NotTo (p : Association → Bool) (l : State) (i : ℕ) : Type 0 where
   pub within : i ≤ length l
-  pub is : b ≡ some p (take i l)
+  pub none : some p (take i l) ≡ false
 
 or-none : (b : Bool) → (b || false) ≡ b
 or-none true = refl
 or-none false = refl
 
 module _ {p : Association → Bool} {l : State} where
-  pub met-none : Met p l false 0
-  met-none = record { within = omega arith; is = refl }
+  pub not-yet : NotTo p l 0
+  not-yet = record { within = omega arith; none = refl }
 
-  module _ {b : Bool} {i : ℕ} (m : Met p l b i) where
-    pub met-more : i < length l → {a : Association} → a ≡ getD l i emptyAssociation → {x y : Bool} → x ≡ p a → y ≡ (b || x) → Met p l y (i + 1)
-    met-more h q e f = record {
-      within = omega arith;
-      is = f ∙ rw (m .is, e, q, take-next l i emptyAssociation h, some-append p (take i l) (getD l i emptyAssociation ∷ []), or-none);
-    }
+  module _ {i : ℕ} (g : NotTo p l i) where
+    module _ (h : i < length l) {a : Association} (q : a ≡ getD l i emptyAssociation) {b : Bool} (e : b ≡ p a) where
+      with-next : some p (take (i + 1) l) ≡ b
+      with-next = ap (some p) (take-next l i emptyAssociation h) ∙ some-append p (take i l) (getD l i emptyAssociation ∷ []) ∙ rw (g .none, ← q, ← e) (or-none b)
 
-    pub met-all : length l ≤ i → b ≡ some p l
-    met-all h = m .is ∙ ap (some p) (take-all i l h)
+      pub not-more : b ≡ false → NotTo p l (i + 1)
+      not-more f = record { within = omega arith; none = with-next ∙ f }
+
+      pub not-found : b ≡ true → some p l ≡ true
+      not-found f =
+          ap (some p) (sym (take-append-drop (i + 1) l)) ∙ some-append p (take (i + 1) l) (drop (i + 1) l)
+          ∙ rw (with-next, f)
+
+    pub not-all : length l ≤ i → some p l ≡ false
+    not-all h = ap (some p) (sym (take-all i l h)) ∙ g .none
+
+-- where neither identity is held, no association has both
+pub no-pair : (x : Mme) (y : Mce) (l : State) → heldBy x mce.Absent l ≡ false → heldBy mme.Absent y l ≡ false → heldBy x y l ≡ false
+no-pair (mme.Is m) (mce.Is c) l e f = none-less (hasMme m) (hasPair m c) (λ a t. and-left (hasMme m a) (hasMce c a) t) l e
+no-pair (mme.Is m) mce.Absent l e f = e
+no-pair mme.Absent (mce.Is c) l e f = f
+no-pair mme.Absent mce.Absent l e f = refl
 
 -- some row is named by an item that has these identities
 pub held-by : (x : Mme) (y : Mce) (l : State) → some (names (record { mme = x; mce = y })) l ≡ heldBy x y l

@@ -15,9 +15,11 @@ use Rattle.octets.specs.Field.{valueAt}
 use Rattle.octets.specs.Write.{numberOctets}
 use Rattle.octets.specs.Stands.{Octets}
 use Rattle.octets.proofs.Back.{length-number}
-use Rattle.table.specs.Table.{State, distinctHeld}
-use Rattle.lent.specs.Lent.{rowsOctets, tableOctets, rowsOf, said, same, Held, NoTable, readTable}
+use Rattle.identity.specs.declared.Item.{Item}
+use Rattle.table.specs.Table.{State, standing, distinctHeld}
+use Rattle.lent.specs.Lent.{rowsOctets, tableOctets, rowsOf, said, same, Held, NoTable, readTable, lookedUp}
 use Rattle.lent.specs.Tests.{rowsGood, rowsRight, zeros}
+use Rattle.lent.specs.declared.Looked.the-variants as looked
 use Rattle.lent.proofs.Zeros.{zeros-are, are-zeros}
 use Rattle.lent.proofs.Rows.{length-rows, length-octets, value-again, rows-again, good-back}
 
@@ -141,6 +143,15 @@ module _ (s : List ℕ) where
         let a = and-right (rowsGood n (drop 2 s)) (distinctHeld (rowsOf n (drop 2 s))) r in
         rw e (is-table s
         (record { few = rw (length-rows (valueAt 2 s 0) (drop 2 s), ← e) h; apart = rw e at a; octets = tests-pass s o w (rw (← e) h) (rw e at z) (rw e at g) }))
+
+    -- by whether the rows are right
+    pub right-or-not : Octets s → length s ≡ 3074 → n ≤ 256 → zeros (drop (2 + 12 * n) s) ≡ true → (i : Item) →
+        pick (rowsRight n (drop 2 s)) (looked.Is (standing i (rowsOf n (drop 2 s))) n) looked.NoTable ≡ lookedUp i (readTable s)
+    right-or-not o w h z i = by (rowsRight n (drop 2 s)) refl
+      where
+        by : (b : Bool) → rowsRight n (drop 2 s) ≡ b → pick b (looked.Is (standing i (rowsOf n (drop 2 s))) n) looked.NoTable ≡ lookedUp i (readTable s)
+        by true r = rw (all-pass o w h z r, length-rows n (drop 2 s))
+        by false r = rw (not-right r)
 
   pub not-long : (length s ≡ 3074 → ⊥) → readTable s ≡ NoTable
   not-long h = no-table s (λ t. h (table-long s t))

@@ -2,12 +2,17 @@
 // A row: MME identity (2), MCE identity (2), PLMN (3), service (3), 1 for a Session Identity or 0, and the Session Identity or 0.
 // Rows past the count are zero, so a table has one form.
 ghost use mathlib.Core.Path.{_≡_};
-ghost use mathlib.Core.Bool.{_||_};
-ghost use Prim.Native.Nat.{_+_, _*_, _≤_};
+ghost use mathlib.Core.Bool.{_&&_};
+ghost use Prim.Native.Nat.{_+_, _*_, _%_, _≤_};
 ghost use lib.ListN.{length, getD, drop};
-ghost use Rattle.table.specs.Table.{tableOf, standing};
-ghost use Rattle.lent.specs.Lent.{sessionOf, rowIn, rowsOf, firstRows, readTable, lookedUp};
-ghost use Rattle.lent.specs.Tests.{sessionGood, rowsRight, zeros};
+ghost use Rattle.lists.specs.Lists.{pick, some, apart};
+ghost use Rattle.identity.specs.declared.Mme.the-variants as mme;
+ghost use Rattle.identity.specs.declared.Mce.the-variants as mce;
+ghost use Rattle.distinct.specs.Bits.{inSet, withIn};
+ghost use Rattle.table.specs.Table.{tableOf, names, heldBy, standing, shareMme, shareMce};
+ghost use Rattle.lent.specs.Lent.{sessionOf, rowOf, rowIn, rowsOf, firstRows, readTable, lookedUp};
+ghost use Rattle.lent.specs.Tests.{sessionGood, rowsGood, rowsRight, zeros, OnlyIf, mmeAmong, mceAmong, seriesOf};
+ghost use Rattle.lent.specs.declared.Looked.the-variants as looked;
 use identity::Item;
 use identity::Mce;
 use identity::MceId;
@@ -25,6 +30,12 @@ use table::Table;
 pub enum Looked {
     Is(Standing, usize),
     NoTable,
+}
+
+// Whether an identity is held, where no two rows share one of its series.
+pub enum Series {
+    Apart(bool),
+    Shared,
 }
 
 fn session_of(flag: u8, v: u8) -> Session
@@ -57,17 +68,32 @@ pub fn row_of(p: &[u8]) -> Association
     }
 }
 
-// 1 and any octet, or 0 and 0.
-fn session_good(p: &[u8]) -> bool
-    requires { ⌜ 12 ≤ length (now p) ⌝ }
-    ensures { λ r. ⌜ r ≡ sessionGood (getD (now (p .entry)) 10 0) (getD (now (p .entry)) 11 0) ⌝ }
+// The two identities of the row at a place.
+fn mme_at(s: &[u8], at: usize) -> MmeId
+    requires { ⌜ at + 12 ≤ length (now s) ⌝ }
+    ensures { λ r. ⌜ r ≡ rowOf (drop at (now (s .entry))) .mme ⌝ }
 {
-    let flag = p[10];
+    MmeId(numbers::two(s[at], s[at + 1]))
+}
+
+fn mce_at(s: &[u8], at: usize) -> MceId
+    requires { ⌜ at + 12 ≤ length (now s) ⌝ }
+    ensures { λ r. ⌜ r ≡ rowOf (drop at (now (s .entry))) .mce ⌝ }
+{
+    MceId(numbers::two(s[at + 2], s[at + 3]))
+}
+
+// The row at a place has 1 and any octet for the Session Identity, or 0 and 0.
+fn session_good(s: &[u8], at: usize) -> bool
+    requires { ⌜ at + 12 ≤ length (now s) ⌝ }
+    ensures { λ r. ⌜ r ≡ sessionGood (getD (drop at (now (s .entry))) 10 0) (getD (drop at (now (s .entry))) 11 0) ⌝ }
+{
+    let flag = s[at + 10];
     if flag == 1 {
         return true;
     }
     if flag == 0 {
-        return p[11] == 0;
+        return s[at + 11] == 0;
     }
     false
 }
@@ -86,37 +112,149 @@ fn zeros_from(s: &[u8], at: usize) -> bool
     all == 0
 }
 
-// The first n rows have good octets for the Session Identity, and no two share an identity of one series.
-fn rows_right(s: &[u8], n: usize) -> bool
-    requires { ⌜ (n ≤ 256) × (2 + 12 * n ≤ length (now s)) ⌝ }
-    ensures { λ r. ⌜ r ≡ rowsRight n (drop 2 (now (s .entry))) ⌝ }
+// Puts an identity into the set of its series, and says whether it was there; the whole of it, or its low 12 bits.
+fn add_mme(set: &mut [u64; 1024], x: MmeId) -> bool
+    ensures { λ r. ⌜ (r ≡ inSet 1024 (now (set .entry)) (x .0)) × (now (set .exit) ≡ withIn 1024 (now (set .entry)) (x .0)) ⌝ }
 {
-    let mut mmes: [u16; 256] = [0; 256];
-    let mut mces: [u16; 256] = [0; 256];
+    distinct::add(set, x.0)
+}
+
+fn add_mce(set: &mut [u64; 1024], x: MceId) -> bool
+    ensures { λ r. ⌜ (r ≡ inSet 1024 (now (set .entry)) (x .0)) × (now (set .exit) ≡ withIn 1024 (now (set .entry)) (x .0)) ⌝ }
+{
+    distinct::add(set, x.0)
+}
+
+fn add_low_mme(set: &mut [u64; 64], x: MmeId) -> bool
+    ensures { λ r. ⌜ (r ≡ inSet 64 (now (set .entry)) (x .0 % 4096)) × (now (set .exit) ≡ withIn 64 (now (set .entry)) (x .0 % 4096)) ⌝ }
+{
+    distinct::add_low(set, x.0)
+}
+
+fn add_low_mce(set: &mut [u64; 64], x: MceId) -> bool
+    ensures { λ r. ⌜ (r ≡ inSet 64 (now (set .entry)) (x .0 % 4096)) × (now (set .exit) ≡ withIn 64 (now (set .entry)) (x .0 % 4096)) ⌝ }
+{
+    distinct::add_low(set, x.0)
+}
+
+// The identity is there, and in the set of its series.
+fn mme_among(set: &[u64; 1024], x: Mme) -> bool
+    ensures { λ r. ⌜ r ≡ mmeAmong (now (set .entry)) x ⌝ }
+{
+    match x {
+        Mme::Is(m) => distinct::has(set, m.0),
+        Mme::Absent => false,
+    }
+}
+
+fn mce_among(set: &[u64; 1024], x: Mce) -> bool
+    ensures { λ r. ⌜ r ≡ mceAmong (now (set .entry)) x ⌝ }
+{
+    match x {
+        Mce::Is(c) => distinct::has(set, c.0),
+        Mce::Absent => false,
+    }
+}
+
+// The first n rows have good octets for the Session Identity, and no two are alike in the low 12 bits of an identity. Where it is so, they are right.
+fn right_by_low(s: &[u8], n: usize) -> bool
+    requires { ⌜ 2 + 12 * n ≤ length (now s) ⌝ }
+    ensures { λ r. ⌜ OnlyIf r (rowsRight n (drop 2 (now (s .entry)))) ⌝ }
+{
+    let mut mmes: [u64; 64] = [0; 64];
+    let mut mces: [u64; 64] = [0; 64];
     let mut i = 0;
     while i < n {
         let at = 2 + 12 * i;
-        if !session_good(&s[at..]) {
+        if add_low_mme(&mut mmes, mme_at(s, at)) {
             return false;
         }
-        let a = row_of(&s[at..]);
-        mmes[i] = a.mme.0;
-        mces[i] = a.mce.0;
+        if add_low_mce(&mut mces, mce_at(s, at)) {
+            return false;
+        }
+        if !session_good(s, at) {
+            return false;
+        }
         i += 1;
     }
-    distinct::unequal(mmes, n) && distinct::unequal(mces, n)
+    true
 }
 
-fn either(a: bool, b: bool) -> bool
-    ensures { λ r. ⌜ r ≡ (a || b) ⌝ }
+// The first n rows have good octets for the Session Identity, and no two share an MME identity: whether x is held.
+fn mmes_in(s: &[u8], n: usize, x: Mme) -> Series
+    requires { ⌜ 2 + 12 * n ≤ length (now s) ⌝ }
+    ensures { λ r. ⌜ r ≡ seriesOf (rowsGood n (drop 2 (now (s .entry))) && apart shareMme (rowsOf n (drop 2 (now (s .entry))))) (heldBy x mce.Absent (rowsOf n (drop 2 (now (s .entry))))) ⌝ }
 {
-    a || b
+    let mut set: [u64; 1024] = [0; 1024];
+    let mut i = 0;
+    while i < n {
+        let at = 2 + 12 * i;
+        if add_mme(&mut set, mme_at(s, at)) {
+            return Series::Shared;
+        }
+        if !session_good(s, at) {
+            return Series::Shared;
+        }
+        i += 1;
+    }
+    Series::Apart(mme_among(&set, x))
 }
 
-// What the first n rows hold of an item's identities.
-fn standing_in(s: &[u8], n: usize, item: Item) -> Standing
+// No two of the first n rows share an MCE identity: whether x is held.
+fn mces_in(s: &[u8], n: usize, x: Mce) -> Series
+    requires { ⌜ 2 + 12 * n ≤ length (now s) ⌝ }
+    ensures { λ r. ⌜ r ≡ seriesOf (apart shareMce (rowsOf n (drop 2 (now (s .entry))))) (heldBy mme.Absent x (rowsOf n (drop 2 (now (s .entry))))) ⌝ }
+{
+    let mut set: [u64; 1024] = [0; 1024];
+    let mut i = 0;
+    while i < n {
+        if add_mce(&mut set, mce_at(s, 2 + 12 * i)) {
+            return Series::Shared;
+        }
+        i += 1;
+    }
+    Series::Apart(mce_among(&set, x))
+}
+
+// One of the first n rows is named.
+fn held_in(s: &[u8], n: usize, item: Item) -> bool
     requires { ⌜ (n ≤ 256) × (2 + 12 * n ≤ length (now s)) ⌝ }
-    ensures { λ r. ⌜ r ≡ standing item (rowsOf n (drop 2 (now (s .entry)))) ⌝ }
+    ensures { λ r. ⌜ r ≡ some (names item) (rowsOf n (drop 2 (now (s .entry)))) ⌝ }
+{
+    let mut i = 0;
+    while i < n {
+        let a = row_of(&s[2 + 12 * i..]);
+        if table::names(item, a) {
+            return true;
+        }
+        i += 1;
+    }
+    false
+}
+
+// What the first n rows hold of an item's identities, of which each is held or not: only what is held can be a pair.
+fn with_pair(s: &[u8], n: usize, item: Item, first: bool, second: bool) -> Looked
+    requires { ⌜ (n ≤ 256) × (2 + 12 * n ≤ length (now s)) × (first ≡ heldBy (item .mme) mce.Absent (rowsOf n (drop 2 (now s)))) × (second ≡ heldBy mme.Absent (item .mce) (rowsOf n (drop 2 (now s)))) ⌝ }
+    ensures { λ r. ⌜ r ≡ looked.Is (standing item (rowsOf n (drop 2 (now (s .entry))))) n ⌝ }
+{
+    let full = 256 <= n;
+    let mut pair = false;
+    if first || second {
+        pair = held_in(s, n, item);
+    }
+    let standing = Standing {
+        mme: first,
+        mce: second,
+        pair: pair,
+        full: full,
+    };
+    Looked::Is(standing, n)
+}
+
+// By going over the rows, which are right.
+fn look_few(s: &[u8], n: usize, item: Item) -> Looked
+    requires { ⌜ (n ≤ 256) × (2 + 12 * n ≤ length (now s)) ⌝ }
+    ensures { λ r. ⌜ r ≡ looked.Is (standing item (rowsOf n (drop 2 (now (s .entry))))) n ⌝ }
 {
     let x = item.mme;
     let y = item.mce;
@@ -128,26 +266,28 @@ fn standing_in(s: &[u8], n: usize, item: Item) -> Standing
         mme: Mme::Absent,
         mce: y,
     };
-    let mut mme = false;
-    let mut mce = false;
-    let mut pair = false;
-    let mut i = 0;
-    while i < n {
-        let a = row_of(&s[2 + 12 * i..]);
-        mme = either(mme, table::names(first, a));
-        mce = either(mce, table::names(second, a));
-        pair = either(pair, table::names(item, a));
-        i += 1;
-    }
-    Standing {
-        mme: mme,
-        mce: mce,
-        pair: pair,
-        full: 256 <= n,
+    let mme = held_in(s, n, first);
+    let mce = held_in(s, n, second);
+    with_pair(s, n, item, mme, mce)
+}
+
+// By a set of each series, one after the other.
+fn look_many(s: &[u8], n: usize, item: Item) -> Looked
+    requires { ⌜ (n ≤ 256) × (2 + 12 * n ≤ length (now s)) ⌝ }
+    ensures { λ r. ⌜ r ≡ pick (rowsRight n (drop 2 (now (s .entry)))) (looked.Is (standing item (rowsOf n (drop 2 (now (s .entry))))) n) looked.NoTable ⌝ }
+{
+    let x = item.mme;
+    let y = item.mce;
+    match mmes_in(s, n, x) {
+        Series::Apart(mme) => match mces_in(s, n, y) {
+            Series::Apart(mce) => with_pair(s, n, item, mme, mce),
+            Series::Shared => Looked::NoTable,
+        },
+        Series::Shared => Looked::NoTable,
     }
 }
 
-// What octets say of an item's identities, if they are a table.
+// What octets say of an item's identities, if they are a table. A set of 8 KB takes longer to clear than a few rows to go over.
 pub fn look_up(s: &[u8], item: Item) -> Looked
     ensures { λ r. ⌜ r ≡ lookedUp item (readTable (now (s .entry))) ⌝ }
 {
@@ -161,11 +301,22 @@ pub fn look_up(s: &[u8], item: Item) -> Looked
     if !zeros_from(s, 2 + 12 * n) {
         return Looked::NoTable;
     }
-    if !rows_right(s, n) {
-        return Looked::NoTable;
+    if n <= 64 {
+        if right_by_low(s, n) {
+            return look_few(s, n, item);
+        }
     }
-    let standing = standing_in(s, n, item);
-    Looked::Is(standing, n)
+    look_many(s, n, item)
+}
+
+// One of the first n rows is named, of octets as many as a table has, whether or not they are one.
+pub fn names_row(s: &[u8], n: usize, item: Item) -> bool
+    ensures { λ r. ⌜ r ≡ some (names item) (firstRows n (now (s .entry))) ⌝ }
+{
+    if s.len() != 3074 {
+        return false;
+    }
+    held_in(s, numbers::lesser(n, 256), item)
 }
 
 // The first n rows of octets as many as a table has, whether or not they are one.

@@ -6,13 +6,13 @@ use mathlib.Core.List.{List, [], _∷_, _++_, map, append-assoc, append-nil}
 use Prim.Native.Nat.{ℕ, zero, suc, _+_, _%_, _<_, _≤_}
 use native.Mathlib.Omega.{arith}
 use native.Mathlib.Nat.{mod-eq-of-lt}
-use borrow.Author.Tests.{le-leb, lt-leb, ltb-true, ltb-false, eqb-false, not-false}
+use borrow.Author.Tests.{le-leb, lt-leb, ltb-true, ltb-false, eqb-false}
 use lib.Dec.{ltb, eqb}
 use lib.ListN.{length, drop, getD, length-append, List·getD-map}
-use Rattle.lists.specs.Lists.{pick, some, fill}
+use Rattle.lists.specs.Lists.{pick, fill}
 use Rattle.lists.proofs.Fill.{getD-fill, take-fill}
-use Rattle.lists.proofs.Tests.{or-left, or-right}
 use Rattle.packed.specs.Packed.{_bits_, bit, packed}
+use Rattle.octets.specs.Many.{Each}
 use Rattle.octets.specs.Write.{numberOctets, lengthOctets, Wrote}
 use Rattle.octets.proofs.Back.{length-number}
 use Rattle.octets.proofs.Writing.{sets-front, wrote-then}
@@ -20,10 +20,10 @@ use Rattle.rows.specs.declared.Row.{Row}
 use Rattle.rows.specs.declared.Rows.{Rows}
 use Rattle.rows.specs.Table.{noRow, rowsIn}
 use Rattle.editions.specs.declared.Edition.{Edition}
-use Rattle.editions.specs.declared.Edition.the-variants.{Release18}
 use Rattle.editions.specs.declared.Message.{Message}
-use Rattle.editions.specs.declared.Message.the-variants.{StartRequest, StartResponse, StartFailure, StopRequest, StopResponse, Reset, ResetAcknowledge, ErrorIndication}
-use Rattle.editions.specs.Editions.{release18, tableOf, codeOf, rowsOf}
+use Rattle.editions.specs.Editions.{tableOf, codeOf, rowsOf}
+use Rattle.editions.proofs.Names.{bounds}
+use Rattle.editions.proofs.Tables.{Fits, lawful-count, rows-fit, table-lawful}
 use Rattle.meaning.specs.Value.{Value, Given, given, absent, Said}
 use Rattle.meaning.specs.Written.{octetsOf, hasOctets, elementOctets, elementsOctets, howMany, insideOctets, messageOctets, isWritten, octets, none, encoded}
 use Rattle.plan.specs.declared.Plan.{Plan}
@@ -37,48 +37,18 @@ use Rattle.plan.proofs.Steps.{opening-length}
 -- ---- tables
 
 pub table-short : (e : Edition) (m : Message) → length (tableOf e m) ≤ 12
-unfolding release18
-table-short Release18 StartRequest = omega arith
-table-short Release18 StartResponse = omega arith
-table-short Release18 StartFailure = omega arith
-table-short Release18 StopRequest = omega arith
-table-short Release18 StopResponse = omega arith
-table-short Release18 Reset = omega arith
-table-short Release18 ResetAcknowledge = omega arith
-table-short Release18 ErrorIndication = omega arith
-
-abbrev critOver : Row → Bool
-critOver r = not (ltb (r .crit) 4)
-
-crits : (e : Edition) (m : Message) → some critOver (tableOf e m) ≡ false
-unfolding release18
-crits Release18 StartRequest = refl
-crits Release18 StartResponse = refl
-crits Release18 StartFailure = refl
-crits Release18 StopRequest = refl
-crits Release18 StopResponse = refl
-crits Release18 Reset = refl
-crits Release18 ResetAcknowledge = refl
-crits Release18 ErrorIndication = refl
-
-none-at : (p : Row → Bool) (l : List Row) → p noRow ≡ false → some p l ≡ false → (i : ℕ) → p (getD l i noRow) ≡ false
-none-at p [] d e i = d
-none-at p (r ∷ l) d e zero = or-left (p r) (some p l) e
-none-at p (r ∷ l) d e (suc i) = none-at p l d (or-right (p r) (some p l) e) i
+table-short e m = lawful-count (tableOf e m) (table-lawful e m)
 
 crit-small : (e : Edition) (m : Message) (i : ℕ) → getD (tableOf e m) i noRow .crit < 4
-crit-small e m i = ltb-true _ 4 (not-false _ (none-at critOver (tableOf e m) refl (crits e m) i))
+crit-small e m i = at (tableOf e m) (rows-fit e m) i
+  where
+    at : (t : List Row) → Each Fits t → (i : ℕ) → getD t i noRow .crit < 4
+    at [] f i = omega arith
+    at (r ∷ t) f zero = let h = f .0 .crit in omega arith
+    at (r ∷ t) f (suc i) = at t (f .1) i
 
 code-same : (e : Edition) (m : Message) → (codeOf e m .kind % 4 ≡ codeOf e m .kind) × (codeOf e m .crit % 4 ≡ codeOf e m .crit)
-unfolding release18
-code-same Release18 StartRequest = (refl, refl)
-code-same Release18 StartResponse = (refl, refl)
-code-same Release18 StartFailure = (refl, refl)
-code-same Release18 StopRequest = (refl, refl)
-code-same Release18 StopResponse = (refl, refl)
-code-same Release18 Reset = (refl, refl)
-code-same Release18 ResetAcknowledge = (refl, refl)
-code-same Release18 ErrorIndication = (refl, refl)
+code-same e m = let b = bounds e m in (omega arith, omega arith)
 
 -- the rows that the code has
 pub rows-all : (e : Edition) (m : Message) {t : Rows} → t ≡ rowsOf e m → (rowsIn t ≡ tableOf e m) × (t .rows ≡ fill noRow 12 (tableOf e m))

@@ -20,6 +20,7 @@ use Rattle.octets.specs.declared.Gate.the-variants as gate
 use Rattle.octets.specs.declared.Span.{Span}
 use Rattle.octets.specs.Span.{noSpan}
 use Rattle.octets.proofs.Writing.{sets-front}
+use Rattle.places.specs.Places.{spansIn}
 use Rattle.rows.specs.declared.Row.{Row}
 use Rattle.rows.specs.declared.Rows.{Rows}
 use Rattle.rows.specs.Table.{noRow, rowsIn}
@@ -28,7 +29,7 @@ use Rattle.editions.specs.declared.Message.{Message}
 use Rattle.editions.specs.declared.Named.{Named}
 use Rattle.editions.specs.declared.Named.the-variants as named
 use Rattle.editions.specs.Editions.{tableOf, rowsOf, namedBy}
-use Rattle.editions.proofs.Tables.{table-lawful}
+use Rattle.editions.proofs.Tables.{table-lawful, lawful-count}
 use Rattle.editions.proofs.Names.{number-names}
 use Rattle.frames.specs.declared.Frame.{Frame}
 use Rattle.frames.specs.Frame.{frameAt}
@@ -39,7 +40,8 @@ use Rattle.verdicts.specs.declared.Refusal.{Refusal}
 use Rattle.verdicts.specs.declared.Refusal.the-variants.{TooLong, Stopped, NotAmong}
 use Rattle.verdicts.specs.Verdict.{Opening, openedAt, Understood, Verdict, refused, understood, understoodBy, verdictOf, every, ofThose, framed, readOf}
 use Rattle.judging.specs.declared.Opened.{Opened}
-use Rattle.judging.specs.Judging.{openedBy}
+use Rattle.judging.specs.Judging.{openedBy, spansBy, Opens}
+use Rattle.judging.proofs.OpenedLaws.{spans-back}
 use Rattle.layout.specs.Held.{Held}
 use Rattle.layout.specs.Record.{recordOctets, recordOut, isRecord, readRecord}
 use Rattle.layout.proofs.RecordBack.{held-size, record-back}
@@ -99,49 +101,52 @@ put-front e r d g h p =
 -- ---- as the code has it: a table in an array, and what the judging hands back
 
 -- what it hands back, by its gate
-by-gate : (r : Read Opening) {x : Opened} → x ≡ openedBy r → x .gate ≡ gate.Pass → (y : Opening) × (got y ≡ r) × (x .spans ≡ fill noSpan 12 (y .spans)) × (x .outcome ≡ y .outcome)
-by-gate (got y) q g = (y, refl, ap (λ (z : Opened). z .spans) q, ap (λ (z : Opened). z .outcome) q)
+by-gate : (r : Read Opening) {x : Opened} → x ≡ openedBy r → x .gate ≡ gate.Pass → (y : Opening) × (got y ≡ r) × (x .outcome ≡ y .outcome)
+by-gate (got y) q g = (y, refl, ap (λ (z : Opened). z .outcome) q)
 by-gate (stop p) q g = absurd (let n : gate.Pass ≡ gate.Stop p = sym g ∙ ap (λ (z : Opened). z .gate) q in let z : _≡_ {A = ℕ} 0 1 = cc in omega arith)
 
 by-stop : (r : Read Opening) {x : Opened} {p : Stop} → x ≡ openedBy r → x .gate ≡ gate.Stop p → r ≡ stop p
 by-stop (got y) {x} {p} q g = absurd (let n : gate.Stop p ≡ gate.Pass = sym g ∙ ap (λ (z : Opened). z .gate) q in let z : _≡_ {A = ℕ} 0 1 = cc in omega arith)
 by-stop (stop w) {x} {p} q g = let n : gate.Stop p ≡ gate.Stop w = sym g ∙ ap (λ (z : Opened). z .gate) q in let k : w ≡ p = cc in ap stop k
 
-module _ (e : Edition) (m : Message) (f : Frame) (s : List ℕ) {t : Rows} {x : Opened} (is : t ≡ rowsOf e m) (q : x ≡ openedBy (openedAt (rowsIn t) s (f .from))) where
+module _ (e : Edition) (m : Message) (f : Frame) (s : List ℕ) {t : Rows} {x : Opened} {ps : List ℕ} (is : t ≡ rowsOf e m) (q : Opens (openedAt (rowsIn t) s (f .from)) x ps) where
   table : rowsIn t ≡ tableOf e m
   table = ap rowsIn is ∙ take-fill noRow 12 (tableOf e m)
 
-  judged : x ≡ openedBy (openedAt (tableOf e m) s (f .from))
+  judged : Opens (openedAt (tableOf e m) s (f .from)) x ps
   judged = rw table at q
 
+  spans-are : {y : Opening} → got y ≡ openedAt (tableOf e m) s (f .from) → spansIn ps ≡ fill noSpan 12 (y .spans)
+  spans-are a = spans-back (tableOf e m) s (f .from) (lawful-count (tableOf e m) (table-lawful e m)) (judged .places) ∙ ap spansBy (sym a)
+
   pub is-stopped : {p : Stop} → x .gate ≡ gate.Stop p → verdictOf (tableOf e m) m f s (openedAt (tableOf e m) s (f .from)) ≡ refused (Stopped p)
-  is-stopped g = ap (verdictOf (tableOf e m) m f s) (by-stop (openedAt (tableOf e m) s (f .from)) judged g)
+  is-stopped g = ap (verdictOf (tableOf e m) m f s) (by-stop (openedAt (tableOf e m) s (f .from)) (judged .result) g)
 
   module _ (g : x .gate ≡ gate.Pass) where
-    pub all-legible : AllLegible (rowsIn t) s (x .spans)
+    pub all-legible : AllLegible (rowsIn t) s (spansIn ps)
     all-legible =
-        let y = by-gate (openedAt (tableOf e m) s (f .from)) judged g in
-        rw (table, y .2) (array-legible (tableOf e m) s (opened-spans (tableOf e m) s (f .from) (y .1)))
+        let y = by-gate (openedAt (tableOf e m) s (f .from)) (judged .result) g in
+        rw (table, spans-are (y .1)) (array-legible (tableOf e m) s (opened-spans (tableOf e m) s (f .from) (y .1)))
 
     pub too-small : {d : List ℕ} → length d < 2662 → Answers e (verdictOf (tableOf e m) m f s (openedAt (tableOf e m) s (f .from))) d NoRoom d
     too-small {d} h =
-        let y = by-gate (openedAt (tableOf e m) s (f .from)) judged g in
+        let y = by-gate (openedAt (tableOf e m) s (f .from)) (judged .result) g in
         let z = lt-leb 2662 (length d) h in
         subst (λ (r : Read Opening). Answers e (verdictOf (tableOf e m) m f s r) d NoRoom d) (y .1) (rw z, rw z)
 
     pub is-put : Octets s → length s ≤ 8192 → (d : List ℕ) {k : List ℕ} → 2662 ≤ length d
-        → PutIn e (record { message = m; crit = f .crit; values = valuesIn (rowsIn t) s (x .spans) }) d k
+        → PutIn e (record { message = m; crit = f .crit; values = valuesIn (rowsIn t) s (spansIn ps) }) d k
         → Answers e (verdictOf (tableOf e m) m f s (openedAt (tableOf e m) s (f .from))) d (Put (x .outcome)) k
     is-put o b d {k} h p =
-        let y = by-gate (openedAt (tableOf e m) s (f .from)) judged g in
+        let y = by-gate (openedAt (tableOf e m) s (f .from)) (judged .result) g in
         let l = opened-spans (tableOf e m) s (f .from) (y .1) in
-        let v : valuesIn (rowsIn t) s (x .spans) ≡ valuesIn (tableOf e m) s (y .0 .spans)
-        = ap (λ (z : List Row). valuesIn z s (x .spans)) table
-        ∙ (ap (valuesIn (tableOf e m) s) (y .2) ∙ values-front (tableOf e m) s (y .0 .spans) (replicate (12 - length (y .0 .spans)) noSpan) (omega (arith, l .count))) in
+        let v : valuesIn (rowsIn t) s (spansIn ps) ≡ valuesIn (tableOf e m) s (y .0 .spans)
+        = ap (λ (z : List Row). valuesIn z s (spansIn ps)) table
+        ∙ (ap (valuesIn (tableOf e m) s) (spans-are (y .1)) ∙ values-front (tableOf e m) s (y .0 .spans) (replicate (12 - length (y .0 .spans)) noSpan) (omega (arith, l .count))) in
         let put : PutIn e (record { message = m; crit = f .crit; values = valuesIn (tableOf e m) s (y .0 .spans) }) d k = rw v at p in
         let z = le-leb 2662 (length d) h in
         let front = put-front e (understoodBy (tableOf e m) m f s (y .0) .what) d (opening-held e m f s o b (y .1)) h put in
-        subst (λ (r : Read Opening). Answers e (verdictOf (tableOf e m) m f s r) d (Put (x .outcome)) k) (y .1) (rw z (ap Put (y .3)), rw z front)
+        subst (λ (r : Read Opening). Answers e (verdictOf (tableOf e m) m f s r) d (Put (x .outcome)) k) (y .1) (rw z (ap Put (y .2)), rw z front)
 
 -- ---- which verdict it is
 

@@ -10,6 +10,7 @@ ghost use Rattle.octets.specs.Write.{numberOctets, Wrote};
 ghost use Rattle.values.specs.Values.{mmeAt, mceAt, tmgiAt, sessionAt, causeAt};
 ghost use Rattle.items.specs.Items.{itemsAt, resetAt};
 ghost use Rattle.diagnostics.specs.Diagnostics.{diagnosticsAt};
+ghost use Rattle.places.specs.Places.{spansIn};
 ghost use Rattle.rows.specs.Table.{rowsIn};
 ghost use Rattle.meaning.specs.Value.{given, absent, carried, mme, mce, tmgi, session, cause, reset, diagnostics};
 ghost use Rattle.meaning.specs.Reading.{readAs, orAbsent, valueIn, valuesIn};
@@ -291,10 +292,10 @@ fn put_slot(room: &mut [u8], at: usize, kind: Kind, s: &[u8], v: Span) -> usize
 
 // ---- the slots of all rows
 
-fn put_slots(room: &mut [u8], at: usize, t: Rows, s: &[u8], spans: [Span; 12]) -> usize
+fn put_slots(room: &mut [u8], at: usize, t: Rows, s: &[u8], places: &[usize; 24]) -> usize
     requires room { ⌜ at + 96 ≤ length (now room) ⌝ }
-    requires values { ⌜ AllLegible (rowsIn t) (now s) spans ⌝ }
-    ensures { λ r. ⌜ Wrote (now (room .entry)) at (fill 0 96 (eachOctets slotOctets (valuesIn (rowsIn t) (now (s .entry)) spans))) (now (room .exit)) r ⌝ }
+    requires values { ⌜ AllLegible (rowsIn t) (now s) (spansIn (now places)) ⌝ }
+    ensures { λ r. ⌜ Wrote (now (room .entry)) at (fill 0 96 (eachOctets slotOctets (valuesIn (rowsIn t) (now (s .entry)) (spansIn (now (places .entry)))))) (now (room .exit)) r ⌝ }
 {
     let rows = rows::row_count(t);
     let mut next = at;
@@ -302,7 +303,7 @@ fn put_slots(room: &mut [u8], at: usize, t: Rows, s: &[u8], spans: [Span; 12]) -
     while k < rows {
         let r = t.rows[k];
         let kind = r.kind;
-        let v = spans[k];
+        let v = places::span_in(places, k);
         next = put_slot(room, next, kind, s, v);
         k += 1;
     }
@@ -339,16 +340,16 @@ fn items_from(kind: Kind, s: &[u8], v: Span) -> Begins
     }
 }
 
-fn put_items(room: &mut [u8], at: usize, t: Rows, s: &[u8], spans: [Span; 12]) -> usize
-    requires { ⌜ AllLegible (rowsIn t) (now s) spans ⌝ }
-    ensures { λ r. ⌜ Wrote (now (room .entry)) at (listOctets 1536 itemRow (listsOf (valuesIn (rowsIn t) (now (s .entry)) spans) .items)) (now (room .exit)) r ⌝ }
+fn put_items(room: &mut [u8], at: usize, t: Rows, s: &[u8], places: &[usize; 24]) -> usize
+    requires { ⌜ AllLegible (rowsIn t) (now s) (spansIn (now places)) ⌝ }
+    ensures { λ r. ⌜ Wrote (now (room .entry)) at (listOctets 1536 itemRow (listsOf (valuesIn (rowsIn t) (now (s .entry)) (spansIn (now (places .entry)))) .items)) (now (room .exit)) r ⌝ }
 {
     let rows = rows::row_count(t);
     let mut k: usize = 0;
     while k < rows {
         let r = t.rows[k];
         let kind = r.kind;
-        let v = spans[k];
+        let v = places::span_in(places, k);
         match items_from(kind, s, v) {
             Begins::At(from) => {
                 let to = v.to;
@@ -393,16 +394,16 @@ fn entries_from(kind: Kind, s: &[u8], v: Span) -> Begins
     }
 }
 
-fn put_entries(room: &mut [u8], at: usize, t: Rows, s: &[u8], spans: [Span; 12]) -> usize
-    requires { ⌜ AllLegible (rowsIn t) (now s) spans ⌝ }
-    ensures { λ r. ⌜ Wrote (now (room .entry)) at (listOctets 1024 entryRow (listsOf (valuesIn (rowsIn t) (now (s .entry)) spans) .entries)) (now (room .exit)) r ⌝ }
+fn put_entries(room: &mut [u8], at: usize, t: Rows, s: &[u8], places: &[usize; 24]) -> usize
+    requires { ⌜ AllLegible (rowsIn t) (now s) (spansIn (now places)) ⌝ }
+    ensures { λ r. ⌜ Wrote (now (room .entry)) at (listOctets 1024 entryRow (listsOf (valuesIn (rowsIn t) (now (s .entry)) (spansIn (now (places .entry)))) .entries)) (now (room .exit)) r ⌝ }
 {
     let rows = rows::row_count(t);
     let mut k: usize = 0;
     while k < rows {
         let r = t.rows[k];
         let kind = r.kind;
-        let v = spans[k];
+        let v = places::span_in(places, k);
         match entries_from(kind, s, v) {
             Begins::At(from) => {
                 let to = v.to;
@@ -424,18 +425,18 @@ fn put_record(
     crit: u8,
     t: Rows,
     s: &[u8],
-    spans: [Span; 12],
+    places: &[usize; 24],
 )
     requires room { ⌜ 2662 ≤ length (now room) ⌝ }
-    requires values { ⌜ AllLegible (rowsIn t) (now s) spans ⌝ }
-    ensures { λ r. ⌜ PutIn e (record { message = m; crit = crit; values = valuesIn (rowsIn t) (now (s .entry)) spans }) (now (room .entry)) (now (room .exit)) ⌝ }
+    requires values { ⌜ AllLegible (rowsIn t) (now s) (spansIn (now places)) ⌝ }
+    ensures { λ r. ⌜ PutIn e (record { message = m; crit = crit; values = valuesIn (rowsIn t) (now (s .entry)) (spansIn (now (places .entry))) }) (now (room .entry)) (now (room .exit)) ⌝ }
 {
     let number = editions::number_of(e, m);
     let next = octets::put_octet(room, 0, number);
     let rows = octets::put_octet(room, next, crit);
-    let items = put_slots(room, rows, t, s, spans);
-    let entries = put_items(room, items, t, s, spans);
-    put_entries(room, entries, t, s, spans);
+    let items = put_slots(room, rows, t, s, places);
+    let entries = put_items(room, items, t, s, places);
+    put_entries(room, entries, t, s, places);
 }
 
 fn read_inside(e: Edition, m: Message, f: Frame, s: &[u8], room: &mut [u8]) -> Reading
@@ -443,7 +444,8 @@ fn read_inside(e: Edition, m: Message, f: Frame, s: &[u8], room: &mut [u8]) -> R
     ensures { λ r. ⌜ Answers e (verdictOf (tableOf e m) m f (now (s .entry)) (openedAt (tableOf e m) (now (s .entry)) (f .from))) (now (room .entry)) r (now (room .exit)) ⌝ }
 {
     let t = editions::rows_of(e, m);
-    let o = judging::opened_at(t, s, f.from);
+    let mut places: [usize; 24] = [0; 24];
+    let o = judging::opened_at(t, s, f.from, &mut places);
     let gate = o.gate;
     match gate {
         Gate::Pass => {}
@@ -454,8 +456,7 @@ fn read_inside(e: Edition, m: Message, f: Frame, s: &[u8], room: &mut [u8]) -> R
     if room.len() < 2662 {
         return Reading::NoRoom;
     }
-    let spans = o.spans;
-    put_record(room, e, m, f.crit, t, s, spans);
+    put_record(room, e, m, f.crit, t, s, &places);
     let outcome = o.outcome;
     Reading::Put(outcome)
 }

@@ -1,5 +1,6 @@
 // What a message asks for. Of its values only those are read that say so.
 ghost use mathlib.Core.Path.{_≡_};
+ghost use Rattle.places.specs.Places.{spansIn};
 ghost use Rattle.rows.specs.Table.{rowsIn};
 ghost use Rattle.values.specs.Values.{mmeAt, mceAt, tmgiAt, sessionAt};
 ghost use Rattle.items.specs.Items.{resetAt};
@@ -244,8 +245,8 @@ fn with_value(kind: Kind, s: &[u8], v: Span, x: Seen) -> Seen
 }
 
 // What is seen of a message, from where the value of each row of its table stands.
-pub fn seen_in(t: Rows, s: &[u8], spans: [Span; 12]) -> Seen
-    ensures { λ r. ⌜ r ≡ seen (valuesIn (rowsIn t) (now (s .entry)) spans) ⌝ }
+pub fn seen_in(t: Rows, s: &[u8], places: &[usize; 24]) -> Seen
+    ensures { λ r. ⌜ r ≡ seen (valuesIn (rowsIn t) (now (s .entry)) (spansIn (now (places .entry)))) ⌝ }
 {
     let mut k = rows::row_count(t);
     let mut x = nothing_seen();
@@ -253,7 +254,7 @@ pub fn seen_in(t: Rows, s: &[u8], spans: [Span; 12]) -> Seen
         k -= 1;
         let r = t.rows[k];
         let kind = r.kind;
-        let v = spans[k];
+        let v = places::span_in(places, k);
         x = with_value(kind, s, v, x);
     }
     x

@@ -1,13 +1,14 @@
 -- How the items of a reset are chained by identity, so that each association meets few of them. What a reset means is `without`.
-use mathlib.Core.Bool.{Bool, _&&_, _||_}
+use mathlib.Core.Bool.{Bool, not, _&&_, _||_}
 use mathlib.Core.List.{List, map}
 use Prim.Native.Nat.{ℕ, _+_, _-_, _%_}
 use lib.Dec.{eqb}
 use lib.ListN.{getD}
-use Rattle.lists.specs.Lists.{pick, fill, upto}
+use Rattle.lists.specs.Lists.{pick, fill, some, upto}
 use Rattle.lists.specs.Chains.{Chained}
 use Rattle.identity.specs.declared.Item.{Item}
 use Rattle.item_words.specs.Words.{mmeNumber, mceNumber}
+use Rattle.table.specs.Table.{State, names}
 use Rattle.table.specs.declared.Association.{Association}
 
 -- the number of an identity, by a half of a word
@@ -56,3 +57,7 @@ namedAmong ms cs a = met (meetsEither (a .mme .0 + 1) (a .mce .0 + 1)) ms cs
 -- all 256 places are chained
 pub record Slotted (ms cs head next : List ℕ) : Type 0 where
   pub chained : Chained (slotAt ms cs) 4096 256 head next 256
+
+-- ---- without chains: no item names one of the associations
+unfoldable pub namesNone : List Item → State → Bool
+namesNone is l = not (some (λ (i : Item). some (names i) l) is)

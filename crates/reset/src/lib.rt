@@ -3,10 +3,12 @@ ghost use mathlib.Core.Bool.{_&&_};
 ghost use mathlib.Core.Path.{_≡_};
 ghost use Prim.Native.Nat.{_<_};
 ghost use mathlib.Core.List.{map};
-ghost use lib.ListN.{replicate, take};
+ghost use lib.Dec.{leb};
+ghost use lib.ListN.{length, replicate, take};
+ghost use Rattle.lent.specs.Lent.{firstRows};
 ghost use Rattle.item_words.specs.Words.{itemOf};
 ghost use Rattle.table.specs.Table.{held, tableOf, without};
-ghost use Rattle.reset.specs.Slots.{halfNumber, mmeOf, mceOf, numbersOf, slotOf, agree, meets, met, namedAmong, Slotted};
+ghost use Rattle.reset.specs.Slots.{halfNumber, mmeOf, mceOf, numbersOf, slotOf, agree, meets, met, namedAmong, Slotted, namesNone};
 use table::Association;
 use table::Table;
 
@@ -123,6 +125,23 @@ fn named(
     let c = mce.0 as u32 + 1;
     named_in(mmes, mces, head, next, m, c, slot(m, 0))
         || named_in(mmes, mces, head, next, m, c, slot(0, c))
+}
+
+// The words say up to four items, and none of these names one of the first n rows that are lent; more are not asked about here.
+pub fn names_none(s: &[u8], n: usize, words: &[u64]) -> bool
+    ensures { λ r. ⌜ r ≡ (leb (length (now (words .entry))) 4 && namesNone (map itemOf (now (words .entry))) (firstRows n (now (s .entry)))) ⌝ }
+{
+    if 4 < words.len() {
+        return false;
+    }
+    let mut i: usize = 0;
+    while i < words.len() {
+        if lent::names_row(s, n, item_words::item_of(words[i])) {
+            return false;
+        }
+        i += 1;
+    }
+    true
 }
 
 // The words say the items. All that some item names are removed, the others keep their order.

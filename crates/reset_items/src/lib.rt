@@ -1,6 +1,7 @@
 // The items that a message announces, as words: from where the value of each row of its table stands.
 ghost use Rattle.items.specs.Items.{itemsAt, resetAt};
 ghost use mathlib.Core.List.{_∷_, []};
+ghost use Rattle.places.specs.Places.{spansIn};
 ghost use Rattle.rows.specs.Table.{rowsIn};
 ghost use Rattle.item_words.specs.Taken.{orNone, partOf};
 ghost use Rattle.meaning.specs.Reading.{valueIn, valuesIn};
@@ -55,15 +56,15 @@ fn value_items(kind: Kind, s: &[u8], v: Span, words: &mut [u64]) -> usize
 }
 
 // How many items the values announce; they stand in the front of the words. A value that announces any has one at least.
-pub fn items_in(t: Rows, s: &[u8], spans: [Span; 12], words: &mut [u64]) -> usize
-    ensures { λ r. ⌜ InFront (listsOf (valuesIn (rowsIn t) (now (s .entry)) spans) .items) (now (words .entry)) r (now (words .exit)) ⌝ }
+pub fn items_in(t: Rows, s: &[u8], places: &[usize; 24], words: &mut [u64]) -> usize
+    ensures { λ r. ⌜ InFront (listsOf (valuesIn (rowsIn t) (now (s .entry)) (spansIn (now (places .entry)))) .items) (now (words .entry)) r (now (words .exit)) ⌝ }
 {
     let rows = rows::row_count(t);
     let mut k: usize = 0;
     while k < rows {
         let r = t.rows[k];
         let kind = r.kind;
-        let v = spans[k];
+        let v = places::span_in(places, k);
         let n = value_items(kind, s, v, words);
         if n != 0 {
             return n;

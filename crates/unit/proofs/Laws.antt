@@ -2,14 +2,15 @@
 -- Assumes nothing.
 use Prim.Native.Nat.{ℕ}
 use mathlib.Core.Path.{_≡_, refl, sym, ap, subst, _∙_}
-use mathlib.Core.Bool.{Bool, true, false, true≢false}
-use mathlib.Core.List.{List, _++_}
+use mathlib.Core.Bool.{Bool, true, false, _&&_, true≢false}
+use mathlib.Core.List.{List, _++_, map}
 use native.Mathlib.Omega.{arith}
-use borrow.Author.Tests.{eq-eqb, le-leb}
+use borrow.Author.Tests.{eq-eqb, le-leb, leb-true}
 use lib.Dec.{leb}
-use lib.ListN.{length, drop}
+use lib.ListN.{length, take, drop}
+use lib.Seq.{take-all}
 use Rattle.lists.specs.Lists.{pick, keep}
-use Rattle.lists.proofs.Tests.{on-pick}
+use Rattle.lists.proofs.Tests.{on-pick, and-left, and-right}
 use Rattle.identity.specs.declared.MmeId.{MmeId}
 use Rattle.identity.specs.declared.MceId.{MceId}
 use Rattle.identity.specs.declared.Mme.the-variants as mme
@@ -32,6 +33,9 @@ use Rattle.lent.specs.declared.Looked.the-variants as looked
 use Rattle.lent.specs.Lent.{Lent, Held, NoTable, readTable, lookedUp, firstRows, tableOctets, tableOut, rowOut}
 use Rattle.lent.proofs.OneForm.{one-form}
 use Rattle.put_table.proofs.Writing.{row-starts}
+use Rattle.item_words.specs.Words.{itemOf}
+use Rattle.reset.specs.Slots.{namesNone}
+use Rattle.reset.proofs.Untouched.{without-none}
 use Rattle.requests.specs.declared.MaybeTmgi.the-variants as tmgi
 use Rattle.requests.specs.declared.MaybeReset.the-variants as reset
 use Rattle.requests.specs.declared.Request.{Request}
@@ -199,6 +203,14 @@ module _ (l : State) (t : List ℕ) {t′ : List ℕ} where
 -- the rows by value, and what a reset leaves of them
 pub reset-rows : (l : State) (is : List Item) {t u : Table} → t ≡ tableOf l → u ≡ tableOf (table.without is (held t)) → u ≡ tableOf (table.without is l)
 reset-rows l is e q = q ∙ rw (e, held-of l)
+
+-- where no item names a row, the table that a reset leaves is the one that is there
+pub not-touched : (s : List ℕ) (l : State) (ws : List ℕ) {b : Bool} → readTable s ≡ Held l → b ≡ (leb (length ws) 4 && namesNone (map itemOf ws) l) → b ≡ true →
+    s ≡ tableOctets (table.without (map itemOf (take 256 ws)) l)
+not-touched s l ws q e t =
+    let f = leb-true (length ws) 4 (and-left (leb (length ws) 4) (namesNone (map itemOf ws) l) (sym e ∙ t)) in
+    let n = and-right (leb (length ws) 4) (namesNone (map itemOf ws) l) (sym e ∙ t) in
+    rw (take-all 256 ws (omega arith), without-none (map itemOf ws) l n) (sym (one-form .again s l q))
 
 pub table-size : (s : List ℕ) (l : State) → readTable s ≡ Held l → length s ≡ 3074
 table-size s l q = ap length (sym (one-form .again s l q)) ∙ one-form .size l (one-form .table s l q .few)

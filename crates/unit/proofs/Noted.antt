@@ -26,7 +26,6 @@ use Rattle.envelopes.specs.declared.Head.{Head}
 use Rattle.envelopes.specs.Envelope.{criticalityAt, envelopeAt, onHead, headsAt, scanAt}
 use Rattle.elements.specs.Judge as elements
 use Rattle.elements.specs.Judge.{front, ignored, unknownEntry, unknownOf, missingEntry, missingOf}
-use Rattle.elements.proofs.WalkLaws.{read-rows}
 use Rattle.frames.specs.Frame.{countAt}
 use Rattle.verdicts.specs.Verdict.{Opening, openingBy, openedAt}
 use Rattle.judging.specs.Judging.{notedOf, NotedIn}
@@ -134,14 +133,6 @@ judged t s from {o} q =
 pub none-noted : (es : List Entry) → length es ≡ 0 → es ≡ []
 none-noted [] q = refl
 none-noted (x ∷ es) q = absurd (omega arith)
-
--- there is a place for each row
-pub opened-rows : (t : List Row) (s : List ℕ) (from : ℕ) {o : Opening} → got o ≡ openedAt t s from → length (o .spans) ≡ length t
-unfolding elements.judgedOf
-opened-rows t s from q = let j = judged t s from q in subst (λ (x : Opening). length (x .spans) ≡ length t) (j .is) (rows (j .count) (headsAt s (j .count) (from + 3)))
-  where
-    rows : (n : ℕ) (hs : List Head) → length (elements.judgedOf t n hs .spans) ≡ length t
-    rows n hs = read-rows t (front t 0 hs)
 
 module _ (t : List Row) (s : List ℕ) (from : ℕ) (g : Each NumbersFit t) (o : Octets s) where
   pub noted-fit : Each FitsWord (notedOf (openedAt t s from))

@@ -17,6 +17,7 @@ use Rattle.octets.specs.declared.Gate.the-variants as gate
 use Rattle.octets.specs.declared.Span.{Span}
 use Rattle.octets.specs.Span.{noSpan}
 use Rattle.identity.specs.declared.MceId.{MceId}
+use Rattle.places.specs.Places.{spansIn}
 use Rattle.rows.specs.declared.Row.{Row}
 use Rattle.rows.specs.declared.Rows.{Rows}
 use Rattle.rows.specs.Table.{rowsIn}
@@ -24,7 +25,7 @@ use Rattle.editions.specs.declared.Edition.{Edition}
 use Rattle.editions.specs.declared.Message.{Message}
 use Rattle.editions.specs.declared.Named.the-variants as named
 use Rattle.editions.specs.Editions.{tableOf, rowsOf, namedBy}
-use Rattle.editions.proofs.Tables.{Fits, rows-fit}
+use Rattle.editions.proofs.Tables.{Fits, rows-fit, table-lawful, lawful-count}
 use Rattle.frames.specs.declared.Frame.{Frame}
 use Rattle.frames.specs.Frame.{frameAt}
 use Rattle.meaning.specs.Value.{Given}
@@ -33,7 +34,8 @@ use Rattle.layout.specs.Record.{listsOf}
 use Rattle.verdicts.specs.declared.Refusal.the-variants as refusal
 use Rattle.verdicts.specs.Verdict.{Opening, openedAt, refused, verdictOf, ofThose, readOf}
 use Rattle.judging.specs.declared.Opened.{Opened}
-use Rattle.judging.specs.Judging.{openedBy, notedOf}
+use Rattle.judging.specs.Judging.{openedBy, spansBy, Opens, notedOf}
+use Rattle.judging.proofs.OpenedLaws.{opened-rows, spans-back}
 use Rattle.entries.specs.declared.Entry.{Entry}
 use Rattle.verdicts.specs.declared.Outcome.{Outcome}
 use Rattle.requests.specs.declared.Request.{Request}
@@ -42,7 +44,6 @@ use Rattle.table.specs.Table.{State, standing}
 use Rattle.carry.specs.Carry.{asked, decision}
 use Rattle.calls.specs.Decided.{applied, decided}
 use Rattle.unit.specs.Unit.{NumbersFit}
-use Rattle.unit.proofs.Noted.{opened-rows}
 
 -- ---- the steps of reading
 
@@ -127,12 +128,15 @@ decided-so e m f s c l y {x} {vs} {es} {w} {u} a b g h k =
     z : u ≡ requestOf m (seen (valuesIn (tableOf e m) s (y .spans)))
     z = k ∙ ap (λ (v : List (Given Span)). requestOf m (seen v)) b
 
-module _ (e : Edition) (m : Message) (f : Frame) (s : List ℕ) {t : Rows} {o : Opened} (rows : t ≡ rowsOf e m) (q : o ≡ openedBy (openedAt (rowsIn t) s (f .from))) where
+module _ (e : Edition) (m : Message) (f : Frame) (s : List ℕ) {t : Rows} {o : Opened} {ps : List ℕ} (rows : t ≡ rowsOf e m) (q : Opens (openedAt (rowsIn t) s (f .from)) o ps) where
+  opens-so : Opens (openedAt (tableOf e m) s (f .from)) o ps
+  opens-so = subst (λ (x : List Row). Opens (openedAt x s (f .from)) o ps) (rows-of e m rows) q
+
   opened-so : o ≡ openedBy (openedAt (tableOf e m) s (f .from))
-  opened-so = q ∙ ap (λ (x : List Row). openedBy (openedAt x s (f .from))) (rows-of e m rows)
+  opened-so = opens-so .result
 
   pub noted-count : o .gate ≡ gate.Pass → o .noted ≡ length (notedOf (openedAt (rowsIn t) s (f .from)))
-  noted-count p = let y = passed (openedAt (rowsIn t) s (f .from)) q p in rw (q, y .1)
+  noted-count p = let y = passed (openedAt (rowsIn t) s (f .from)) (q .result) p in rw (q .result, y .1)
 
   pub verdict-stops : {x : Stop} → o .gate ≡ gate.Stop x → verdictOf (tableOf e m) m f s (openedAt (tableOf e m) s (f .from)) ≡ refused (refusal.Stopped x)
   verdict-stops p = ap (verdictOf (tableOf e m) m f s) (stopped-at (openedAt (tableOf e m) s (f .from)) opened-so p)
@@ -145,14 +149,14 @@ module _ (e : Edition) (m : Message) (f : Frame) (s : List ℕ) {t : Rows} {o : 
     unfolding opening
     opening-is = passed (openedAt (tableOf e m) s (f .from)) opened-so p .1
 
-    values-by : valuesIn (rowsIn t) s (o .spans) ≡ valuesIn (tableOf e m) s (opening .spans)
+    values-by : valuesIn (rowsIn t) s (spansIn ps) ≡ valuesIn (tableOf e m) s (opening .spans)
     values-by =
-        let a : o .spans ≡ opening .spans ++ replicate (12 - length (opening .spans)) noSpan = ap (λ (z : Opened). z .spans) (opened-so ∙ ap openedBy opening-is) in
-        ap (λ (x : List Row). valuesIn x s (o .spans)) (rows-of e m rows)
+        let a : spansIn ps ≡ opening .spans ++ replicate (12 - length (opening .spans)) noSpan = spans-back (tableOf e m) s (f .from) (lawful-count (tableOf e m) (table-lawful e m)) (opens-so .places) ∙ ap spansBy opening-is in
+        ap (λ (x : List Row). valuesIn x s (spansIn ps)) (rows-of e m rows)
         ∙ (ap (λ (x : List Span). valuesIn (tableOf e m) s x) a ∙ values-front (tableOf e m) s (opening .spans) _ (opened-rows (tableOf e m) s (f .from) (sym opening-is)))
 
-    pub decided-by : {u : Request} → u ≡ requestOf m (seen (valuesIn (rowsIn t) s (o .spans))) → (c : MceId) (l : State)
-        → applied e l f (listsOf (valuesIn (rowsIn t) s (o .spans)) .items) (notedOf (openedAt (rowsIn t) s (f .from))) (decision (standing (asked c u) l) c u (o .outcome))
+    pub decided-by : {u : Request} → u ≡ requestOf m (seen (valuesIn (rowsIn t) s (spansIn ps))) → (c : MceId) (l : State)
+        → applied e l f (listsOf (valuesIn (rowsIn t) s (spansIn ps)) .items) (notedOf (openedAt (rowsIn t) s (f .from))) (decision (standing (asked c u) l) c u (o .outcome))
         ≡ decided e l c (verdictOf (tableOf e m) m f s (openedAt (tableOf e m) s (f .from)))
     decided-by a c l =
         let w : o .outcome ≡ opening .outcome = ap (λ (z : Opened). z .outcome) (opened-so ∙ ap openedBy opening-is) in

@@ -6,6 +6,7 @@ ghost use Rattle.octets.specs.Many.{Each};
 ghost use Rattle.item_words.specs.Words.{itemOf};
 ghost use Rattle.entry_words.specs.EntryWords.{entryBy};
 ghost use Rattle.lent.specs.Lent.{readTable, firstRows};
+ghost use Rattle.places.specs.Places.{spansIn};
 ghost use Rattle.rows.specs.Table.{rowsIn};
 ghost use Rattle.editions.specs.Editions.{tableOf};
 ghost use Rattle.meaning.specs.Reading.{valuesIn};
@@ -33,7 +34,6 @@ use identity::Mme;
 use judging::Opened;
 use lent::Looked;
 use octets::Gate;
-use octets::Span;
 use put_reply::Sent;
 use requests::Request;
 use rows::Rows;
@@ -88,6 +88,9 @@ fn finish(change: Change, n: usize, kept: &[u64], table: &mut [u8], octets: usiz
             hand_back(Answer::CarriedOut, octets)
         }
         Change::Resets => {
+            if reset::names_none(table, n, kept) {
+                return hand_back(Answer::CarriedOut, octets);
+            }
             let t = lent::rows_in(table, n);
             put_table::table_out(reset::reset(t, kept), table);
             hand_back(Answer::CarriedOut, octets)
@@ -137,19 +140,19 @@ fn settle_items(
     d: Decision,
     n: usize,
     message: &[u8],
-    spans: [Span; 12],
+    places: &[usize; 24],
     noted: &[u64],
     table: &mut [u8],
     room: &mut [u8],
 ) -> Back
     requires { ⌜ HasRows n (now table) ⌝ }
     requires { ⌜ listsItems (d .reply) ≡ resets (d .change) ⌝ }
-    ensures { λ r. ⌜ Called (settled e (now (table .entry)) (now (room .entry)) (applied e (firstRows n (now (table .entry))) f (listsOf (valuesIn (rowsIn t) (now (message .entry)) spans) .items) (map entryBy (now (noted .entry))) d)) r (now (table .exit)) (now (room .exit)) ⌝ }
+    ensures { λ r. ⌜ Called (settled e (now (table .entry)) (now (room .entry)) (applied e (firstRows n (now (table .entry))) f (listsOf (valuesIn (rowsIn t) (now (message .entry)) (spansIn (now (places .entry)))) .items) (map entryBy (now (noted .entry))) d)) r (now (table .exit)) (now (room .exit)) ⌝ }
 {
     let change = d.change;
     if is_reset(change) {
         let mut words: [u64; 256] = [0; 256];
-        let all = reset_items::items_in(t, message, spans, &mut words);
+        let all = reset_items::items_in(t, message, places, &mut words);
         let kept = item_words::keep_identified(&mut words, all);
         return settle(e, f, d, n, &words[..kept], noted, table, room);
     }
@@ -164,21 +167,21 @@ fn settle_noted(
     d: Decision,
     n: usize,
     message: &[u8],
-    o: Opened,
+    noted: usize,
+    places: &[usize; 24],
     table: &mut [u8],
     room: &mut [u8],
 ) -> Back
-    requires { ⌜ HasRows n (now table) × (listsItems (d .reply) ≡ resets (d .change)) × Each NumbersFit (rowsIn t) × (o .noted ≡ length (notedOf (openedAt (rowsIn t) (now message) (f .from)))) ⌝ }
-    ensures { λ r. ⌜ Called (settled e (now (table .entry)) (now (room .entry)) (applied e (firstRows n (now (table .entry))) f (listsOf (valuesIn (rowsIn t) (now (message .entry)) (o .spans)) .items) (notedOf (openedAt (rowsIn t) (now (message .entry)) (f .from))) d)) r (now (table .exit)) (now (room .exit)) ⌝ }
+    requires { ⌜ HasRows n (now table) × (listsItems (d .reply) ≡ resets (d .change)) × Each NumbersFit (rowsIn t) × (noted ≡ length (notedOf (openedAt (rowsIn t) (now message) (f .from)))) ⌝ }
+    ensures { λ r. ⌜ Called (settled e (now (table .entry)) (now (room .entry)) (applied e (firstRows n (now (table .entry))) f (listsOf (valuesIn (rowsIn t) (now (message .entry)) (spansIn (now (places .entry)))) .items) (notedOf (openedAt (rowsIn t) (now (message .entry)) (f .from))) d)) r (now (table .exit)) (now (room .exit)) ⌝ }
 {
-    let spans = o.spans;
-    if o.noted == 0 {
+    if noted == 0 {
         let none: [u64; 1] = [0; 1];
-        return settle_items(e, t, f, d, n, message, spans, &none[..0], table, room);
+        return settle_items(e, t, f, d, n, message, places, &none[..0], table, room);
     }
     let mut words: [u64; 256] = [0; 256];
-    let noted = judging::noted_into(t, message, f.from, &mut words);
-    settle_items(e, t, f, d, n, message, spans, &words[..noted], table, room)
+    let all = judging::noted_into(t, message, f.from, &mut words);
+    settle_items(e, t, f, d, n, message, places, &words[..all], table, room)
 }
 
 // By what is held of the identities that the request q asks about.
@@ -191,10 +194,11 @@ fn carried_out(
     message: &[u8],
     offered: MceId,
     o: Opened,
+    places: &[usize; 24],
     room: &mut [u8],
 ) -> Back
     requires { ⌜ Each NumbersFit (rowsIn t) × (o .noted ≡ length (notedOf (openedAt (rowsIn t) (now message) (f .from)))) ⌝ }
-    ensures { λ r. ⌜ Called (carriedOn e (now (table .entry)) (now (room .entry)) (λ l. applied e l f (listsOf (valuesIn (rowsIn t) (now (message .entry)) (o .spans)) .items) (notedOf (openedAt (rowsIn t) (now (message .entry)) (f .from))) (decision (standing (asked offered q) l) offered q (o .outcome))) (readTable (now (table .entry)))) r (now (table .exit)) (now (room .exit)) ⌝ }
+    ensures { λ r. ⌜ Called (carriedOn e (now (table .entry)) (now (room .entry)) (λ l. applied e l f (listsOf (valuesIn (rowsIn t) (now (message .entry)) (spansIn (now (places .entry)))) .items) (notedOf (openedAt (rowsIn t) (now (message .entry)) (f .from))) (decision (standing (asked offered q) l) offered q (o .outcome))) (readTable (now (table .entry)))) r (now (table .exit)) (now (room .exit)) ⌝ }
 {
     let outcome = o.outcome;
     match lent::look_up(table, carry::asked(offered, q)) {
@@ -206,7 +210,8 @@ fn carried_out(
             carry::decide(k, offered, q, outcome),
             n,
             message,
-            o,
+            o.noted,
+            places,
             table,
             room,
         ),
@@ -226,13 +231,13 @@ fn asked(
     ensures { λ r. ⌜ Called (settledOn e (now (table .entry)) (record { message = now (message .entry); offered = offered; room = now (room .entry) }) (verdictOf (tableOf e m) m f (now (message .entry)) (openedAt (tableOf e m) (now (message .entry)) (f .from))) (readTable (now (table .entry)))) r (now (table .exit)) (now (room .exit)) ⌝ }
 {
     let t = editions::rows_of(e, m);
-    let o = judging::opened_at(t, message, f.from);
+    let mut places: [usize; 24] = [0; 24];
+    let o = judging::opened_at(t, message, f.from, &mut places);
     let gate = o.gate;
-    let spans = o.spans;
     match gate {
         Gate::Pass => {
-            let q = requests::request_of(m, requests::seen_in(t, message, spans));
-            carried_out(e, t, f, q, table, message, offered, o, room)
+            let q = requests::request_of(m, requests::seen_in(t, message, &places));
+            carried_out(e, t, f, q, table, message, offered, o, &places, room)
         }
         Gate::Stop(x) => bare(table, Answer::Stopped(x)),
     }

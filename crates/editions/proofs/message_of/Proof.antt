@@ -1,42 +1,70 @@
--- `editions::message_of` meets its contract. By the kind, what was called says it. Assumes nothing.
-use borrow.Author.Needs.{needs}
-use borrow.Author.Tests.{ne-eqb}
+-- `editions::message_of` meets its contract. Invariant: what is left to search gives what all messages give. Assumes nothing.
+use Prim.Native.Nat.{_-_}
+use mathlib.Core.Path.{_≡_, refl, sym, _∙_}
 use native.Mathlib.Omega.{arith}
-use Rattle.editions.specs.Editions.{release18, firstOf, namedBy}
-use Rattle.editions.proofs.Only.{only}
+use borrow.Author.Needs.{needs}
+use lib.ListN.{getD}
+use Rattle.editions.specs.declared.Message.the-variants.{StartRequest}
+use Rattle.editions.specs.Editions.{messagesOf, namedBy}
+use Rattle.editions.proofs.Search.{framed, Left, left-found, left-more, left-none}
 use Rattle.editions.proofs.message_of.Statement.{statement}
 use Rattle.editions.proofs.message_of.Tie as tie
 
-initiating-requires : tie.Need-initiating-requires
-initiating-requires c κs = search needs
+abbrev Inv-loop : tie.InvT-loop
+Inv-loop e kind code n i₀ i = Left (framed e kind code) (messagesOf e) i
 
-successful-requires : tie.Need-successful-requires
-successful-requires c κs = search needs
+abbrev μ-loop : tie.MeasureT-loop
+μ-loop e kind code n i₀ i = n - i
 
-unsuccessful-requires : tie.Need-unsuccessful-requires
-unsuccessful-requires c κs = search needs
+message-count-requires : tie.Need-message-count-requires Inv-loop μ-loop
+message-count-requires c κs = search needs
 
-returns : tie.Need-returns
-returns c = rw (← only (c .before .before .args .e), c .before .match .keys1) (c .initiating .ensures)
+loop-holds : tie.Need-loop-holds Inv-loop μ-loop
+loop-holds c = refl
 
-returns-2 : tie.Need-returns-2
-returns-2 c = rw (← only (c .before .before .args .e), c .before .match .keys2) (c .successful .ensures)
+message-at-requires : tie.Need-message-at-requires Inv-loop μ-loop
+message-at-requires c κs = omega arith
 
-returns-3 : tie.Need-returns-3
-returns-3 c = rw (← only (c .before .before .args .e), c .before .match .keys3) (c .unsuccessful .ensures)
+head-of-requires : tie.Need-head-of-requires Inv-loop μ-loop
+head-of-requires c κs = search needs
 
-returns-4 : tie.Need-returns-4
-unfolding namedBy firstOf release18
-returns-4 c = let x = c .before .args .kind in rw (← only (c .before .args .e), ne-eqb x 0 (λ q. omega arith), ne-eqb x 1 (λ q. omega arith), ne-eqb x 2 (λ q. omega arith))
+is-of-requires : tie.Need-is-of-requires Inv-loop μ-loop
+is-of-requires c κs = search needs
+
+-- the test of the definition at the message that was looked at
+tested : (c : tie.After-is-of Inv-loop μ-loop) → framed (c .before .before .before .before .before .before .args .e) (c .before .before .before .before .before .before .args .kind) (c .before .before .before .before .before .before .args .code) (getD (messagesOf (c .before .before .before .before .before .before .args .e)) (c .before .before .before .before .loop .i) StartRequest) ≡ c .is-of .result
+tested c = let h = c .before .head-of .ensures in rw (← c .before .before .message-at .ensures, ← h .kind, ← h .code) (sym (c .is-of .ensures))
+
+returns : tie.Need-returns Inv-loop μ-loop
+unfolding namedBy
+returns c = rw (c .before .before .before .message-at .ensures) (left-found _ _ _ (c .before .before .before .before .before .loop .inv) (omega arith) (tested (c .before) ∙ c .if1 .taken))
+
+add-i : tie.Need-add-i Inv-loop μ-loop
+add-i c = omega arith
+
+loop-less : tie.Need-loop-less Inv-loop μ-loop
+loop-less c = omega arith
+
+loop-again : tie.Need-loop-again Inv-loop μ-loop
+loop-again c = left-more _ _ _ (c .before .before .before .before .before .loop .inv) (omega arith) (tested (c .before) ∙ c .if1 .left)
+
+returns-2 : tie.Need-returns-2 Inv-loop μ-loop
+unfolding namedBy
+returns-2 c = left-none _ _ (c .before .loop .i) (c .before .loop .inv) (omega arith)
 
 pub message-of-spec : {M : Type 1} → statement M
 message-of-spec =
     tie.close
     (tie.spec
-    initiating-requires
-    successful-requires
-    unsuccessful-requires
+    Inv-loop
+    μ-loop
+    message-count-requires
+    loop-holds
+    message-at-requires
+    head-of-requires
+    is-of-requires
     returns
-    returns-2
-    returns-3
-    returns-4)
+    add-i
+    loop-less
+    loop-again
+    returns-2)

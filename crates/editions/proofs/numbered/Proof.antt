@@ -1,56 +1,61 @@
--- `editions::numbered` meets its contract. Each return is the case of the definition that the tests on the way single out. Assumes nothing.
-use borrow.Author.Tests.{ne-eqb}
-use Rattle.editions.specs.Editions.{release18, firstOf, numberedBy}
-use Rattle.editions.proofs.Only.{only}
+-- `editions::numbered` meets its contract. Invariant: what is left to search gives what all messages give. Assumes nothing.
+use Prim.Native.Nat.{_-_}
+use mathlib.Core.Path.{_≡_, refl, sym, _∙_}
+use native.Mathlib.Omega.{arith}
+use borrow.Author.Needs.{needs}
+use borrow.Author.Tests.{eq-eqb, ne-eqb}
+use Rattle.editions.specs.Editions.{messagesOf, numberedBy}
+use Rattle.editions.proofs.Search.{counted, Left, left-found, left-more, left-none}
 use Rattle.editions.proofs.numbered.Statement.{statement}
 use Rattle.editions.proofs.numbered.Tie as tie
 
-returns : tie.Need-returns
-unfolding numberedBy firstOf release18
-returns c = rw (← only (c .before .args .e), c .match .keys1)
+abbrev Inv-loop : tie.InvT-loop
+Inv-loop e n count i₀ i = Left (counted e n) (messagesOf e) i
 
-returns-2 : tie.Need-returns-2
-unfolding numberedBy firstOf release18
-returns-2 c = rw (← only (c .before .args .e), c .match .keys2)
+abbrev μ-loop : tie.MeasureT-loop
+μ-loop e n count i₀ i = count - i
 
-returns-3 : tie.Need-returns-3
-unfolding numberedBy firstOf release18
-returns-3 c = rw (← only (c .before .args .e), c .match .keys3)
+message-count-requires : tie.Need-message-count-requires Inv-loop μ-loop
+message-count-requires c κs = search needs
 
-returns-4 : tie.Need-returns-4
-unfolding numberedBy firstOf release18
-returns-4 c = rw (← only (c .before .args .e), c .match .keys4)
+loop-holds : tie.Need-loop-holds Inv-loop μ-loop
+loop-holds c = refl
 
-returns-5 : tie.Need-returns-5
-unfolding numberedBy firstOf release18
-returns-5 c = rw (← only (c .before .args .e), c .match .keys5)
+message-at-requires : tie.Need-message-at-requires Inv-loop μ-loop
+message-at-requires c κs = omega arith
 
-returns-6 : tie.Need-returns-6
-unfolding numberedBy firstOf release18
-returns-6 c = rw (← only (c .before .args .e), c .match .keys6)
+number-of-requires : tie.Need-number-of-requires Inv-loop μ-loop
+number-of-requires c κs = search needs
 
-returns-7 : tie.Need-returns-7
-unfolding numberedBy firstOf release18
-returns-7 c = rw (← only (c .before .args .e), c .match .keys7)
+returns : tie.Need-returns Inv-loop μ-loop
+unfolding numberedBy
+returns c = rw (c .before .before .message-at .ensures) (left-found _ _ _ (c .before .before .before .before .loop .inv) (omega arith) (rw (← c .before .before .message-at .ensures) (eq-eqb _ _ (c .if1 .taken ∙ c .before .number-of .ensures))))
 
-returns-8 : tie.Need-returns-8
-unfolding numberedBy firstOf release18
-returns-8 c = rw (← only (c .before .args .e), c .match .keys8)
+add-i : tie.Need-add-i Inv-loop μ-loop
+add-i c = omega arith
 
-returns-9 : tie.Need-returns-9
-unfolding numberedBy firstOf release18
-returns-9 c = let n = c .before .args .n in let r = c .match .rest in rw (← only (c .before .args .e), ne-eqb n 1 (r .0 .0 .0 .0 .0 .0 .0 .1), ne-eqb n 2 (r .0 .0 .0 .0 .0 .0 .1), ne-eqb n 3 (r .0 .0 .0 .0 .0 .1), ne-eqb n 4 (r .0 .0 .0 .0 .1), ne-eqb n 5 (r .0 .0 .0 .1), ne-eqb n 6 (r .0 .0 .1), ne-eqb n 7 (r .0 .1), ne-eqb n 8 (r .1))
+loop-less : tie.Need-loop-less Inv-loop μ-loop
+loop-less c = omega arith
+
+loop-again : tie.Need-loop-again Inv-loop μ-loop
+loop-again c = left-more _ _ (c .before .before .before .before .loop .i) (c .before .before .before .before .loop .inv) (omega arith) (rw (← c .before .before .message-at .ensures) (ne-eqb _ _ (λ q. c .if1 .left (q ∙ sym (c .before .number-of .ensures)))))
+
+returns-2 : tie.Need-returns-2 Inv-loop μ-loop
+unfolding numberedBy
+returns-2 c = left-none _ _ (c .before .loop .i) (c .before .loop .inv) (omega arith)
 
 pub numbered-spec : {M : Type 1} → statement M
 numbered-spec =
     tie.close
     (tie.spec
+    Inv-loop
+    μ-loop
+    message-count-requires
+    loop-holds
+    message-at-requires
+    number-of-requires
     returns
-    returns-2
-    returns-3
-    returns-4
-    returns-5
-    returns-6
-    returns-7
-    returns-8
-    returns-9)
+    add-i
+    loop-less
+    loop-again
+    returns-2)

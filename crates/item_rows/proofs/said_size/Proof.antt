@@ -1,12 +1,14 @@
 -- `item_rows::said_size` meets its contract: the invariant is the octets of the rows passed, at most nine of each. Assumes nothing.
-use mathlib.Core.Path.{refl}
-use Prim.Native.Nat.{_+_, _*_, _-_, _≤_}
-use native.Mathlib.Omega.{arith}
 use borrow.Author.Needs.{needs}
-use Rattle.layout.specs.Record.{listsIn}
+use Rattle.item_rows.proofs.Said.{said-small, row-item, sized-row, sized-said}
 use Rattle.put_values.proofs.Put.{Sized}
-use Rattle.item_words.proofs.Written.{word-small}
-use Rattle.item_rows.proofs.Said.{said-small, row-word, sized-row, sized-said}
+use Rattle.layout.specs.Record.{listsIn}
+use Rattle.items.specs.Written.{itemElementOctets}
+use Rattle.identity.specs.declared.Item.{Item}
+use lib.ListN.{length}
+use native.Mathlib.Omega.{arith}
+use Prim.Native.Nat.{_+_, _*_, _-_, _≤_}
+use mathlib.Core.Path.{_∙_, refl, sym, ap}
 use Rattle.item_rows.proofs.said_size.Statement.{statement}
 use Rattle.item_rows.proofs.said_size.Tie as tie
 
@@ -22,20 +24,17 @@ said-items-requires c κs = search needs
 loop-holds : tie.Need-loop-holds Inv-loop μ-loop
 loop-holds c = (omega arith, omega arith, λ crit. refl)
 
-mul-word-in : tie.Need-mul-word-in Inv-loop μ-loop
-mul-word-in c = let h = said-small (c .before .before .before .before .args .s .now) in let e = c .before .before .said-items .ensures in omega arith
+mul-row-size : tie.Need-mul-row-size Inv-loop μ-loop
+mul-row-size c = let h = said-small (c .before .before .before .before .args .s .now) in let e = c .before .before .said-items .ensures in omega arith
 
-add-word-in : tie.Need-add-word-in Inv-loop μ-loop
-add-word-in c = let h = said-small (c .before .before .before .before .args .s .now) in let e = c .before .before .said-items .ensures in omega arith
+add-row-size : tie.Need-add-row-size Inv-loop μ-loop
+add-row-size c = let h = said-small (c .before .before .before .before .args .s .now) in let e = c .before .before .said-items .ensures in omega arith
 
-word-in-requires : tie.Need-word-in-requires Inv-loop μ-loop
-word-in-requires c κs = let h = said-small (c .before .before .before .before .args .s .now) in let e = c .before .before .said-items .ensures in omega arith
-
-word-size-requires : tie.Need-word-size-requires Inv-loop μ-loop
-word-size-requires c κs = search needs
+row-size-requires : tie.Need-row-size-requires Inv-loop μ-loop
+row-size-requires c κs = let h = said-small (c .before .before .before .before .args .s .now) in let e = c .before .before .said-items .ensures in omega arith
 
 add-size : tie.Need-add-size Inv-loop μ-loop
-add-size c = let h = said-small (c .before .before .before .before .before .before .args .s .now) in let e = c .before .before .before .before .said-items .ensures in omega (arith, word-small (c .before .word-in .result) (c .word-size .ensures))
+add-size c = let h = said-small (c .before .before .before .before .before .args .s .now) in let e = c .before .before .before .said-items .ensures in let k = c .row-size .ensures .1 in omega arith
 
 add-i : tie.Need-add-i Inv-loop μ-loop
 add-i c = search needs
@@ -44,10 +43,10 @@ loop-less : tie.Need-loop-less Inv-loop μ-loop
 loop-less c = search needs
 
 loop-again : tie.Need-loop-again Inv-loop μ-loop
-loop-again c = let e = c .before .before .before .before .said-items .ensures in (
+loop-again c = let e = c .before .before .before .said-items .ensures in let k = c .row-size .ensures .1 in (
   omega arith,
-  omega (arith, word-small (c .before .word-in .result) (c .word-size .ensures)),
-  sized-row (listsIn (c .before .before .before .before .before .before .args .s .now) .items) (c .before .before .before .loop .i) (c .before .word-in .result) (omega arith) (c .before .before .before .loop .inv .2) (row-word (c .before .before .before .before .before .before .args .s .now) (c .before .before .before .loop .i) (λ i. omega (arith, c .before .before .before .before .before .shared-slice-known .given i)) (omega arith) (c .before .word-in .ensures)) (c .word-size .ensures),
+  omega arith,
+  sized-row (listsIn (c .before .before .before .before .before .args .s .now) .items) (c .before .before .loop .i) (omega arith) (c .before .before .loop .inv .2) (λ crit. c .row-size .ensures .0 crit ∙ ap (λ (i : Item). length (itemElementOctets crit i)) (sym (row-item (c .before .before .before .before .before .args .s .now) (c .before .before .loop .i) (omega arith)))),
 )
 
 returns : tie.Need-returns Inv-loop μ-loop
@@ -61,10 +60,9 @@ said-size-spec =
     μ-loop
     said-items-requires
     loop-holds
-    mul-word-in
-    add-word-in
-    word-in-requires
-    word-size-requires
+    mul-row-size
+    add-row-size
+    row-size-requires
     add-size
     add-i
     loop-less

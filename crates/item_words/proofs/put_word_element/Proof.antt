@@ -1,81 +1,60 @@
--- `item_words::put_word_element` meets its contract: the runs of octets that are put are those of the item, whichever identities it has. Assumes nothing.
+-- `item_words::put_word_element` meets its contract: an item with both identities is put at once, any other octet by octet. Assumes nothing.
+use Rattle.item_words.proofs.Written.{full-octets, if-nine}
 use Rattle.put_values.specs.Put.{critOf}
-use Rattle.octets.proofs.Writing.{wrote-then}
-use Rattle.item_words.proofs.Written.{word-octets}
+use native.Mathlib.Omega.{arith}
 use borrow.Author.Needs.{needs}
 use Rattle.item_words.proofs.put_word_element.Statement.{statement}
 use Rattle.item_words.proofs.put_word_element.Tie as tie
 
-there-requires : tie.Need-there-requires
-there-requires c κs = search needs
+is-nine-requires : tie.Need-is-nine-requires
+is-nine-requires c κs = search needs
 
-there-requires-2 : tie.Need-there-requires-2
-there-requires-2 c κs = search needs
+sub-mme : tie.Need-sub-mme
+sub-mme c = let h = (if-nine (c .before .is-nine .result) _ _ _ _ (c .if1 .taken) (c .before .is-nine .ensures)) .0 in omega arith
+
+cast-mme : tie.Need-cast-mme
+cast-mme c = search needs
+
+sub-mce : tie.Need-sub-mce
+sub-mce c = let h = (if-nine (c .before .is-nine .result) _ _ _ _ (c .if1 .taken) (c .before .is-nine .ensures)) .1 in omega arith
+
+cast-mce : tie.Need-cast-mce
+cast-mce c = search needs
 
 crit-octet-requires : tie.Need-crit-octet-requires
 crit-octet-requires c κs = search needs
 
-put-three-requires : tie.Need-put-three-requires
-put-three-requires c κs = search needs
-
-mul-put-octet : tie.Need-mul-put-octet
-mul-put-octet c = search needs
-
-add-put-octet : tie.Need-add-put-octet
-add-put-octet c = search needs
-
-mul-put-octet-2 : tie.Need-mul-put-octet-2
-mul-put-octet-2 c = search needs
-
-add-put-octet-2 : tie.Need-add-put-octet-2
-add-put-octet-2 c = search needs
-
-put-octet-requires : tie.Need-put-octet-requires
-put-octet-requires c κs = search needs
-
-mul-put-octet-3 : tie.Need-mul-put-octet-3
-mul-put-octet-3 c = search needs
-
-mul-put-octet-4 : tie.Need-mul-put-octet-4
-mul-put-octet-4 c = search needs
-
-add-put-octet-3 : tie.Need-add-put-octet-3
-add-put-octet-3 c = search needs
-
-put-octet-requires-2 : tie.Need-put-octet-requires-2
-put-octet-requires-2 c κs = search needs
-
-put-half-requires : tie.Need-put-half-requires
-put-half-requires c κs = search needs
-
-put-half-requires-2 : tie.Need-put-half-requires-2
-put-half-requires-2 c κs = search needs
+put-full-requires : tie.Need-put-full-requires
+put-full-requires c κs = (if-nine (c .before .before .before .is-nine .result) _ _ _ _ (c .before .before .if1 .taken) (c .before .before .before .is-nine .ensures)) .2
 
 same-length : tie.Need-same-length
 same-length c = search needs
 
 returns : tie.Need-returns
-returns c = rw (← word-octets (critOf (c .before .before .before .before .before .before .before .before .before .before .before .before .before .before .before .before .before .before .before .before .before .before .before .before .args .crit)) (c .before .before .before .before .before .before .before .before .before .before .before .before .before .before .before .before .before .before .before .before .before .before .before .before .args .w) (c .before .before .before .before .before .before .before .before .before .before .before .before .before .before .before .before .before .before .before .before .before .before .there .ensures .0) (c .before .before .before .before .before .before .before .before .before .before .before .before .before .before .before .before .before .before .before .before .before .there2 .ensures .0) (c .before .before .before .before .before .before .before .before .before .before .before .before .before .before .before .before .before .before .before .crit-octet .ensures))
-    (wrote-then (wrote-then (wrote-then (wrote-then (c .before .before .before .before .before .before .before .before .before .before .before .before .before .before .before .before .before .before .put-three .ensures) (c .before .before .before .before .before .before .before .before .before .before .before .before .before .before .put-octet .ensures)) (c .before .before .before .before .before .before .before .before .before .before .put-octet2 .ensures)) (c .before .before .before .before .before .before .put-half .ensures)) (c .before .before .put-half2 .ensures))
+returns c = let h = (if-nine (c .before .before .before .before .before .before .is-nine .result) _ _ _ _ (c .before .before .before .before .before .if1 .taken) (c .before .before .before .before .before .before .is-nine .ensures)) in rw (← full-octets (critOf (c .before .before .before .before .before .before .before .before .args .crit)) (c .before .before .before .before .before .before .before .before .args .w) (h .0) (h .1) (c .before .before .before .crit-octet .ensures)) (c .before .before .put-full .ensures)
+
+put-by-octets-requires : tie.Need-put-by-octets-requires
+put-by-octets-requires c κs = search needs
+
+same-length-2 : tie.Need-same-length-2
+same-length-2 c = search needs
+
+returns-2 : tie.Need-returns-2
+returns-2 c = search needs
 
 pub put-word-element-spec : {M : Type 1} → statement M
 put-word-element-spec =
     tie.close
     (tie.spec
-    there-requires
-    there-requires-2
+    is-nine-requires
+    sub-mme
+    cast-mme
+    sub-mce
+    cast-mce
     crit-octet-requires
-    put-three-requires
-    mul-put-octet
-    add-put-octet
-    mul-put-octet-2
-    add-put-octet-2
-    put-octet-requires
-    mul-put-octet-3
-    mul-put-octet-4
-    add-put-octet-3
-    put-octet-requires-2
-    put-half-requires
-    put-half-requires-2
+    put-full-requires
     same-length
-    returns)
+    returns
+    put-by-octets-requires
+    same-length-2
+    returns-2)

@@ -1,25 +1,26 @@
 -- `judging::note_missing` meets its contract. The loop's invariant: the rows passed that have no value are noted behind what was. Assumes nothing.
 use borrow.Author.Needs.{needs}
 use borrow.Author.Tests.{not-true, not-false}
-use mathlib.Core.Path.{_≡_}
 use Prim.Native.Nat.{_<_, _-_}
 use native.Mathlib.Omega.{arith}
+use denote.Ref.{now}
 use lib.ListN.{length}
-use Rattle.lists.proofs.Slices.{length-of}
+use Rattle.places.specs.Places.{spansIn}
+use Rattle.places.proofs.Laws.{pairs-length}
 use Rattle.rows.specs.Table.{rowsIn}
 use Rattle.judging.proofs.NotedLaws.{Without, without-none, without-present, without-optional, without-more, without-all}
 use Rattle.judging.proofs.note_missing.Statement.{statement}
 use Rattle.judging.proofs.note_missing.Tie as tie
 
 abbrev Inv-loop : tie.InvT-loop
-Inv-loop seen words₀ t spans rows count₀ k₀ words count k = Without t spans words₀ seen k words count
+Inv-loop places seen words₀ t rows count₀ k₀ words count k = Without t (spansIn places) words₀ seen k words count
 
 abbrev μ-loop : tie.MeasureT-loop
-μ-loop seen words₀ t spans rows count₀ k₀ words count k = length (rowsIn t) - k
+μ-loop places seen words₀ t rows count₀ k₀ words count k = length (rowsIn t) - k
 
 -- the row that is looked at is one of the table's, and has its span
-inside : (c : tie.In-loop Inv-loop μ-loop) → (c .before .loop .k < length (rowsIn (c .before .before .before .before .args .t1))) × (c .before .loop .k < length (c .before .before .before .before .args .t2))
-inside c = let z : length (c .before .before .before .before .args .t2) ≡ 12 = search (needs, length-of) in (omega arith, omega arith)
+inside : (c : tie.In-loop Inv-loop μ-loop) → (c .before .loop .k < length (rowsIn (c .before .before .before .before .args .t1))) × (c .before .loop .k < length (spansIn (now (c .before .before .before .before .args .places))))
+inside c = (omega arith, omega (arith, pairs-length 12 (now (c .before .before .before .before .args .places))))
 
 row-count-requires : tie.Need-row-count-requires Inv-loop μ-loop
 row-count-requires c κs = search needs
@@ -33,11 +34,8 @@ mul-r c = search needs
 element-copy-out-r : tie.Need-element-copy-out-r Inv-loop μ-loop
 element-copy-out-r c = search needs
 
-mul-v : tie.Need-mul-v Inv-loop μ-loop
-mul-v c = search needs
-
-array-copy-out-v : tie.Need-array-copy-out-v Inv-loop μ-loop
-array-copy-out-v c = search needs
+span-in-requires : tie.Need-span-in-requires Inv-loop μ-loop
+span-in-requires c κs = search needs
 
 add-k : tie.Need-add-k Inv-loop μ-loop
 add-k c = search needs
@@ -46,13 +44,13 @@ loop-less : tie.Need-loop-less Inv-loop μ-loop
 loop-less c = search needs
 
 loop-again : tie.Need-loop-again Inv-loop μ-loop
-loop-again c = let g = inside (c .before .before .before .before) in without-present (c .before .before .before .before .before .loop .inv) (g .0) (g .1) (c .if1 .taken)
+loop-again c = let g = inside (c .before .before .before .before) in without-present (c .before .before .before .before .before .loop .inv) (g .0) (g .1) (rw (c .before .before .span-in .ensures) at (c .if1 .taken))
 
 loop-less-2 : tie.Need-loop-less-2 Inv-loop μ-loop
 loop-less-2 c = search needs
 
 loop-again-2 : tie.Need-loop-again-2 Inv-loop μ-loop
-loop-again-2 c = let g = inside (c .before .before .before .before .before .before) in without-optional (c .before .before .before .before .before .before .before .loop .inv) (g .0) (g .1) (c .before .before .if1 .left) (not-true _ (c .if2 .taken))
+loop-again-2 c = let g = inside (c .before .before .before .before .before .before) in without-optional (c .before .before .before .before .before .before .before .loop .inv) (g .0) (g .1) (rw (c .before .before .before .before .span-in .ensures) at (c .before .before .if1 .left)) (not-true _ (c .if2 .taken))
 
 note-requires : tie.Need-note-requires Inv-loop μ-loop
 note-requires c κs = search needs
@@ -61,7 +59,7 @@ loop-less-3 : tie.Need-loop-less-3 Inv-loop μ-loop
 loop-less-3 c = search needs
 
 loop-again-3 : tie.Need-loop-again-3 Inv-loop μ-loop
-loop-again-3 c = let g = inside (c .before .before .before .before .before .before .before .before .before .before) in without-more (c .before .before .before .before .before .before .before .before .before .before .before .loop .inv) (g .0) (g .1) (c .before .before .before .before .before .before .if1 .left) (not-false _ (c .before .before .before .before .if2 .left)) (c .before .before .note .ensures)
+loop-again-3 c = let g = inside (c .before .before .before .before .before .before .before .before .before .before) in without-more (c .before .before .before .before .before .before .before .before .before .before .before .loop .inv) (g .0) (g .1) (rw (c .before .before .before .before .before .before .before .before .span-in .ensures) at (c .before .before .before .before .before .before .if1 .left)) (not-false _ (c .before .before .before .before .if2 .left)) (c .before .before .note .ensures)
 
 same-length : tie.Need-same-length Inv-loop μ-loop
 same-length c = c .before .loop .inv .size
@@ -79,8 +77,7 @@ note-missing-spec =
     loop-holds
     mul-r
     element-copy-out-r
-    mul-v
-    array-copy-out-v
+    span-in-requires
     add-k
     loop-less
     loop-again

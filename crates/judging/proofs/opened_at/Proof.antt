@@ -1,14 +1,12 @@
 -- `judging::opened_at` meets its contract. The count is read, and then the elements behind it. Assumes nothing.
-use borrow.Author.Needs.{needs}
-use mathlib.Core.Path.{_∙_, ap}
-use native.Mathlib.Omega.{arith}
 use mathlib.Core.Path.{refl}
+use native.Mathlib.Omega.{arith}
 use denote.Ref.{now}
 use Rattle.octets.specs.Found.{foundTwo}
 use Rattle.octets.proofs.Chain.{past, halt, told}
 use Rattle.verdicts.specs.Verdict.{openedAt}
-use Rattle.judging.specs.Judging.{openedBy}
-use Rattle.judging.proofs.OpenedLaws.{count-in}
+use Rattle.judging.proofs.OpenedLaws.{count-in, opens-as}
+use borrow.Author.Needs.{needs}
 use Rattle.judging.proofs.opened_at.Statement.{statement}
 use Rattle.judging.proofs.opened_at.Tie as tie
 
@@ -35,11 +33,11 @@ not-opened-requires c κs = search needs
 
 returns : tie.Need-returns
 unfolding openedAt
-returns c = rw (c .before .wide16 .ensures) at (c .opening-at .ensures) ∙ ap openedBy (past _ _ (told foundTwo (c .before .before .before .v .given .1) (c .before .before .before .before .before .count-at .ensures)) refl)
+returns c = opens-as (past _ _ (told foundTwo (c .before .before .before .before .v .given .1) (c .before .before .before .before .before .before .count-at .ensures)) refl) (rw (c .before .before .wide16 .ensures) at (c .opening-at .ensures))
 
 returns-2 : tie.Need-returns-2
 unfolding openedAt
-returns-2 c = c .not-opened .ensures ∙ ap openedBy (halt _ (told foundTwo (c .before .before .x .given .1) (c .before .before .before .before .count-at .ensures)))
+returns-2 c = opens-as (halt _ (told foundTwo (c .before .before .before .x .given .1) (c .before .before .before .before .before .count-at .ensures))) (c .not-opened .ensures)
 
 pub opened-at-spec : {M : Type 1} → statement M
 opened-at-spec =

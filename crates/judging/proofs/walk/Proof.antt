@@ -1,5 +1,6 @@
 -- `judging::walk` meets its contract. The outer loop's invariant is a Step: the elements done, and what the definitions make of the rest. The inner loop keeps it, with the element that was read, while its id is sought among the rows. Assumes nothing.
 use borrow.Author.Needs.{needs}
+use borrow.Author.Tests.{not-true, not-false}
 use mathlib.Core.Path.{_≡_, sym, refl}
 use Prim.Native.Nat.{_≤_, _<_, _-_}
 use native.Mathlib.Omega.{arith}
@@ -7,7 +8,6 @@ use native.Mathlib.Nat.{zero-add}
 use denote.Ref.{now}
 use lib.ListN.{length}
 use lib.Seq.{length-take-le}
-use Rattle.octets.specs.Found.{foundGate}
 use Rattle.octets.proofs.Chain.{told}
 use Rattle.rows.specs.Table.{rowsIn}
 use Rattle.envelopes.specs.Envelope.{foundEnvelope}
@@ -18,19 +18,19 @@ use Rattle.judging.proofs.walk.Statement.{statement}
 use Rattle.judging.proofs.walk.Tie as tie
 
 abbrev Inv-loop : tie.InvT-loop
-Inv-loop s n from t rows spans₀ tally at₀ row₀ i₀ h id value to k₀ spans at row i k = (k ≤ length (rowsIn t)) × Sought t s n from row i at spans tally h k × (i ≡ i₀)
+Inv-loop s n from places₀ t rows tally at₀ row₀ i₀ h id value to k₀ places at row i k = (k ≤ length (rowsIn t)) × Sought t s n from row i at places tally h k × (i ≡ i₀)
 
 abbrev μ-loop : tie.MeasureT-loop
-μ-loop s n from t rows spans₀ tally at₀ row₀ i₀ h id value to k₀ spans at row i k = length (rowsIn t) - k
+μ-loop s n from places₀ t rows tally at₀ row₀ i₀ h id value to k₀ places at row i k = length (rowsIn t) - k
 
 abbrev Inv-walk : tie.InvT-walk
-Inv-walk s n from t rows spans₀ tally₀ at₀ row₀ i₀ spans tally at row i = Step (rowsIn t) s n from row i at spans tally
+Inv-walk s n from places₀ t rows tally₀ at₀ row₀ i₀ places tally at row i = Step (rowsIn t) s n from row i at places tally
 
 abbrev μ-walk : tie.MeasureT-walk
-μ-walk s n from t rows spans₀ tally₀ at₀ row₀ i₀ spans tally at row i = n - i
+μ-walk s n from places₀ t rows tally₀ at₀ row₀ i₀ places tally at row i = n - i
 
 -- the row that is looked at is one of the table's
-inside : (c : tie.In-loop Inv-loop μ-loop Inv-walk μ-walk) → c .before .loop .k < length (rowsIn (c .before .before .before .before .before .before .before .before .before .before .before .args .t1))
+inside : (c : tie.In-loop Inv-loop μ-loop Inv-walk μ-walk) → c .before .loop .k < length (rowsIn (c .before .before .before .before .before .before .before .before .before .before .before .before .args .t1))
 inside c = omega arith
 
 row-count-requires : tie.Need-row-count-requires Inv-loop μ-loop Inv-walk μ-walk
@@ -38,7 +38,7 @@ row-count-requires c κs = search needs
 
 walk-holds : tie.Need-walk-holds Inv-loop μ-loop Inv-walk μ-walk
 unfolding tallyOf
-walk-holds c = step-start (rowsIn (c .before .before .args .t1)) (omega arith)
+walk-holds c = step-start (rowsIn (c .before .before .before .args .t1)) (omega arith)
 
 envelope-at-requires : tie.Need-envelope-at-requires Inv-loop μ-loop Inv-walk μ-walk
 envelope-at-requires c κs = search needs
@@ -58,35 +58,26 @@ mul-r c = search needs
 element-copy-out-r : tie.Need-element-copy-out-r Inv-loop μ-loop Inv-walk μ-walk
 element-copy-out-r c = search needs
 
-slice-aggregate-value-at : tie.Need-slice-aggregate-value-at Inv-loop μ-loop Inv-walk μ-walk
-slice-aggregate-value-at c = let s = now (c .before .before .before .before .before .before .before .before .before .before .before .before .before .before .before .before .args .s) in sym (length-take-le _ s (envelope-in s (c .before .before .before .before .before .before .loop .at) (c .before .before .before .before .before .before .loop .inv .1 .read) .2))
+slice-aggregate-is-legible : tie.Need-slice-aggregate-is-legible Inv-loop μ-loop Inv-walk μ-walk
+slice-aggregate-is-legible c = let s = now (c .before .before .before .before .before .before .before .before .before .before .before .before .before .before .before .before .before .args .s) in sym (length-take-le _ s (envelope-in s (c .before .before .before .before .before .before .loop .at) (c .before .before .before .before .before .before .loop .inv .1 .read) .2))
 
-value-at-requires : tie.Need-value-at-requires Inv-loop μ-loop Inv-walk μ-walk
-value-at-requires c κs = search needs
-
-enum-told-2 : tie.Need-enum-told-2 Inv-loop μ-loop Inv-walk μ-walk
-enum-told-2 c = search needs
-
-enum-told-3 : tie.Need-enum-told-3 Inv-loop μ-loop Inv-walk μ-walk
-enum-told-3 c = search needs
+is-legible-requires : tie.Need-is-legible-requires Inv-loop μ-loop Inv-walk μ-walk
+is-legible-requires c κs = search needs
 
 add-row : tie.Need-add-row Inv-loop μ-loop Inv-walk μ-walk
 add-row c = search needs
 
-mul-spans : tie.Need-mul-spans Inv-loop μ-loop Inv-walk μ-walk
-mul-spans c = search needs
-
-array-set-from-spans : tie.Need-array-set-from-spans Inv-loop μ-loop Inv-walk μ-walk
-array-set-from-spans c = search needs
+put-span-requires : tie.Need-put-span-requires Inv-loop μ-loop Inv-walk μ-walk
+put-span-requires c κs = search needs
 
 add-i : tie.Need-add-i Inv-loop μ-loop Inv-walk μ-walk
 add-i c = search needs
 
 walk-less : tie.Need-walk-less Inv-loop μ-loop Inv-walk μ-walk
-walk-less c = let v = c .before .before .before .before .before .before .before .before .before .loop .inv in omega (arith, v .1 .more, v .2)
+walk-less c = let v = c .before .before .before .before .before .before .before .before .before .before .loop .inv in omega (arith, v .1 .more, v .2)
 
 walk-again : tie.Need-walk-again Inv-loop μ-loop Inv-walk μ-walk
-walk-again c = let v = c .before .before .before .before .before .before .before .before .before .loop .inv in step-known (v .1) (inside (c .before .before .before .before .before .before .before .before)) (c .before .before .before .before .before .if2 .taken) (c .before .before .before .before .if3 .left) (told foundGate (c .enum-told2 .given .1) (c .before .before .value-at .ensures))
+walk-again c = let v = c .before .before .before .before .before .before .before .before .before .before .loop .inv in rw (c .put-span .ensures) (step-known (v .1) (inside (c .before .before .before .before .before .before .before .before .before)) (c .before .before .before .before .before .before .if2 .taken) (omega arith) (c .before .before .before .before .before .if3 .left) (rw (not-false (c .before .before .before .is-legible .result) (c .before .before .if4 .left)) at (c .before .before .before .is-legible .ensures)))
 
 add-k : tie.Need-add-k Inv-loop μ-loop Inv-walk μ-walk
 add-k c = search needs
@@ -119,7 +110,7 @@ returns-3 : tie.Need-returns-3 Inv-loop μ-loop Inv-walk μ-walk
 returns-3 c = let v = c .before .before .before .before .before .loop .inv in walk-misplaced (v .1) (inside (c .before .before .before .before)) (c .before .if2 .taken) (c .if3 .taken)
 
 returns-4 : tie.Need-returns-4 Inv-loop μ-loop Inv-walk μ-walk
-returns-4 c = let v = c .before .before .before .before .before .before .before .before .before .loop .inv in walk-bad (v .1) (inside (c .before .before .before .before .before .before .before .before)) (c .before .before .before .before .before .if2 .taken) (told foundGate (c .enum-told3 .given .1) (c .before .before .value-at .ensures))
+returns-4 c = let v = c .before .before .before .before .before .before .before .before .loop .inv in let z = rw (not-true (c .before .is-legible .result) (c .if4 .taken)) at (c .before .is-legible .ensures) in walk-bad (v .1) (inside (c .before .before .before .before .before .before .before)) (c .before .before .before .before .if2 .taken) (z .1)
 
 pub walk-spec : {M : Type 1} → statement M
 walk-spec =
@@ -137,13 +128,10 @@ walk-spec =
     loop-holds
     mul-r
     element-copy-out-r
-    slice-aggregate-value-at
-    value-at-requires
-    enum-told-2
-    enum-told-3
+    slice-aggregate-is-legible
+    is-legible-requires
     add-row
-    mul-spans
-    array-set-from-spans
+    put-span-requires
     add-i
     walk-less
     walk-again

@@ -3,29 +3,30 @@ use borrow.Author.Needs.{needs}
 use borrow.Author.Tests.{not-true, not-false}
 use Prim.Native.Nat.{_≤_, _<_, _-_}
 use native.Mathlib.Omega.{arith}
-use mathlib.Core.Path.{_≡_}
+use denote.Ref.{now}
 use lib.ListN.{length}
-use Rattle.lists.proofs.Slices.{length-of}
+use Rattle.places.specs.Places.{spansIn}
+use Rattle.places.proofs.Laws.{pairs-length}
 use Rattle.rows.specs.Table.{rowsIn}
 use Rattle.judging.proofs.TallyLaws.{Lacking, lacking-none, lacking-all, lacking-present, lacking-optional, lacking-more}
 use Rattle.judging.proofs.with_missing.Statement.{statement}
 use Rattle.judging.proofs.with_missing.Tie as tie
 
 abbrev Inv-loop : tie.InvT-loop
-Inv-loop t spans rows tally₀ k₀ tally k = Lacking t spans tally₀ k tally × (k ≤ length (rowsIn t))
+Inv-loop places t rows tally₀ k₀ tally k = Lacking t (spansIn places) tally₀ k tally × (k ≤ length (rowsIn t))
 
 abbrev μ-loop : tie.MeasureT-loop
-μ-loop t spans rows tally₀ k₀ tally k = length (rowsIn t) - k
+μ-loop places t rows tally₀ k₀ tally k = length (rowsIn t) - k
 
 -- the row that is looked at is one of the table's, and has its span
-inside : (c : tie.In-loop Inv-loop μ-loop) → (c .before .loop .k < length (rowsIn (c .before .before .before .args .t1))) × (c .before .loop .k < length (c .before .before .before .args .t2))
-inside c = let z : length (c .before .before .before .args .t2) ≡ 12 = search (needs, length-of) in (omega arith, omega arith)
+inside : (c : tie.In-loop Inv-loop μ-loop) → (c .before .loop .k < length (rowsIn (c .before .before .before .args .t1))) × (c .before .loop .k < length (spansIn (now (c .before .before .before .args .places))))
+inside c = (omega arith, omega (arith, pairs-length 12 (now (c .before .before .before .args .places))))
 
 row-count-requires : tie.Need-row-count-requires Inv-loop μ-loop
 row-count-requires c κs = search needs
 
 loop-holds : tie.Need-loop-holds Inv-loop μ-loop
-loop-holds c = (lacking-none (c .before .args .t1) (c .before .args .t2) _, omega arith)
+loop-holds c = (lacking-none (c .before .args .t1) (spansIn (now (c .before .args .places))) _, omega arith)
 
 mul-r : tie.Need-mul-r Inv-loop μ-loop
 mul-r c = search needs
@@ -33,11 +34,8 @@ mul-r c = search needs
 element-copy-out-r : tie.Need-element-copy-out-r Inv-loop μ-loop
 element-copy-out-r c = search needs
 
-mul-v : tie.Need-mul-v Inv-loop μ-loop
-mul-v c = search needs
-
-array-copy-out-v : tie.Need-array-copy-out-v Inv-loop μ-loop
-array-copy-out-v c = search needs
+span-in-requires : tie.Need-span-in-requires Inv-loop μ-loop
+span-in-requires c κs = search needs
 
 add-k : tie.Need-add-k Inv-loop μ-loop
 add-k c = search needs
@@ -46,13 +44,13 @@ loop-less : tie.Need-loop-less Inv-loop μ-loop
 loop-less c = search needs
 
 loop-again : tie.Need-loop-again Inv-loop μ-loop
-loop-again c = let g = inside (c .before .before .before .before) in (lacking-present (c .before .before .before .before .before .loop .inv .0) (g .0) (g .1) (c .if1 .taken), omega arith)
+loop-again c = let g = inside (c .before .before .before .before) in (lacking-present (c .before .before .before .before .before .loop .inv .0) (g .0) (g .1) (rw (c .before .before .span-in .ensures) at (c .if1 .taken)), omega arith)
 
 loop-less-2 : tie.Need-loop-less-2 Inv-loop μ-loop
 loop-less-2 c = search needs
 
 loop-again-2 : tie.Need-loop-again-2 Inv-loop μ-loop
-loop-again-2 c = let g = inside (c .before .before .before .before .before .before) in (lacking-optional (c .before .before .before .before .before .before .before .loop .inv .0) (g .0) (g .1) (c .before .before .if1 .left) (not-true _ (c .if2 .taken)), omega arith)
+loop-again-2 c = let g = inside (c .before .before .before .before .before .before) in (lacking-optional (c .before .before .before .before .before .before .before .loop .inv .0) (g .0) (g .1) (rw (c .before .before .before .before .span-in .ensures) at (c .before .before .if1 .left)) (not-true _ (c .if2 .taken)), omega arith)
 
 tally-with-requires : tie.Need-tally-with-requires Inv-loop μ-loop
 tally-with-requires c κs = search needs
@@ -61,7 +59,7 @@ loop-less-3 : tie.Need-loop-less-3 Inv-loop μ-loop
 loop-less-3 c = search needs
 
 loop-again-3 : tie.Need-loop-again-3 Inv-loop μ-loop
-loop-again-3 c = let g = inside (c .before .before .before .before .before .before .before) in (rw (c .tally-with .ensures) (lacking-more (c .before .before .before .before .before .before .before .before .loop .inv .0) (g .0) (g .1) (c .before .before .before .if1 .left) (not-false _ (c .before .if2 .left))), omega arith)
+loop-again-3 c = let g = inside (c .before .before .before .before .before .before .before) in (rw (c .tally-with .ensures) (lacking-more (c .before .before .before .before .before .before .before .before .loop .inv .0) (g .0) (g .1) (rw (c .before .before .before .before .before .span-in .ensures) at (c .before .before .before .if1 .left)) (not-false _ (c .before .if2 .left))), omega arith)
 
 returns : tie.Need-returns Inv-loop μ-loop
 returns c = lacking-all (c .before .loop .inv .0) (omega arith)
@@ -76,8 +74,7 @@ with-missing-spec =
     loop-holds
     mul-r
     element-copy-out-r
-    mul-v
-    array-copy-out-v
+    span-in-requires
     add-k
     loop-less
     loop-again

@@ -3,10 +3,8 @@ use mathlib.Core.Path.{_≡_, sym, _∙_}
 use native.Mathlib.Omega.{arith}
 use borrow.Author.Needs.{needs}
 use borrow.Author.Tests.{not-true, not-false}
-use lib.ListN.{drop}
 use Rattle.octets.specs.Field.{valueAt}
-use Rattle.lent.proofs.Rows.{length-rows}
-use Rattle.lent.proofs.Reading.{not-long, too-many, not-zeros, not-right, all-pass}
+use Rattle.lent.proofs.Reading.{not-long, too-many, not-zeros, right-or-not}
 use Rattle.lent.proofs.look_up.Statement.{statement}
 use Rattle.lent.proofs.look_up.Tie as tie
 
@@ -44,22 +42,27 @@ returns-3 c = let s = c .before .before .before .before .before .before .before 
     let e : c .before .before .before .two .result ≡ valueAt 2 s 0 = c .before .before .before .two .ensures ∙ omega arith in
     rw (not-zeros s e (sym (c .before .zeros-from .ensures) ∙ not-true _ (c .if3 .taken)))
 
-rows-right-requires : tie.Need-rows-right-requires
-rows-right-requires c κs = search needs
+right-by-low-requires : tie.Need-right-by-low-requires
+right-by-low-requires c κs = search needs
+
+look-few-requires : tie.Need-look-few-requires
+look-few-requires c κs = search needs
 
 returns-4 : tie.Need-returns-4
-returns-4 c = let s = c .before .before .before .before .before .before .before .before .before .before .args .s .now in
-    let e : c .before .before .before .before .before .two .result ≡ valueAt 2 s 0 = c .before .before .before .before .before .two .ensures ∙ omega arith in
-    rw (not-right s e (sym (c .before .rows-right .ensures) ∙ not-true _ (c .if4 .taken)))
+returns-4 c = let s = c .before .before .before .before .before .before .before .before .before .before .before .before .args .s .now in
+    let e : c .before .before .before .before .before .before .before .two .result ≡ valueAt 2 s 0 = c .before .before .before .before .before .before .before .two .ensures ∙ omega arith in
+    let h = right-or-not s e (λ i. c .before .before .before .before .before .before .before .before .before .shared-slice-known2 .given i .fits) (omega arith) (omega arith) (sym (c .before .before .before .before .before .zeros-from .ensures) ∙ not-false _ (c .before .before .before .before .if3 .left)) (c .before .before .before .before .before .before .before .before .before .before .before .before .args .item) in
+    let r = rw (c .before .if5 .taken) at (c .before .before .right-by-low .ensures) in
+    c .look-few .ensures ∙ rw r at h
 
-standing-in-requires : tie.Need-standing-in-requires
-standing-in-requires c κs = search needs
+look-many-requires : tie.Need-look-many-requires
+look-many-requires c κs = search needs
 
 returns-5 : tie.Need-returns-5
-returns-5 c = let s = c .before .before .before .before .before .before .before .before .before .before .before .args .s .now in
-    let e : c .before .before .before .before .before .before .two .result ≡ valueAt 2 s 0 = c .before .before .before .before .before .before .two .ensures ∙ omega arith in
-    let h = all-pass s e (λ i. c .before .before .before .before .before .before .before .before .shared-slice-known2 .given i .fits) (omega arith) (omega arith) (sym (c .before .before .before .before .zeros-from .ensures) ∙ not-false _ (c .before .before .before .if3 .left)) (sym (c .before .before .rows-right .ensures) ∙ not-false _ (c .before .if4 .left)) in
-    rw (h, c .standing-in .ensures, length-rows (c .before .before .before .before .before .before .two .result) (drop 2 s))
+returns-5 c = let s = c .before .before .before .before .before .before .before .before .before .before .args .s .now in
+    let e : c .before .before .before .before .before .two .result ≡ valueAt 2 s 0 = c .before .before .before .before .before .two .ensures ∙ omega arith in
+    let h = right-or-not s e (λ i. c .before .before .before .before .before .before .before .shared-slice-known2 .given i .fits) (omega arith) (omega arith) (sym (c .before .before .before .zeros-from .ensures) ∙ not-false _ (c .before .before .if3 .left)) (c .before .before .before .before .before .before .before .before .before .before .args .item) in
+    c .look-many .ensures ∙ h
 
 pub look-up-spec : {M : Type 1} → statement M
 look-up-spec =
@@ -75,7 +78,8 @@ look-up-spec =
     add-zeros-from
     zeros-from-requires
     returns-3
-    rows-right-requires
+    right-by-low-requires
+    look-few-requires
     returns-4
-    standing-in-requires
+    look-many-requires
     returns-5)

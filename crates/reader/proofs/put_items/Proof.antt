@@ -7,9 +7,10 @@ use borrow.Author.Needs.{needs}
 use denote.Ref.{now}
 use lib.ListN.{length, getD, take, drop}
 use lib.Seq.{length-take-le}
-use Rattle.lists.proofs.Slices.{length-of}
 use Rattle.octets.specs.Span.{noSpan}
 use Rattle.octets.proofs.Writing.{wrote-length}
+use Rattle.places.specs.Places.{spansIn}
+use Rattle.places.proofs.Laws.{pairs-length}
 use Rattle.rows.specs.Table.{rowsIn, noRow}
 use Rattle.rows.proofs.TableLaws.{row-at}
 use Rattle.meaning.specs.Reading.{valueIn, valuesIn}
@@ -25,14 +26,14 @@ abbrev of : Lists → List Item
 of l = l .items
 
 abbrev Inv-loop : tie.InvT-loop
-Inv-loop room₀ at s t spans rows k₀ room k = (k ≤ length (rowsIn t)) × (room ≡ room₀) × (of (listsOf (valuesIn (drop k (rowsIn t)) s (drop k spans))) ≡ of (listsOf (valuesIn (rowsIn t) s spans)))
+Inv-loop room₀ at s places t rows k₀ room k = (k ≤ length (rowsIn t)) × (room ≡ room₀) × (of (listsOf (valuesIn (drop k (rowsIn t)) s (drop k (spansIn places)))) ≡ of (listsOf (valuesIn (rowsIn t) s (spansIn places))))
 
 abbrev μ-loop : tie.MeasureT-loop
-μ-loop room₀ at s t spans rows k₀ room k = length (rowsIn t) - k
+μ-loop room₀ at s places t rows k₀ room k = length (rowsIn t) - k
 
 -- the row that is looked at is one of the table's, and there is a span for each
-rows-in : (c : tie.In-loop Inv-loop μ-loop) → (c .before .loop .k < length (rowsIn (c .before .before .before .before .before .args .t3))) × (length (rowsIn (c .before .before .before .before .before .args .t3)) ≤ length (c .before .before .before .before .before .args .t5))
-rows-in c = let z : length (c .before .before .before .before .before .args .t5) ≡ 12 = search (needs, length-of) in (omega arith, omega arith)
+rows-in : (c : tie.In-loop Inv-loop μ-loop) → (c .before .loop .k < length (rowsIn (c .before .before .before .before .before .args .t3))) × (length (rowsIn (c .before .before .before .before .before .args .t3)) ≤ length (spansIn (now (c .before .before .before .before .before .args .places))))
+rows-in c = let z = pairs-length 12 (now (c .before .before .before .before .before .args .places)) in (omega arith, omega arith)
 
 row-count-requires : tie.Need-row-count-requires Inv-loop μ-loop
 row-count-requires c κs = search needs
@@ -46,14 +47,11 @@ mul-r c = search needs
 element-copy-out-r : tie.Need-element-copy-out-r Inv-loop μ-loop
 element-copy-out-r c = search needs
 
-mul-v : tie.Need-mul-v Inv-loop μ-loop
-mul-v c = search needs
-
-array-copy-out-v : tie.Need-array-copy-out-v Inv-loop μ-loop
-array-copy-out-v c = search needs
+span-in-requires : tie.Need-span-in-requires Inv-loop μ-loop
+span-in-requires c κs = search needs
 
 items-from-requires : tie.Need-items-from-requires Inv-loop μ-loop
-items-from-requires c κs = let g = rows-in (c .before .before) in rw (row-at (c .before .before .before .before .before .before .before .args .t3) (c .before .before .before .loop .k) (g .0)) (c .before .before .before .before .before .before .before .pre (c .before .before .before .loop .k) (g .0))
+items-from-requires c κs = let g = rows-in (c .before .before) in rw (c .span-in .ensures, row-at (c .before .before .before .before .before .before .before .args .t3) (c .before .before .before .loop .k) (g .0)) (c .before .before .before .before .before .before .before .pre (c .before .before .before .loop .k) (g .0))
 
 enum-known-from : tie.Need-enum-known-from Inv-loop μ-loop
 enum-known-from c = search needs
@@ -61,8 +59,8 @@ enum-known-from c = search needs
 slice-aggregate-items-out : tie.Need-slice-aggregate-items-out Inv-loop μ-loop
 slice-aggregate-items-out c =
     let g = rows-in (c .before .before .before .before .before .before .before .before) in
-    let v = getD (c .before .before .before .before .before .before .before .before .before .before .before .before .before .args .t5) (c .before .before .before .before .before .before .before .before .before .loop .k) noSpan in
-    sym (length-take-le (v .to) (now (c .before .before .before .before .before .before .before .before .before .before .before .before .before .args .s)) (ends-inside _ (now (c .before .before .before .before .before .before .before .before .before .before .before .before .before .args .s)) v (c .before .before .before .before .before .before .before .before .before .before .before .before .before .pre (c .before .before .before .before .before .before .before .before .before .loop .k) (g .0))))
+    let v = getD (spansIn (now (c .before .before .before .before .before .before .before .before .before .before .before .before .before .args .places))) (c .before .before .before .before .before .before .before .before .before .loop .k) noSpan in
+    rw (c .before .before .before .before .before .before .span-in .ensures) (sym (length-take-le (v .to) (now (c .before .before .before .before .before .before .before .before .before .before .before .before .before .args .s)) (ends-inside _ (now (c .before .before .before .before .before .before .before .before .before .before .before .before .before .args .s)) v (c .before .before .before .before .before .before .before .before .before .before .before .before .before .pre (c .before .before .before .before .before .before .before .before .before .loop .k) (g .0)))))
 
 items-out-requires : tie.Need-items-out-requires Inv-loop μ-loop
 items-out-requires c κs = search needs
@@ -73,10 +71,10 @@ same-length c = wrote-length (c .before .before .items-out .ensures) ∙ ap leng
 returns : tie.Need-returns Inv-loop μ-loop
 returns c =
     let g = rows-in (c .before .before .before .before .before .before .before .before .before .before .before) in
-    let v = getD (c .before .before .before .before .before .before .before .before .before .before .before .before .before .before .before .before .args .t5) (c .before .before .before .before .before .before .before .before .before .before .before .before .loop .k) noSpan in
-    let b = subst (λ x. ListBegins of itemsAt (valueIn (getD (c .before .before .before .before .before .before .before .before .before .before .before .before .before .before .before .before .args .t3 .rows) (c .before .before .before .before .before .before .before .before .before .before .before .before .loop .k) noRow .kind) (now (c .before .before .before .before .before .before .before .before .before .before .before .before .before .before .before .before .args .s)) v) (take (v .to) (now (c .before .before .before .before .before .before .before .before .before .before .before .before .before .before .before .before .args .s))) x) (c .before .before .before .before .before .before .from .given .1) (c .before .before .before .before .before .before .before .before .items-from .ensures) in
-    let f = rest-found (c .before .before .before .before .before .before .before .before .before .before .before .before .before .before .before .before .args .t3) (now (c .before .before .before .before .before .before .before .before .before .before .before .before .before .before .before .before .args .s)) (c .before .before .before .before .before .before .before .before .before .before .before .before .before .before .before .before .args .t5) (g .1) of itemsAt (take (v .to) (now (c .before .before .before .before .before .before .before .before .before .before .before .before .before .before .before .before .args .s))) (c .before .before .before .before .before .before .before .before .before .before .before .before .loop .k) _ (g .0) b (c .before .before .before .before .before .before .before .before .before .before .before .before .loop .inv .2) in
-    rw (c .before .before .before .before .before .before .before .before .before .before .before .before .loop .inv .1, f) at (c .before .before .items-out .ensures)
+    let v = getD (spansIn (now (c .before .before .before .before .before .before .before .before .before .before .before .before .before .before .before .before .args .places))) (c .before .before .before .before .before .before .before .before .before .before .before .before .loop .k) noSpan in
+    let b = subst (λ x. ListBegins of itemsAt (valueIn (getD (c .before .before .before .before .before .before .before .before .before .before .before .before .before .before .before .before .args .t3 .rows) (c .before .before .before .before .before .before .before .before .before .before .before .before .loop .k) noRow .kind) (now (c .before .before .before .before .before .before .before .before .before .before .before .before .before .before .before .before .args .s)) v) (take (v .to) (now (c .before .before .before .before .before .before .before .before .before .before .before .before .before .before .before .before .args .s))) x) (c .before .before .before .before .before .before .from .given .1) (rw (c .before .before .before .before .before .before .before .before .before .span-in .ensures) at (c .before .before .before .before .before .before .before .before .items-from .ensures)) in
+    let f = rest-found (c .before .before .before .before .before .before .before .before .before .before .before .before .before .before .before .before .args .t3) (now (c .before .before .before .before .before .before .before .before .before .before .before .before .before .before .before .before .args .s)) (spansIn (now (c .before .before .before .before .before .before .before .before .before .before .before .before .before .before .before .before .args .places))) (g .1) of itemsAt (take (v .to) (now (c .before .before .before .before .before .before .before .before .before .before .before .before .before .before .before .before .args .s))) (c .before .before .before .before .before .before .before .before .before .before .before .before .loop .k) _ (g .0) b (c .before .before .before .before .before .before .before .before .before .before .before .before .loop .inv .2) in
+    rw (c .before .before .before .before .before .before .before .before .before .span-in .ensures, c .before .before .before .before .before .before .before .before .before .before .before .before .loop .inv .1, f) at (c .before .before .items-out .ensures)
 
 enum-told : tie.Need-enum-told Inv-loop μ-loop
 enum-told c = search needs
@@ -90,9 +88,9 @@ loop-less c = search needs
 loop-again : tie.Need-loop-again Inv-loop μ-loop
 loop-again c =
     let g = rows-in (c .before .before .before .before .before) in
-    let v = getD (c .before .before .before .before .before .before .before .before .before .before .args .t5) (c .before .before .before .before .before .before .loop .k) noSpan in
-    let b = subst (λ x. ListBegins of itemsAt (valueIn (getD (c .before .before .before .before .before .before .before .before .before .before .args .t3 .rows) (c .before .before .before .before .before .before .loop .k) noRow .kind) (now (c .before .before .before .before .before .before .before .before .before .before .args .s)) v) (take (v .to) (now (c .before .before .before .before .before .before .before .before .before .before .args .s))) x) (c .enum-told .given .1) (c .before .before .items-from .ensures) in
-    (omega arith, c .before .before .before .before .before .before .loop .inv .1, rest-more (c .before .before .before .before .before .before .before .before .before .before .args .t3) (now (c .before .before .before .before .before .before .before .before .before .before .args .s)) (c .before .before .before .before .before .before .before .before .before .before .args .t5) (g .1) of itemsAt (take (v .to) (now (c .before .before .before .before .before .before .before .before .before .before .args .s))) (c .before .before .before .before .before .before .loop .k) (g .0) b (c .before .before .before .before .before .before .loop .inv .2))
+    let v = getD (spansIn (now (c .before .before .before .before .before .before .before .before .before .before .args .places))) (c .before .before .before .before .before .before .loop .k) noSpan in
+    let b = subst (λ x. ListBegins of itemsAt (valueIn (getD (c .before .before .before .before .before .before .before .before .before .before .args .t3 .rows) (c .before .before .before .before .before .before .loop .k) noRow .kind) (now (c .before .before .before .before .before .before .before .before .before .before .args .s)) v) (take (v .to) (now (c .before .before .before .before .before .before .before .before .before .before .args .s))) x) (c .enum-told .given .1) (rw (c .before .before .before .span-in .ensures) at (c .before .before .items-from .ensures)) in
+    (omega arith, c .before .before .before .before .before .before .loop .inv .1, rest-more (c .before .before .before .before .before .before .before .before .before .before .args .t3) (now (c .before .before .before .before .before .before .before .before .before .before .args .s)) (spansIn (now (c .before .before .before .before .before .before .before .before .before .before .args .places))) (g .1) of itemsAt (take (v .to) (now (c .before .before .before .before .before .before .before .before .before .before .args .s))) (c .before .before .before .before .before .before .loop .k) (g .0) b (c .before .before .before .before .before .before .loop .inv .2))
 
 put-zeros-requires : tie.Need-put-zeros-requires Inv-loop μ-loop
 put-zeros-requires c κs = search needs
@@ -103,8 +101,8 @@ same-length-2 c = wrote-length (c .before .before .put-zeros .ensures) ∙ ap le
 returns-2 : tie.Need-returns-2 Inv-loop μ-loop
 unfolding listsOf
 returns-2 c =
-    let z : length (c .before .before .before .before .before .before .before .before .before .args .t5) ≡ 12 = search (needs, length-of) in
-    rw (rest-none (c .before .before .before .before .before .before .before .before .before .args .t3) (now (c .before .before .before .before .before .before .before .before .before .args .s)) (c .before .before .before .before .before .before .before .before .before .args .t5) (omega arith) of (c .before .before .before .before .before .loop .k) (omega arith) (c .before .before .before .before .before .loop .inv .2), no-item-rows) (rw (c .before .before .before .before .before .loop .inv .1) at (c .before .before .put-zeros .ensures))
+    let z = pairs-length 12 (now (c .before .before .before .before .before .before .before .before .before .args .places)) in
+    rw (rest-none (c .before .before .before .before .before .before .before .before .before .args .t3) (now (c .before .before .before .before .before .before .before .before .before .args .s)) (spansIn (now (c .before .before .before .before .before .before .before .before .before .args .places))) (omega arith) of (c .before .before .before .before .before .loop .k) (omega arith) (c .before .before .before .before .before .loop .inv .2), no-item-rows) (rw (c .before .before .before .before .before .loop .inv .1) at (c .before .before .put-zeros .ensures))
 
 pub put-items-spec : {M : Type 1} → statement M
 put-items-spec =
@@ -116,8 +114,7 @@ put-items-spec =
     loop-holds
     mul-r
     element-copy-out-r
-    mul-v
-    array-copy-out-v
+    span-in-requires
     items-from-requires
     enum-known-from
     slice-aggregate-items-out

@@ -5,7 +5,8 @@ use native.Mathlib.Omega.{arith}
 use borrow.Author.Needs.{needs}
 use denote.Ref.{now}
 use lib.ListN.{length, drop}
-use Rattle.lists.proofs.Slices.{length-of}
+use Rattle.places.specs.Places.{spansIn}
+use Rattle.places.proofs.Laws.{pairs-length}
 use Rattle.rows.specs.Table.{rowsIn}
 use Rattle.meaning.specs.Reading.{valuesIn}
 use Rattle.requests.specs.Requests.{seen}
@@ -14,10 +15,10 @@ use Rattle.requests.proofs.seen_in.Statement.{statement}
 use Rattle.requests.proofs.seen_in.Tie as tie
 
 abbrev Inv-loop : tie.InvT-loop
-Inv-loop s t spans k₀ x₀ k x = (k ≤ 12) × (k ≤ length (rowsIn t)) × (x ≡ seen (valuesIn (drop k (rowsIn t)) s (drop k spans)))
+Inv-loop s places t k₀ x₀ k x = (k ≤ 12) × (k ≤ length (rowsIn t)) × (x ≡ seen (valuesIn (drop k (rowsIn t)) s (drop k (spansIn places))))
 
 abbrev μ-loop : tie.MeasureT-loop
-μ-loop s t spans k₀ x₀ k x = k
+μ-loop s places t k₀ x₀ k x = k
 
 row-count-requires : tie.Need-row-count-requires Inv-loop μ-loop
 row-count-requires c κs = search needs
@@ -37,11 +38,8 @@ mul-r c = omega arith
 element-copy-out-r : tie.Need-element-copy-out-r Inv-loop μ-loop
 element-copy-out-r c = omega arith
 
-mul-v : tie.Need-mul-v Inv-loop μ-loop
-mul-v c = omega arith
-
-array-copy-out-v : tie.Need-array-copy-out-v Inv-loop μ-loop
-array-copy-out-v c = omega arith
+span-in-requires : tie.Need-span-in-requires Inv-loop μ-loop
+span-in-requires c κs = search needs
 
 with-value-requires : tie.Need-with-value-requires Inv-loop μ-loop
 with-value-requires c κs = search needs
@@ -53,8 +51,8 @@ loop-again : tie.Need-loop-again Inv-loop μ-loop
 loop-again c =
     let a = c .before .before .before .before .before .before .before .before .args in
     let l = c .before .before .before .before .loop in
-    let b : length (a .t3) ≡ 12 = search (needs, length-of) in
-    (omega arith, omega arith, c .with-value .ensures ∙ seen-row-at (a .t1) (a .t3) (now (a .s)) (l .k) (l .x) (omega arith) (l .inv .1) (omega arith) (l .inv .2))
+    let p = spansIn (now (a .places)) in
+    (omega arith, omega arith, rw (c .before .span-in .ensures) at (c .with-value .ensures) ∙ seen-row-at (a .t1) p (now (a .s)) (l .k) (l .x) (omega arith) (l .inv .1) (omega (arith, pairs-length 12 (now (a .places)))) (l .inv .2))
 
 returns : tie.Need-returns Inv-loop μ-loop
 returns c = let z : c .before .loop .k ≡ 0 = omega arith in rw z at (c .before .loop .inv .2)
@@ -71,8 +69,7 @@ seen-in-spec =
     sub-k
     mul-r
     element-copy-out-r
-    mul-v
-    array-copy-out-v
+    span-in-requires
     with-value-requires
     loop-less
     loop-again

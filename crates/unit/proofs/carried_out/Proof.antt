@@ -2,6 +2,7 @@
 use denote.Ref.{now}
 use mathlib.Core.Path.{sym, _∙_}
 use borrow.Author.Needs.{needs}
+use Rattle.places.specs.Places.{spansIn}
 use Rattle.rows.specs.Table.{rowsIn}
 use Rattle.meaning.specs.Reading.{valuesIn}
 use Rattle.layout.specs.Record.{listsOf}
@@ -45,7 +46,7 @@ same-length-3 : tie.Need-same-length-3
 same-length-3 c = search needs
 
 returns-2 : tie.Need-returns-2
-returns-2 c = let a = c .before .before .before .before .before .before .before .before .before .before .before .before .before .before .before .before .before .args in let x = found (now (c .before .before .before .before .before .before .before .before .before .before .before .before .before .before .before .before .before .args .table)) (c .before .before .before .before .before .before .before .before .before .before .before .before .asked .result) (sym (c .before .before .before .before .before .before .before .before .before .k .given .1) ∙ c .before .before .before .before .before .before .before .before .before .before .before .look-up .ensures) in on-decision (a .e) (now (a .table)) (now (a .room)) (a .f) (listsOf (valuesIn (rowsIn (a .t)) (now (a .message)) (a .o .spans)) .items) (notedOf (openedAt (rowsIn (a .t)) (now (a .message)) (a .f .from))) (a .offered) (a .q) (a .o .outcome) (x .held) (c .before .before .before .before .before .before .before .before .before .before .before .before .asked .ensures) (x .standing) (c .before .before .before .before .before .before .before .decide .ensures) (c .before .before .before .before .settle-noted .ensures)
+returns-2 c = let a = c .before .before .before .before .before .before .before .before .before .before .before .before .before .before .before .before .before .args in let x = found (now (c .before .before .before .before .before .before .before .before .before .before .before .before .before .before .before .before .before .args .table)) (c .before .before .before .before .before .before .before .before .before .before .before .before .asked .result) (sym (c .before .before .before .before .before .before .before .before .before .k .given .1) ∙ c .before .before .before .before .before .before .before .before .before .before .before .look-up .ensures) in on-decision (a .e) (now (a .table)) (now (a .room)) (a .f) (listsOf (valuesIn (rowsIn (a .t)) (now (a .message)) (spansIn (now (a .places)))) .items) (notedOf (openedAt (rowsIn (a .t)) (now (a .message)) (a .f .from))) (a .offered) (a .q) (a .o .outcome) (x .held) (c .before .before .before .before .before .before .before .before .before .before .before .before .asked .ensures) (x .standing) (c .before .before .before .before .before .before .before .decide .ensures) (c .before .before .before .before .settle-noted .ensures)
 
 pub carried-out-spec : {M : Type 1} → statement M
 carried-out-spec =

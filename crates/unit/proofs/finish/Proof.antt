@@ -4,7 +4,7 @@ use mathlib.Core.Path.{refl}
 use mathlib.Core.List.{[]}
 use Rattle.table.specs.Table.{without, stopping}
 use Rattle.lent.specs.Lent.{firstRows}
-use Rattle.unit.proofs.Laws.{put-rows, put-out, put-more, reset-rows, table-size}
+use Rattle.unit.proofs.Laws.{put-rows, put-out, put-more, reset-rows, not-touched, table-size}
 use borrow.Author.Needs.{needs}
 use Rattle.unit.proofs.finish.Statement.{statement}
 use Rattle.unit.proofs.finish.Tie as tie
@@ -48,6 +48,18 @@ hand-back-requires-4 c κs = search needs
 enum-told-2 : tie.Need-enum-told-2
 enum-told-2 c = search needs
 
+names-none-requires : tie.Need-names-none-requires
+names-none-requires c κs = search needs
+
+hand-back-requires-5 : tie.Need-hand-back-requires-5
+hand-back-requires-5 c κs = search needs
+
+same-length : tie.Need-same-length
+same-length c = search needs
+
+returns : tie.Need-returns
+returns c = let s = c .before .before .before .before .before .before .before .before in λ w. rw (c .before .before .before .before .enum-told2 .given .1) (record { back = c .hand-back5 .ensures; table = not-touched (now (s .args .table)) (firstRows (s .args .n) (now (s .args .table))) (now (s .args .kept)) (s .pre .0) (c .before .before .names-none .ensures) (c .before .if1 .taken) })
+
 rows-in-requires : tie.Need-rows-in-requires
 rows-in-requires c κs = search needs
 
@@ -57,35 +69,35 @@ reset-requires c κs = search needs
 table-out-requires-2 : tie.Need-table-out-requires-2
 table-out-requires-2 c κs = search needs
 
-hand-back-requires-5 : tie.Need-hand-back-requires-5
-hand-back-requires-5 c κs = search needs
-
-returns : tie.Need-returns
-returns c = λ w. rw (c .before .before .change .given .1) (record { back = c .hand-back .ensures; table = refl })
-
-same-length : tie.Need-same-length
-same-length c = search needs
+hand-back-requires-6 : tie.Need-hand-back-requires-6
+hand-back-requires-6 c κs = search needs
 
 returns-2 : tie.Need-returns-2
-returns-2 c = let s = c .before .before .before .before .before .before .before .before .before .before in λ w. rw (c .before .before .before .before .before .before .change2 .given .1) (record { back = c .hand-back2 .ensures; table = put-more (firstRows (s .args .n) (now (s .args .table))) (now (s .args .table)) _ (s .pre .0) (s .pre .1) (c .before .before .before .row-out .ensures) })
+returns-2 c = λ w. rw (c .before .before .change .given .1) (record { back = c .hand-back .ensures; table = refl })
 
 same-length-2 : tie.Need-same-length-2
 same-length-2 c = search needs
 
 returns-3 : tie.Need-returns-3
-returns-3 c = let s = c .before .before .before .before .before .before .before .before .before .before in λ w. rw (c .before .before .before .before .before .before .change3 .given .1) (record { back = c .hand-back3 .ensures; table = put-rows (stopping _ _ _) (now (s .args .table)) (table-size (now (s .args .table)) _ (s .pre .0)) (c .before .before .before .stop-out .ensures) })
+returns-3 c = let s = c .before .before .before .before .before .before .before .before .before .before in λ w. rw (c .before .before .before .before .before .before .change2 .given .1) (record { back = c .hand-back2 .ensures; table = put-more (firstRows (s .args .n) (now (s .args .table))) (now (s .args .table)) _ (s .pre .0) (s .pre .1) (c .before .before .before .row-out .ensures) })
 
 same-length-3 : tie.Need-same-length-3
 same-length-3 c = search needs
 
 returns-4 : tie.Need-returns-4
-returns-4 c = let s = c .before .before .before .before .before .before .before .before .before .before in λ w. rw (c .before .before .before .before .before .before .enum-told .given .1) (record { back = c .hand-back4 .ensures; table = put-out [] (now (s .args .table)) (table-size (now (s .args .table)) _ (s .pre .0)) (c .before .before .before .before .before .empty .ensures) (c .before .before .before .table-out .ensures .1) })
+returns-4 c = let s = c .before .before .before .before .before .before .before .before .before .before in λ w. rw (c .before .before .before .before .before .before .change3 .given .1) (record { back = c .hand-back3 .ensures; table = put-rows (stopping _ _ _) (now (s .args .table)) (table-size (now (s .args .table)) _ (s .pre .0)) (c .before .before .before .stop-out .ensures) })
 
 same-length-4 : tie.Need-same-length-4
 same-length-4 c = search needs
 
 returns-5 : tie.Need-returns-5
-returns-5 c = let s = c .before .before .before .before .before .before .before .before .before .before .before .before in λ w. rw (c .before .before .before .before .before .before .before .before .enum-told2 .given .1) (record { back = c .hand-back5 .ensures; table = put-out (without _ _) (now (s .args .table)) (table-size (now (s .args .table)) _ (s .pre .0)) (reset-rows _ _ (c .before .before .before .before .before .before .rows-in .ensures) (c .before .before .before .before .before .reset .ensures)) (c .before .before .before .table-out2 .ensures .1) })
+returns-5 c = let s = c .before .before .before .before .before .before .before .before .before .before in λ w. rw (c .before .before .before .before .before .before .enum-told .given .1) (record { back = c .hand-back4 .ensures; table = put-out [] (now (s .args .table)) (table-size (now (s .args .table)) _ (s .pre .0)) (c .before .before .before .before .before .empty .ensures) (c .before .before .before .table-out .ensures .1) })
+
+same-length-5 : tie.Need-same-length-5
+same-length-5 c = search needs
+
+returns-6 : tie.Need-returns-6
+returns-6 c = let s = c .before .before .before .before .before .before .before .before .before .before .before .before .before .before .before in λ w. rw (c .before .before .before .before .before .before .before .before .before .before .before .enum-told2 .given .1) (record { back = c .hand-back6 .ensures; table = put-out (without _ _) (now (s .args .table)) (table-size (now (s .args .table)) _ (s .pre .0)) (reset-rows _ _ (c .before .before .before .before .before .before .rows-in .ensures) (c .before .before .before .before .before .reset .ensures)) (c .before .before .before .table-out2 .ensures .1) })
 
 pub finish-spec : {M : Type 1} → statement M
 finish-spec =
@@ -104,16 +116,20 @@ finish-spec =
     table-out-requires
     hand-back-requires-4
     enum-told-2
+    names-none-requires
+    hand-back-requires-5
+    same-length
+    returns
     rows-in-requires
     reset-requires
     table-out-requires-2
-    hand-back-requires-5
-    returns
-    same-length
+    hand-back-requires-6
     returns-2
     same-length-2
     returns-3
     same-length-3
     returns-4
     same-length-4
-    returns-5)
+    returns-5
+    same-length-5
+    returns-6)

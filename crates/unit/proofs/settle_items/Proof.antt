@@ -7,6 +7,7 @@ use native.Mathlib.Omega.{arith}
 use lib.ListN.{replicate, length-replicate}
 use lib.Seq.{length-take-le}
 use Rattle.identity.specs.declared.Item.{Item}
+use Rattle.places.specs.Places.{spansIn}
 use Rattle.rows.specs.Table.{rowsIn}
 use Rattle.entry_words.specs.EntryWords.{entryBy}
 use Rattle.lent.specs.Lent.{firstRows}
@@ -20,7 +21,7 @@ use Rattle.unit.proofs.settle_items.Statement.{statement}
 use Rattle.unit.proofs.settle_items.Tie as tie
 
 abbrev items : tie.Start → List Item
-items s = listsOf (valuesIn (rowsIn (s .args .t)) (now (s .args .message)) (s .args .spans)) .items
+items s = listsOf (valuesIn (rowsIn (s .args .t)) (now (s .args .message)) (spansIn (now (s .args .places)))) .items
 
 abbrev made : tie.Start → Decided
 made s = applied (s .args .e) (firstRows (s .args .n) (now (s .args .table))) (s .args .f) (items s) (map entryBy (now (s .args .noted))) (s .args .d)
@@ -28,7 +29,7 @@ made s = applied (s .args .e) (firstRows (s .args .n) (now (s .args .table))) (s
 kept : (w : tie.After-keep-identified) → Kept (items (w .before .before .before .before .before .before .before .before .before .before .before)) (w .keep-identified .result) (w .keep-identified .last .0)
 kept w =
     let s = w .before .before .before .before .before .before .before .before .before .before .before in
-    kept-from (items s) (items-fit (now (s .args .message)) (λ i. omega (arith, w .before .before .before .before .before .before .before .before .before .before .shared-slice-known .given i)) (rowsIn (s .args .t)) (s .args .spans))
+    kept-from (items s) (items-fit (now (s .args .message)) (λ i. omega (arith, w .before .before .before .before .before .before .before .before .before .before .shared-slice-known .given i)) (rowsIn (s .args .t)) (spansIn (now (s .args .places))))
     (replicate 256 0) (w .before .before .before .items-in .last .1 .1 .1 .0) (w .keep-identified .last .0) (length-replicate {A = ℕ} 256 0) (w .before .before .before .items-in .ensures .0) (w .before .before .before .items-in .ensures .1) (w .keep-identified .ensures .0) (w .keep-identified .ensures .1)
 
 is-reset-requires : tie.Need-is-reset-requires
