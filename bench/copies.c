@@ -1,6 +1,6 @@
 /*
  * How many octets the calls copy and set: the archive takes memcpy and memset from here, which count. Writes a Markdown table.
- *     gcc -O2 -fno-builtin -Iinclude bench/copies.c -Ltarget/staticlib -llink -o copies && ./copies
+ *     gcc -O2 -fno-builtin -Iinclude bench/copies.c -Ltarget/staticlib -lm3ap -o copies && ./copies
  */
 #include "m3ap.h"
 
@@ -29,7 +29,7 @@ void *memset(void *to, int octet, size_t n)
     return to;
 }
 
-static uint8_t table[M3AP_TABLE_OCTETS], room[M3AP_MESSAGE_OCTETS], message[M3AP_MESSAGE_OCTETS];
+static uint8_t unit[M3AP_UNIT_OCTETS], room[M3AP_MESSAGE_OCTETS], message[M3AP_MESSAGE_OCTETS];
 static struct m3ap_record record;
 static size_t length;
 
@@ -139,7 +139,7 @@ static void count(void)
 static unsigned call(unsigned offered)
 {
     count();
-    return m3ap_call(table, sizeof table, message, length, (uint16_t)offered, room, sizeof room).answer;
+    return m3ap_call(unit, sizeof unit, message, length, (uint16_t)offered, room, sizeof room).answer;
 }
 
 int main(void)
@@ -157,6 +157,12 @@ int main(void)
     }
     stop(300);
     row("call STOP REQUEST that is not held, 256 held", call(0), M3AP_PAIR_NOT_HELD);
+    count();
+    row("row 255, 256 held", m3ap_row(unit, sizeof unit, 255).answer, 0);
+    count();
+    row("count by TMGI, 256 held", m3ap_count_in(unit, sizeof unit, (struct m3ap_tmgi){{0, 0, 0}, {0, 0, 0}}).answer, 0);
+    count();
+    row("marks, 256 held", m3ap_marks(unit, sizeof unit).answer, 0);
     reset(256);
     row("call RESET of 256 items, 256 held", call(0), 0);
     start(0);

@@ -1,11 +1,11 @@
 /*
  * The M3AP message core, for a link process in C.
- * m3ap_call, m3ap_read and m3ap_write are in liblink.a (made by `rt staticlib link`), m3ap_count is in libconsole.a (`rt staticlib console`).
- * They need memcpy and memset of the C library, and nothing else.
+ * All calls are in one archive, libm3ap.a, for x86-64: `./install PREFIX` makes it and puts it beside this header, with an m3ap.pc for pkg-config.
+ * It needs memcpy and memset of the C library, and nothing else.
  *
  * A call works on the octets that it is lent and on nothing else: it keeps no state, allocates nothing, opens nothing, does not recurse, and
- * returns for every input. Calls on parts that do not overlap may run at the same time. The statements, proved for all inputs, stand in
- * crates/link/src/lib.rt and crates/console/src/lib.rt; what a process may rely on, in crates/link/specs/Promised.antt.
+ * returns for every input. Calls on parts that do not overlap, or that are only read, may run at the same time. The statements, proved for all
+ * inputs, stand in src/lib.rt of crates/link, crates/view and crates/console; what a process may rely on, in crates/link/specs/Promised.antt.
  *
  * The parts handed to one call must not overlap. A part of length 0 may be NULL. A length is at most PTRDIFF_MAX.
  */
@@ -20,11 +20,17 @@
 extern "C" {
 #endif
 
+/* The version of this header. m3ap_version says that of the archive: a process is built of two that are equal. */
+#define M3AP_VERSION 2
+#define M3AP_VERSION_STRING "2"
+
+uint32_t m3ap_version(void);
+
 /*
- * A table has this many octets. The first two say how many associations are held, 0 to 256, the high octet first. A fresh table is all zero octets.
- * A process need not look at the others; docs/LAYOUTS.md has them.
+ * What the calls remember from one to the next, the unit, has this many octets, which the process lends and keeps. A fresh unit is all zero octets.
+ * No process need look at them: m3ap_marks and m3ap_row tell what they hold; docs/LAYOUTS.md has them.
  */
-#define M3AP_TABLE_OCTETS 3074
+#define M3AP_UNIT_OCTETS 3088
 
 /* A message has at most this many octets. Every reply fits a room of as many. */
 #define M3AP_MESSAGE_OCTETS 8192
@@ -34,7 +40,8 @@ extern "C" {
 
 /*
  * A call needs at most this many octets of stack on x86-64, as built with the kit of docs/CHECKING.md, the C library's memcpy and memset included.
- * sample/stack.c measures it: 37,928 for m3ap_call, 2,192 for m3ap_read, 2,736 for m3ap_write, 13,944 for m3ap_count.
+ * sample/stack.c measures it: 40,200 for m3ap_call, 1,408 for m3ap_read, 2,712 for m3ap_write, 17,448 for m3ap_count, 8,888 for each of
+ * m3ap_row, m3ap_count_in and m3ap_marks.
  */
 #define M3AP_STACK_OCTETS 49152
 
@@ -51,12 +58,14 @@ extern "C" {
 #define M3AP_FULL 9            /* start: 256 associations are held */
 #define M3AP_NO_ROOM 10        /* the reply, the record or the message would not fit the room; nothing is done */
 #define M3AP_NOT_WRITTEN 11    /* octets that are no record, or a record that has no message */
-#define M3AP_NO_TABLE 21       /* the table handed in is none */
+#define M3AP_NO_UNIT 21        /* the unit handed in is none */
 
 struct m3ap_answer {
     uint32_t answer; /* one of the numbers above */
     uint32_t place;  /* beside 2 and 3: the offset of the octet in which the field at fault begins, 0 to message_len; else 0 */
     uint32_t octets; /* how many octets were put at the front of the room; 0: none */
+    uint16_t bit;    /* 0 today */
+    uint16_t wait;   /* 0 today */
 };
 
 /*
@@ -70,12 +79,12 @@ struct m3ap_answer {
  *     8     ERROR INDICATION
  *     1, 2, 3, 4, 7, 10, 21  none
  *
- * table     lent, M3AP_TABLE_OCTETS long; changed by answer 0 only. Another length, or octets that are no table, get answer 21.
+ * unit      lent, M3AP_UNIT_OCTETS long; changed by answer 0 only. Another length, or octets that are no unit, get answer 21.
  * message   read. Any octets, any length.
  * offered   the MCE identity that a start is given; looked at in a start only.
  * room      lent. The reply fills its front, and the rest keeps its octets; without a reply all of it does.
  */
-struct m3ap_answer m3ap_call(uint8_t *table, size_t table_len, const uint8_t *message, size_t message_len,
+struct m3ap_answer m3ap_call(uint8_t *unit, size_t unit_len, const uint8_t *message, size_t message_len,
                              uint16_t offered, uint8_t *room, size_t room_len);
 
 /* ---- the record of a message: octets only, so that no compiler puts anything between them. Numbers have the high octet first. */
@@ -188,7 +197,7 @@ struct m3ap_answer m3ap_read(const uint8_t *message, size_t message_len, struct 
 struct m3ap_answer m3ap_write(const struct m3ap_record *record, size_t record_len, const uint8_t *values, size_t values_len,
                               uint8_t *room, size_t room_len);
 
-/* ---- the console */
+/* ---- what a unit holds, and the console. Nothing here changes what is lent. */
 
 struct m3ap_tmgi {
     uint8_t plmn[3];
@@ -205,12 +214,39 @@ struct m3ap_association {
 };
 
 struct m3ap_counted {
-    uint16_t answer; /* 0, or 21 for a run of over 256, or in which two share an identity of one series */
+    uint16_t answer; /* 0, or 21: for m3ap_count, a run of over 256, or in which two share an identity of one series */
     size_t count;    /* 0 beside 21 */
 };
 
 /* How many associations of the run have the TMGI. run_len counts associations. */
 struct m3ap_counted m3ap_count(const struct m3ap_association *run, size_t run_len, struct m3ap_tmgi tmgi);
+
+/* How many associations that the unit holds have the TMGI. Answer 21 for octets that are no unit. */
+struct m3ap_counted m3ap_count_in(const uint8_t *unit, size_t unit_len, struct m3ap_tmgi tmgi);
+
+struct m3ap_row {
+    uint32_t answer;                     /* 0, or 21 for octets that are no unit, and then all else is 0 */
+    uint32_t held;                       /* how many associations are held, 0 to 256 */
+    struct m3ap_association association; /* all zeros where k is not below held; session is 0 without has_session */
+};
+
+/* Association k, from 0, of those that the unit holds, in order of starting. */
+struct m3ap_row m3ap_row(const uint8_t *unit, size_t unit_len, uint32_t k);
+
+/* All that a unit remembers beside its associations. Nothing but held changes today: the others are those of a fresh unit. */
+struct m3ap_marks {
+    uint32_t answer;   /* 0, or 21 for octets that are no unit, and then all else is 0 */
+    uint32_t held;     /* how many associations are held, 0 to 256 */
+    uint32_t held_1;   /* likewise on a second link; 0 today */
+    uint32_t open;     /* 1 if a setup request is open, else 0; 0 today */
+    uint32_t open_1;   /* likewise on a second link; 0 today */
+    uint32_t edition;  /* the release of TS 36.444; 18 today */
+    uint32_t rooms;    /* how many associations can be held; 256 today */
+    uint32_t next;     /* the MCE identity that is tried first where one is picked; 0 today */
+    uint32_t settings; /* the number of the settings in force, 0 before any; 0 today */
+};
+
+struct m3ap_marks m3ap_marks(const uint8_t *unit, size_t unit_len);
 
 #ifdef __cplusplus
 }

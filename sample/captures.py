@@ -53,6 +53,11 @@ def evening(seed):
         yield identity(), usual()
     yield 0, WHOLE
 
+def held():
+    """Five that are held at the end, of six; the odd ones with a Session Identity."""
+    starts = [start(k, *[element(3, IGNORE, bytes([k & 255]))] * (k % 2), tmgi=b'\x62\xf2\x10' + bytes([0, 1, k & 255])) for k in (1, 2, 3, 258, 5, 6)]
+    return b''.join(entry(3000 + n, m) for n, m in enumerate(starts)) + entry(0, stop(3, 3002))
+
 ALONE = entry(0, RESET)
 captures = {
     'reset': ALONE,
@@ -62,6 +67,7 @@ captures = {
     'too-long': entry(0, bytes(8193)) + ALONE,
     'cut-too-long': entry(0, bytes(8193))[:-1],
     'no-octets': entry(0, b'') + ALONE,
+    'held': held(),
     'evening': b''.join(entry(o, m) for o, m in evening(20260101)),
 }
 # What is written is the message again, but where it has another criticality than the tables give, an element that is not of its table, or lacks one.

@@ -24,7 +24,7 @@ int main(void)
         if (fread(message, 1, length, stdin) < length)
             return 1;
         struct m3ap_answer r = m3ap_read(message, length, &record, sizeof record);
-        struct m3ap_answer w = {M3AP_NOT_WRITTEN, 0, 0};
+        struct m3ap_answer w = {M3AP_NOT_WRITTEN, 0, 0, 0, 0};
         if (r.answer == M3AP_CARRIED_OUT || r.answer == M3AP_REJECTED)
             w = m3ap_write(&record, sizeof record, message, length, room, sizeof room);
         int same = w.answer == M3AP_CARRIED_OUT && w.octets == length && memcmp(room, message, length) == 0;

@@ -12,12 +12,12 @@
 enum { STACK = 1 << 20, PAINT = 0xA5, SPARE = 512 };
 
 static uint8_t stack[STACK] __attribute__((aligned(4096)));
-static uint8_t table[M3AP_TABLE_OCTETS];
+static uint8_t unit[M3AP_UNIT_OCTETS];
 static uint8_t room[M3AP_MESSAGE_OCTETS];
 static uint8_t message[65535];
 static struct m3ap_record record;
 static struct m3ap_association run[257];
-static size_t deepest_call, deepest_read, deepest_write, deepest_count;
+static size_t deepest_call, deepest_read, deepest_write, deepest_count, deepest_row, deepest_count_in, deepest_marks;
 static int wrong;
 
 /* The painting leaves the frames that are in use alone. */
@@ -38,12 +38,12 @@ static void look(const uint8_t *here, size_t *deepest)
 }
 
 /* One call each, which paints before and looks afterwards. */
-__attribute__((noinline)) static struct m3ap_answer called(uint8_t *t, size_t t_len, const uint8_t *m, size_t m_len,
+__attribute__((noinline)) static struct m3ap_answer called(uint8_t *u, size_t u_len, const uint8_t *m, size_t m_len,
                                                            uint16_t offered, uint8_t *r, size_t r_len)
 {
     const uint8_t *here = __builtin_frame_address(0);
     paint(here);
-    struct m3ap_answer a = m3ap_call(t, t_len, m, m_len, offered, r, r_len);
+    struct m3ap_answer a = m3ap_call(u, u_len, m, m_len, offered, r, r_len);
     look(here, &deepest_call);
     return a;
 }
@@ -75,12 +75,39 @@ __attribute__((noinline)) static struct m3ap_counted counted(size_t length)
     return c;
 }
 
+__attribute__((noinline)) static struct m3ap_row row(const uint8_t *u, size_t u_len, uint32_t k)
+{
+    const uint8_t *here = __builtin_frame_address(0);
+    paint(here);
+    struct m3ap_row r = m3ap_row(u, u_len, k);
+    look(here, &deepest_row);
+    return r;
+}
+
+__attribute__((noinline)) static struct m3ap_counted counted_in(const uint8_t *u, size_t u_len, struct m3ap_tmgi tmgi)
+{
+    const uint8_t *here = __builtin_frame_address(0);
+    paint(here);
+    struct m3ap_counted c = m3ap_count_in(u, u_len, tmgi);
+    look(here, &deepest_count_in);
+    return c;
+}
+
+__attribute__((noinline)) static struct m3ap_marks marks(const uint8_t *u, size_t u_len)
+{
+    const uint8_t *here = __builtin_frame_address(0);
+    paint(here);
+    struct m3ap_marks m = m3ap_marks(u, u_len);
+    look(here, &deepest_marks);
+    return m;
+}
+
 static void expect(const char *what, struct m3ap_answer a, uint32_t answer, uint32_t place, uint32_t octets)
 {
-    if (a.answer == answer && a.place == place && a.octets == octets)
+    if (a.answer == answer && a.place == place && a.octets == octets && a.bit == 0 && a.wait == 0)
         return;
-    printf("%s: answer=%u place=%u octets=%u, not %u %u %u\n", what, (unsigned)a.answer, (unsigned)a.place, (unsigned)a.octets, (unsigned)answer,
-           (unsigned)place, (unsigned)octets);
+    printf("%s: answer=%u place=%u octets=%u bit=%u wait=%u, not %u %u %u 0 0\n", what, (unsigned)a.answer, (unsigned)a.place, (unsigned)a.octets,
+           (unsigned)a.bit, (unsigned)a.wait, (unsigned)answer, (unsigned)place, (unsigned)octets);
     wrong = 1;
 }
 
@@ -101,22 +128,31 @@ static void call_edges(void)
     /* The reply, and that the room behind it keeps its octets. */
     static const uint8_t acknowledged[] = {0x20, 0x04, 0x00, 0x11, 0x00, 0x00, 0x01, 0x00, 0x0f, 0x40, 0x0a,
                                            0x00, 0x00, 0x0e, 0x40, 0x05, 0x60, 0x00, 0x01, 0x00, 0x02, 0xEE};
-    uint8_t other[M3AP_TABLE_OCTETS];
+    uint8_t other[M3AP_UNIT_OCTETS] = {0};
 
     memset(room, 0xEE, sizeof room);
-    expect("reset", called(table, sizeof table, reset, sizeof reset, 0, room, sizeof room), M3AP_CARRIED_OUT, 0, 21);
+    expect("reset", called(unit, sizeof unit, reset, sizeof reset, 0, room, sizeof room), M3AP_CARRIED_OUT, 0, 21);
     expect_octets("reset", room, acknowledged, sizeof acknowledged);
     expect_octets("reset, end of room", room + 8191, acknowledged + 21, 1);
-    expect("room of 20", called(table, sizeof table, reset, sizeof reset, 0, room, 20), M3AP_NO_ROOM, 0, 0);
-    expect("no room", called(table, sizeof table, reset, sizeof reset, 0, NULL, 0), M3AP_NO_ROOM, 0, 0);
-    expect("no message", called(table, sizeof table, NULL, 0, 0, room, sizeof room), M3AP_FAULT, 0, 0);
-    expect("cut", called(table, sizeof table, reset, 26, 0, room, sizeof room), M3AP_FAULT, 3, 0);
-    expect("cut in the frame", called(table, sizeof table, reset, 3, 0, room, sizeof room), M3AP_FAULT, 3, 0);
-    expect("extension", called(table, sizeof table, extended, sizeof extended, 0, room, sizeof room), M3AP_EXTENSION, 4, 0);
-    expect("too long", called(table, sizeof table, message, 8193, 0, room, sizeof room), M3AP_TOO_LONG, 0, 0);
-    expect("no table", called(NULL, 0, reset, sizeof reset, 0, room, sizeof room), M3AP_NO_TABLE, 0, 0);
+    expect("room of 20", called(unit, sizeof unit, reset, sizeof reset, 0, room, 20), M3AP_NO_ROOM, 0, 0);
+    expect("no room", called(unit, sizeof unit, reset, sizeof reset, 0, NULL, 0), M3AP_NO_ROOM, 0, 0);
+    expect("no message", called(unit, sizeof unit, NULL, 0, 0, room, sizeof room), M3AP_FAULT, 0, 0);
+    expect("cut", called(unit, sizeof unit, reset, 26, 0, room, sizeof room), M3AP_FAULT, 3, 0);
+    expect("cut in the frame", called(unit, sizeof unit, reset, 3, 0, room, sizeof room), M3AP_FAULT, 3, 0);
+    expect("extension", called(unit, sizeof unit, extended, sizeof extended, 0, room, sizeof room), M3AP_EXTENSION, 4, 0);
+    expect("too long", called(unit, sizeof unit, message, 8193, 0, room, sizeof room), M3AP_TOO_LONG, 0, 0);
+    expect("no unit", called(NULL, 0, reset, sizeof reset, 0, room, sizeof room), M3AP_NO_UNIT, 0, 0);
+    expect("unit cut", called(other, sizeof other - 1, reset, sizeof reset, 0, room, sizeof room), M3AP_NO_UNIT, 0, 0);
+    expect("table alone", called(other, 3074, reset, sizeof reset, 0, room, sizeof room), M3AP_NO_UNIT, 0, 0);
+    /* No mark may be set. */
+    for (size_t at = 3074; at < sizeof other; at++) {
+        other[at] = 1;
+        expect("a mark set", called(other, sizeof other, reset, sizeof reset, 0, room, sizeof room), M3AP_NO_UNIT, 0, 0);
+        other[at] = 0;
+    }
+    expect("marks put back", called(other, sizeof other, reset, sizeof reset, 0, room, sizeof room), M3AP_CARRIED_OUT, 0, 21);
     memset(other, 0xFF, sizeof other);
-    expect("octets of no table", called(other, sizeof other, message, 8193, 0, room, sizeof room), M3AP_NO_TABLE, 0, 0);
+    expect("octets of no unit", called(other, sizeof other, message, 8193, 0, room, sizeof room), M3AP_NO_UNIT, 0, 0);
 }
 
 static void record_edges(void)
@@ -166,10 +202,67 @@ static void count_edges(void)
 {
     for (unsigned i = 0; i < 257; i++)
         run[i] = (struct m3ap_association){(uint16_t)i, (uint16_t)(i * 257), {{0, 0, 0}, {0, 0, 0}}, false, 0};
-    if (counted(256).count != 256 || counted(257).answer != M3AP_NO_TABLE) {
+    if (counted(256).count != 256 || counted(257).answer != M3AP_NO_UNIT) {
         printf("count: another answer\n");
         wrong = 1;
     }
+}
+
+static bool is_zero(const struct m3ap_association *a)
+{
+    static const struct m3ap_association zero;
+    return memcmp(a, &zero, sizeof zero) == 0;
+}
+
+/* What is said of a unit with the associations 1 to held, of which view_edges has the starts, or of octets that are none. */
+static void expect_view(const char *what, const uint8_t *u, size_t u_len, uint32_t answer, uint32_t held)
+{
+    /* The last, and none: behind it, and where the number would be one of a row if it were cut. */
+    const uint32_t ks[] = {held - 1, held, 256, 65536, UINT32_MAX};
+    struct m3ap_counted c = counted_in(u, u_len, (struct m3ap_tmgi){{0, 0, 0}, {0, 0, 0}});
+    struct m3ap_marks m = marks(u, u_len);
+    uint32_t good = answer == M3AP_CARRIED_OUT;
+
+    for (size_t i = 0; i < sizeof ks / sizeof *ks; i++) {
+        struct m3ap_row r = row(u, u_len, ks[i]);
+        const struct m3ap_association *a = &r.association;
+        bool as_due = ks[i] < held ? a->mme == held && a->mce == 1000 + held && a->has_session && a->session == 7 : is_zero(a);
+        if (r.answer == answer && r.held == held && as_due)
+            continue;
+        printf("%s: another row %u\n", what, (unsigned)ks[i]);
+        wrong = 1;
+    }
+    if (c.answer != answer || c.count != held) {
+        printf("%s: another count\n", what);
+        wrong = 1;
+    }
+    if (m.answer != answer || m.held != held || m.held_1 != 0 || m.open != 0 || m.open_1 != 0 || m.edition != 18 * good || m.rooms != 256 * good ||
+        m.next != 0 || m.settings != 0) {
+        printf("%s: other marks\n", what);
+        wrong = 1;
+    }
+}
+
+static void view_edges(void)
+{
+    /* START REQUEST with an MME identity, a TMGI of zeros, a Session Identity and carried values of one octet. */
+    static uint8_t start[] = {0, 0, 0, 50, 0, 0, 8, 0, 0, 0, 2, 0, 0, 0, 2, 0, 7, 0, 0, 0, 0, 0, 0, 0, 0, 3, 64, 1, 7, 0, 4, 0, 1, 1,
+                              0, 5, 0, 1, 1, 0, 6, 0, 1, 1, 0, 16, 0, 1, 1, 0, 7, 0, 1, 1};
+    static uint8_t other[M3AP_UNIT_OCTETS];
+
+    expect_view("no unit", NULL, 0, M3AP_NO_UNIT, 0);
+    expect_view("fresh unit", other, sizeof other, M3AP_CARRIED_OUT, 0);
+    for (unsigned k = 1; k <= 256; k++) {
+        start[11] = (uint8_t)(k >> 8);
+        start[12] = (uint8_t)k;
+        expect("start", called(other, sizeof other, start, sizeof start, (uint16_t)(1000 + k), room, sizeof room), M3AP_CARRIED_OUT, 0, 19);
+        if (k < 3 || k > 254)
+            expect_view("unit", other, sizeof other, M3AP_CARRIED_OUT, k);
+    }
+    expect_view("unit cut", other, sizeof other - 1, M3AP_NO_UNIT, 0);
+    expect_view("table alone", other, 3074, M3AP_NO_UNIT, 0);
+    other[3087] = 1;
+    expect_view("a mark set", other, sizeof other, M3AP_NO_UNIT, 0);
 }
 
 static void expect_stack(const char *what, size_t deepest)
@@ -188,11 +281,12 @@ static void *play(void *unused)
     call_edges();
     record_edges();
     count_edges();
+    view_edges();
     while (fread(head, 1, 4, stdin) == 4) {
         size_t length = head[2] * 256u + head[3];
         if (fread(message, 1, length, stdin) < length)
             break;
-        called(table, sizeof table, message, length, (uint16_t)(head[0] * 256u + head[1]), room, sizeof room);
+        called(unit, sizeof unit, message, length, (uint16_t)(head[0] * 256u + head[1]), room, sizeof room);
         if (was_read(message, length, &record, sizeof record).octets != 0)
             written(&record, sizeof record, message, length, room, sizeof room);
     }
@@ -204,13 +298,18 @@ int main(void)
     pthread_t thread;
     pthread_attr_t how;
 
-    if (sizeof(struct m3ap_answer) != 12 || sizeof(struct m3ap_record) != M3AP_RECORD_OCTETS || pthread_attr_init(&how) != 0 ||
+    if (m3ap_version() != M3AP_VERSION || sizeof(struct m3ap_answer) != 16 || sizeof(struct m3ap_record) != M3AP_RECORD_OCTETS ||
+        sizeof(struct m3ap_association) != 12 || sizeof(struct m3ap_row) != 20 || sizeof(struct m3ap_marks) != 36 || pthread_attr_init(&how) != 0 ||
         pthread_attr_setstack(&how, stack, sizeof stack) != 0 || pthread_create(&thread, &how, play, NULL) != 0 || pthread_join(thread, NULL) != 0)
         return 2;
-    printf("stack: call=%zu read=%zu write=%zu count=%zu\n", deepest_call, deepest_read, deepest_write, deepest_count);
+    printf("stack: call=%zu read=%zu write=%zu count=%zu row=%zu count_in=%zu marks=%zu\n", deepest_call, deepest_read, deepest_write, deepest_count,
+           deepest_row, deepest_count_in, deepest_marks);
     expect_stack("call", deepest_call);
     expect_stack("read", deepest_read);
     expect_stack("write", deepest_write);
     expect_stack("count", deepest_count);
+    expect_stack("row", deepest_row);
+    expect_stack("count_in", deepest_count_in);
+    expect_stack("marks", deepest_marks);
     return wrong;
 }

@@ -1,7 +1,7 @@
 #!/usr/bin/env python3
 """calls.py FILE..: adds calls to crates/vectors/stdin, and to crates/vectors/stdout what each must give:
-the lines 'call OFFERED ROOM HEX => ..' of a FILE (a line 'table' begins anew; in a file without one each call does), 01's bench examples of calls, and
-calls on octets of no table, encoded by hand from 000 and X.691."""
+the lines 'call OFFERED ROOM HEX => ..' of a FILE (a line 'table' begins with a fresh unit; in a file without one each call does), 01's bench examples of calls, and
+calls on octets of no unit, encoded by hand from 000 and X.691."""
 import re, sys
 from encoder import *
 
@@ -94,7 +94,7 @@ with open('crates/vectors/stdin', 'ab') as data, open('crates/vectors/stdout', '
                 held -= 1
                 gives(0, 8192, stop(m, c), 0, stopped(m, c), held)
 
-    # Octets of no table: 21 whatever the message is, and nothing changes. An octet that is put back makes it a table again.
+    # Octets of no unit: 21 whatever the message is, and nothing changes. An octet that is put back makes it a unit again.
     long = b'\0' * 8193
     for held, at, octet, back in ((0, 0, 2, 0), (1, 1, 0, 1), (1, 12, 2, 0), (1, 13, 1, 0), (0, 3073, 1, 0), (1, 14, 1, 0)):
         anew()
@@ -115,5 +115,15 @@ with open('crates/vectors/stdin', 'ab') as data, open('crates/vectors/stdout', '
         gives(5, 8192, start(3), 21, b'', 2)
         spoil(at, own)
         gives(5, 8192, start(3), 0, started(3, 5), 3)
-    # over 8,192 octets, on a table
+    # over 8,192 octets, on a unit
     gives(5, 8192, long, 1, b'', 3)
+    # a mark that is set, behind the table: on a fresh unit, and on one that holds an association
+    for held in (0, 1):
+        anew()
+        if held:
+            gives(3, 8192, start(1), 0, started(1, 3), 1)
+        for at in range(3074, 3088):
+            spoil(at, 1 << at % 8)
+            gives(4, 8192, start(2), 21, b'', held)
+            spoil(at, 0)
+        gives(4, 8192, start(2), 0, started(2, 4), held + 1)

@@ -12,7 +12,7 @@ def mce(n, crit): return element(1, crit, two(n))
 def item(m, c): return bytes([(m is not None) << 6 | (c is not None) << 5]) + b''.join(two(x) for x in (m, c) if x is not None)
 def items(list, crit): return bytes([len(list) - 1]) + b''.join(element(14, crit, item(*i)) for i in list)
 
-def start(m, *more): return message(0, 0, REJECT, [mme(m, REJECT), element(2, REJECT, bytes(7)), *more] + [element(i, REJECT, b'\1') for i in (4, 5, 6, 16, 7)])
+def start(m, *more, tmgi=bytes(6)): return message(0, 0, REJECT, [mme(m, REJECT), element(2, REJECT, b'\0' + tmgi), *more] + [element(i, REJECT, b'\1') for i in (4, 5, 6, 16, 7)])
 def started(m, c): return message(1, 0, REJECT, [mme(m, IGNORE), mce(c, IGNORE)])
 def failed(m, cause): return message(2, 0, REJECT, [mme(m, IGNORE), element(9, IGNORE, bytes([cause]))])
 def stop(m, c, *more): return message(0, 1, REJECT, [mme(m, REJECT), mce(c, REJECT), *more])

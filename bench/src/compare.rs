@@ -1,10 +1,11 @@
 //! Both programs on the same seeded cases, octet for octet.
 use crate::layout::{record_octets, record_of, Lists, ENTRIES, ENTRY, ENTRY_COUNT, ITEM, ITEMS, ITEM_COUNT, OCTETS, SLOT, SLOTS};
-use crate::ours::{self, Answer};
+use crate::ours::{self, Answer, Association, Counted, Marks, Row, Tmgi};
 use second::make::{Calls, Reads, Rng, Step};
 use second::text::hex;
-use second::{Fault, Read, Record, Refused, LIMIT, ROW_OCTETS, TABLE_OCTETS};
+use second::{Fault, Read, Record, Refused, LIMIT, ROW_OCTETS, TABLE_OCTETS, UNIT_OCTETS};
 use std::collections::BTreeMap;
+use std::fmt::Debug;
 
 /// What lent octets hold before a call, so that it is seen which of them were written.
 const FILL: u8 = 0xA5;
@@ -12,6 +13,9 @@ const FILL: u8 = 0xA5;
 const BEHIND: usize = 16;
 /// A room in which any message leaves octets.
 const LARGE: usize = LIMIT + 100;
+
+/// `M3AP_VERSION` of the header that `ours` is written from.
+const VERSION: u32 = 2;
 
 /// How many cases of a kind were equal, and with which answers.
 struct Kind {
@@ -46,6 +50,16 @@ impl Kind {
         Err(text)
     }
 
+    /// One case of what is said of a unit, which is asked for by `of`.
+    fn said<T: PartialEq + Debug>(&mut self, answer: u32, ours: T, second: T, unit: &[u8], of: &dyn Debug) -> Result<(), String> {
+        if ours == second {
+            *self.answers.entry(answer).or_default() += 1;
+            return Ok(());
+        }
+        let at = self.cases() + 1;
+        Err(format!("{}: case {at} differs\nours   {ours:?}\nsecond {second:?}\nof {of:?}\nunit ({} octets): {}", self.name, unit.len(), hex(unit)))
+    }
+
     fn print(&self) {
         let by_answer: Vec<String> = self.answers.iter().map(|(answer, n)| format!("{answer}: {n}")).collect();
         println!("{}: {}, equal (answer {})", self.name, self.cases(), by_answer.join(", "));
@@ -53,7 +67,7 @@ impl Kind {
 }
 
 fn answered(answer: u32, place: usize, octets: usize) -> Answer {
-    Answer { answer, place: place as u32, octets: octets as u32 }
+    Answer { answer, place: place as u32, octets: octets as u32, bit: 0, wait: 0 }
 }
 
 // ---- the second program, by the header
@@ -80,9 +94,47 @@ fn write_by_second(record: Option<&Record>, room: &mut [u8]) -> Answer {
     }
 }
 
-pub fn call_by_second(table: &mut [u8], message: &[u8], offered: u16, room: &mut [u8]) -> Answer {
-    let done = second::call(table, message, offered, room);
+pub fn call_by_second(unit: &mut [u8], message: &[u8], offered: u16, room: &mut [u8]) -> Answer {
+    let done = second::call(unit, message, offered, room);
     answered(done.answer.into(), done.offset, done.reply)
+}
+
+pub fn row_by_second(unit: &[u8], k: u32) -> Row {
+    let Some((held, row)) = second::row_in(unit, k) else {
+        return Row { answer: 21, ..Row::default() };
+    };
+    let association = row.map_or(Association::default(), |a| Association {
+        mme: a.mme,
+        mce: a.mce,
+        tmgi: Tmgi { plmn: a.tmgi.plmn, service: a.tmgi.service },
+        has_session: a.session.is_some().into(),
+        session: a.session.unwrap_or(0),
+    });
+    Row { answer: 0, held: held as u32, association }
+}
+
+pub fn count_by_second(unit: &[u8], tmgi: Tmgi) -> Counted {
+    match second::count_in(unit, second::Tmgi { plmn: tmgi.plmn, service: tmgi.service }) {
+        Some(count) => Counted { answer: 0, count },
+        None => Counted { answer: 21, count: 0 },
+    }
+}
+
+pub fn marks_by_second(unit: &[u8]) -> Marks {
+    match second::marks(unit) {
+        None => Marks { answer: 21, ..Marks::default() },
+        Some(m) => Marks {
+            answer: 0,
+            held: m.held[0] as u32,
+            held_1: m.held[1] as u32,
+            open: m.open[0].into(),
+            open_1: m.open[1].into(),
+            edition: m.edition,
+            rooms: m.rooms,
+            next: m.next.into(),
+            settings: m.settings.into(),
+        },
+    }
 }
 
 // ---- reading and writing
@@ -228,79 +280,138 @@ fn changed(rng: &mut Rng, octet: u8) -> u8 {
     if other == octet { octet ^ 1 } else { other }
 }
 
-// ---- calls
+// ---- calls, and what a unit says
 
-struct Tables {
+struct Units {
     rng: Rng,
     calls: Kind,
     damaged: Kind,
-    tables: [Vec<u8>; 2],
+    rows: Kind,
+    counts: Kind,
+    marks: Kind,
+    units: [Vec<u8>; 2],
     rooms: [Vec<u8>; 2],
 }
 
-impl Tables {
+impl Units {
     fn step(&mut self, step: Step) -> Result<(), String> {
         let Step::Call { offered, room, message, .. } = step else {
-            self.tables.iter_mut().for_each(|table| table.fill(0));
+            self.units.iter_mut().for_each(|unit| unit.fill(0));
             return Ok(());
         };
-        let mut spoilt = spoil(&mut self.rng, &self.tables[0]);
+        let mut spoilt = spoil(&mut self.rng, &self.units[0]);
+        self.look(&spoilt)?;
         one_call(&mut self.damaged, [&mut spoilt.clone(), &mut spoilt], &mut self.rooms, offered, room.into(), &message)?;
-        let [a, b] = &mut self.tables;
-        one_call(&mut self.calls, [a, b], &mut self.rooms, offered, room.into(), &message)
+        let [a, b] = &mut self.units;
+        one_call(&mut self.calls, [a, b], &mut self.rooms, offered, room.into(), &message)?;
+        let unit = self.units[0].clone();
+        self.look(&unit)
+    }
+
+    /// What both say of a unit, or of octets that are none.
+    fn look(&mut self, unit: &[u8]) -> Result<(), String> {
+        let k = number_of_row(&mut self.rng, unit);
+        let row = ours::row(unit, k);
+        self.rows.said(row.answer, row, row_by_second(unit, k), unit, &k)?;
+        let tmgi = tmgi_of(&mut self.rng, unit);
+        let counted = ours::count_in(unit, tmgi);
+        self.counts.said(counted.answer.into(), counted, count_by_second(unit, tmgi), unit, &tmgi)?;
+        let marks = ours::marks(unit);
+        self.marks.said(marks.answer, marks, marks_by_second(unit), unit, &())
     }
 }
 
-/// A call by both, on tables that are equal.
+/// A call by both, on units that are equal.
 fn one_call(kind: &mut Kind, [x, y]: [&mut Vec<u8>; 2], rooms: &mut [Vec<u8>; 2], offered: u16, room: usize, message: &[u8]) -> Result<(), String> {
     let before = x.clone();
     let (a, b) = front(rooms, room);
     let got = ours::call(x, message, offered, &mut a[..room]);
     let due = call_by_second(y, message, offered, &mut b[..room]);
-    kind.case((got, &[x, a]), (due, &[y, b]), &[("table", &before), ("offered", &offered.to_be_bytes()), ("message", message)])
+    kind.case((got, &[x, a]), (due, &[y, b]), &[("unit", &before), ("offered", &offered.to_be_bytes()), ("message", message)])
 }
 
-/// A table with some octets changed, an identity put in another row too, or of another size: mostly none, and now and then another table.
-fn spoil(rng: &mut Rng, table: &[u8]) -> Vec<u8> {
-    let mut table = table.to_vec();
-    let held = u16::from_be_bytes([table[0], table[1]]) as usize;
-    match rng.below(12) {
+/// How many rows the octets say that there are, as far as they have room for them.
+fn said_held(unit: &[u8]) -> usize {
+    let said = unit.get(..2).map_or(0, |n| u16::from_be_bytes([n[0], n[1]]).into());
+    unit.len().saturating_sub(2).min(said * ROW_OCTETS) / ROW_OCTETS
+}
+
+/// The number of a row: mostly of one that is held, or of the first that is not; or a number that is such a one if it is cut.
+fn number_of_row(rng: &mut Rng, unit: &[u8]) -> u32 {
+    let held = said_held(unit);
+    let k = rng.below(held + 1) as u32;
+    match rng.below(8) {
+        0 => held as u32,
+        1 => rng.pick(&[255, 256, 257, 65535, 65536, u32::MAX]),
+        2 => k + (1 << rng.pick(&[8, 16, 31])),
+        3 => rng.word() as u32,
+        _ => k,
+    }
+}
+
+/// A TMGI: mostly one that is held, or that differs from it in an octet; or zeros.
+fn tmgi_of(rng: &mut Rng, unit: &[u8]) -> Tmgi {
+    let held = said_held(unit);
+    let mut octets = [0; 6];
+    if held > 0 && !rng.one_in(8) {
+        octets.copy_from_slice(&unit[2 + ROW_OCTETS * rng.below(held) + 4..][..6]);
+    }
+    if rng.one_in(4) {
+        let at = rng.below(6);
+        octets[at] = changed(rng, octets[at]);
+    }
+    let [a, b, c, d, e, f] = octets;
+    Tmgi { plmn: [a, b, c], service: [d, e, f] }
+}
+
+/// A unit with some octets changed, an identity put in another row too, a mark set, or of another size: mostly none, and now and then another unit.
+fn spoil(rng: &mut Rng, unit: &[u8]) -> Vec<u8> {
+    let mut unit = unit.to_vec();
+    let held = u16::from_be_bytes([unit[0], unit[1]]) as usize;
+    match rng.below(14) {
         0 => {
-            let size = rng.pick(&[0, 1, 2, TABLE_OCTETS - ROW_OCTETS, TABLE_OCTETS - 1, TABLE_OCTETS + 1, TABLE_OCTETS + ROW_OCTETS]);
-            table.resize(size, 0);
+            let size = rng.pick(&[0, 1, 2, TABLE_OCTETS - 1, TABLE_OCTETS, TABLE_OCTETS + 1, UNIT_OCTETS - ROW_OCTETS, UNIT_OCTETS - 1, UNIT_OCTETS + 1, 2 * UNIT_OCTETS]);
+            unit.resize(size, 0);
         }
         1 => {
             let at = rng.below(2);
-            table[at] = changed(rng, table[at]);
+            unit[at] = changed(rng, unit[at]);
         }
         2 | 3 if held > 1 => {
             let series = 2 * rng.below(2);
             let (from, to) = (2 + ROW_OCTETS * rng.below(held) + series, 2 + ROW_OCTETS * rng.below(held) + series);
-            table.copy_within(from..from + 2, to);
+            unit.copy_within(from..from + 2, to);
         }
         4 | 5 if held > 0 => {
             // The flag of a Session Identity, or the identity.
             let at = 2 + ROW_OCTETS * rng.below(held) + rng.between(10, 11);
-            table[at] = changed(rng, table[at]);
+            unit[at] = changed(rng, unit[at]);
         }
         6..=8 if held > 0 => {
             let at = 2 + rng.below(ROW_OCTETS * held);
-            table[at] = changed(rng, table[at]);
+            unit[at] = changed(rng, unit[at]);
         }
         9 if held < 256 => {
             let at = 2 + ROW_OCTETS * held + rng.below(ROW_OCTETS);
-            table[at] = changed(rng, table[at]);
+            unit[at] = changed(rng, unit[at]);
+        }
+        10 | 11 => {
+            let at = rng.between(TABLE_OCTETS, UNIT_OCTETS - 1);
+            unit[at] = changed(rng, unit[at]);
         }
         _ => {
-            let at = rng.below(TABLE_OCTETS);
-            table[at] = changed(rng, table[at]);
+            let at = rng.below(UNIT_OCTETS);
+            unit[at] = changed(rng, unit[at]);
         }
     }
-    table
+    unit
 }
 
 /// At least `count` cases of each kind: messages are made until that many records were read.
 pub fn compare(seed: u64, count: usize) -> Result<(), String> {
+    if ours::version() != VERSION {
+        return Err(format!("the archive is of version {}, not {VERSION}", ours::version()));
+    }
     // A room's size is two octets in a call's case.
     let rooms = || [vec![FILL; usize::from(u16::MAX) + BEHIND], vec![FILL; usize::from(u16::MAX) + BEHIND]];
     let mut m = Messages {
@@ -321,20 +432,23 @@ pub fn compare(seed: u64, count: usize) -> Result<(), String> {
     for kind in [&m.reads, &m.small].into_iter().chain(&m.writes).chain([&m.damaged]) {
         kind.print();
     }
-    let mut t = Tables {
+    let mut u = Units {
         rng: Rng::new(!seed),
         calls: Kind::new("calls"),
-        damaged: Kind::new("calls on damaged tables"),
-        tables: [vec![0; TABLE_OCTETS], vec![0; TABLE_OCTETS]],
+        damaged: Kind::new("calls on damaged units"),
+        rows: Kind::new("rows of units, good and damaged"),
+        counts: Kind::new("counts by TMGI, likewise"),
+        marks: Kind::new("marks, likewise"),
+        units: [vec![0; UNIT_OCTETS], vec![0; UNIT_OCTETS]],
         rooms: rooms(),
     };
     for step in Calls::new(seed) {
-        if t.calls.cases() >= count {
+        if u.calls.cases() >= count {
             break;
         }
-        t.step(step)?;
+        u.step(step)?;
     }
-    for kind in [&t.calls, &t.damaged] {
+    for kind in [&u.calls, &u.damaged, &u.rows, &u.counts, &u.marks] {
         kind.print();
     }
     Ok(())

@@ -76,11 +76,11 @@ mod tests {
 
     #[test]
     fn an_evening_is_mostly_carried_out() {
-        let mut table = [0; second::TABLE_OCTETS];
+        let mut unit = [0; second::UNIT_OCTETS];
         let (mut answers, mut held) = ([0; 22], 0);
         for (offered, message) in evening(2000) {
-            answers[second::call(&mut table, &message, offered, &mut [0; second::LIMIT]).answer as usize] += 1;
-            held += u16::from_be_bytes([table[0], table[1]]) as usize;
+            answers[second::call(&mut unit, &message, offered, &mut [0; second::LIMIT]).answer as usize] += 1;
+            held += u16::from_be_bytes([unit[0], unit[1]]) as usize;
         }
         assert!(answers[0] > 1000, "{answers:?}");
         assert!((30..150).contains(&(held / 2000)), "{}", held / 2000);

@@ -1,9 +1,9 @@
 //! Times, as ratios to the second program. Both take turns on the same octets and the same rooms, which the rounds before have warmed; the least round counts.
-use crate::compare::call_by_second;
+use crate::compare::{call_by_second, count_by_second, marks_by_second, row_by_second};
 use crate::layout::{record_octets, record_of, Lists, OCTETS};
 use crate::made::{acknowledge, evening, identities, reset, start, stop, CHOSEN};
-use crate::ours::{self, Answer};
-use second::{Read, Reading, LIMIT, TABLE_OCTETS};
+use crate::ours::{self, Answer, Tmgi};
+use second::{Read, Reading, LIMIT, UNIT_OCTETS};
 use std::cell::RefCell;
 use std::hint::black_box;
 use std::time::Instant;
@@ -72,7 +72,7 @@ fn write_rows(name: &str, message: &[u8]) {
     record_octets(&reading(message), message, &mut octets);
     let (mut lists, mut lists_again) = (Lists::new(), Lists::new());
     let record = record_of(&octets, message, &mut lists).expect("a record");
-    assert_eq!(ours::write(&octets, message, &mut room), Answer { answer: 0, place: 0, octets: message.len() as u32 });
+    assert_eq!(ours::write(&octets, message, &mut room), Answer { octets: message.len() as u32, ..CARRIED_OUT });
     assert_eq!(second::write(&record, &mut other), Ok(message.len()));
     assert_eq!(room, other);
     let name = format!("write {name} ({} octets)", message.len());
@@ -90,6 +90,9 @@ fn write_rows(name: &str, message: &[u8]) {
 
 // ---- calls
 
+/// Answer 0 without a reply.
+const CARRIED_OUT: Answer = Answer { answer: 0, place: 0, octets: 0, bit: 0, wait: 0 };
+
 type Call = fn(&mut [u8], &[u8], u16, &mut [u8]) -> Answer;
 
 /// The same turn by both. It gives its last answer.
@@ -102,54 +105,74 @@ fn call_row(name: &str, per: usize, mut turn: impl FnMut(Call) -> Answer) {
     row(name, per, &mut || by(ours::call), &mut || by(call_by_second));
 }
 
-/// A table of the first n associations.
+/// A unit of the first n associations.
 fn held(n: u16) -> Vec<u8> {
     holding(&(0..n).map(identities).collect::<Vec<_>>())
 }
 
 fn holding(pairs: &[(u16, u16)]) -> Vec<u8> {
-    let mut table = vec![0; TABLE_OCTETS];
+    let mut unit = vec![0; UNIT_OCTETS];
     for &(m, c) in pairs {
-        assert_eq!(call_by_second(&mut table, &start(m), c, &mut [0; LIMIT]).answer, 0);
+        assert_eq!(call_by_second(&mut unit, &start(m), c, &mut [0; LIMIT]).answer, 0);
     }
-    table
+    unit
 }
 
-/// A reset, on a table that is put back each time (for both).
+/// A reset, on a unit that is put back each time (for both).
 fn reset_row(items: &[(u16, u16)], n: u16) {
     let full = held(n);
-    let mut table = full.clone();
+    let mut unit = full.clone();
     let mut room = [0; LIMIT];
     let message = reset(items);
     let plural = if items.len() == 1 { "" } else { "s" };
     call_row(&format!("call RESET, {} item{plural} ({} octets), {n} held", items.len(), message.len()), 1, |call| {
-        table.copy_from_slice(&full);
-        call(&mut table, black_box(&message), 0, &mut room)
+        unit.copy_from_slice(&full);
+        call(&mut unit, black_box(&message), 0, &mut room)
     });
 }
 
 fn call_rows(items: &[(u16, u16)]) {
     let mut room = [0; LIMIT];
     for n in [0, 16, 255] {
-        let mut table = held(n);
+        let mut unit = held(n);
         let (a, z) = (start(300), stop(300, 300));
         call_row(&format!("call START REQUEST, then STOP REQUEST, {n} held"), 1, |call| {
-            black_box(call(&mut table, black_box(&a), 300, &mut room));
-            call(&mut table, black_box(&z), 0, &mut room)
+            black_box(call(&mut unit, black_box(&a), 300, &mut room));
+            call(&mut unit, black_box(&z), 0, &mut room)
         });
     }
     reset_row(items, 256);
     reset_row(items, 0);
-    let mut table = held(255);
+    let mut unit = held(255);
     let one = reset(&[identities(300)]);
     call_row("call RESET, 1 item that is not held, 255 held", 1, |call| {
-        call(&mut table, black_box(&one), 0, &mut room)
+        call(&mut unit, black_box(&one), 0, &mut room)
     });
     let entries = evening(2000);
     call_row(&format!("capture of {} entries by calls, per entry", entries.len()), entries.len(), |call| {
-        table.fill(0);
-        entries.iter().fold(Answer { answer: 0, place: 0, octets: 0 }, |_, (offered, message)| black_box(call(&mut table, message, *offered, &mut room)))
+        unit.fill(0);
+        entries.iter().fold(CARRIED_OUT, |_, (offered, message)| black_box(call(&mut unit, message, *offered, &mut room)))
     });
+}
+
+/// What is said of a unit: all of it is checked first, by both.
+fn view_rows() {
+    let tmgi = Tmgi { plmn: [1, 2, 3], service: [4, 5, 6] };
+    for n in [0, 16, 256] {
+        let unit = held(n);
+        let k = u32::from(n.saturating_sub(1));
+        assert_eq!(ours::row(&unit, k), row_by_second(&unit, k));
+        assert_eq!(ours::count_in(&unit, tmgi), count_by_second(&unit, tmgi));
+        assert_eq!(count_by_second(&unit, tmgi).count, usize::from(n));
+        assert_eq!(ours::marks(&unit), marks_by_second(&unit));
+        let unit = || black_box(&unit[..]);
+        let (mut a, mut b) = (|| _ = black_box(ours::row(unit(), k)), || _ = black_box(row_by_second(unit(), k)));
+        row(&format!("row {k}, {n} held"), 1, &mut a, &mut b);
+        let (mut a, mut b) = (|| _ = black_box(ours::count_in(unit(), tmgi)), || _ = black_box(count_by_second(unit(), tmgi)));
+        row(&format!("count by TMGI, {n} held"), 1, &mut a, &mut b);
+        let (mut a, mut b) = (|| _ = black_box(ours::marks(unit())), || _ = black_box(marks_by_second(unit())));
+        row(&format!("marks, {n} held"), 1, &mut a, &mut b);
+    }
 }
 
 fn growth(items: &[(u16, u16)]) {
@@ -157,9 +180,9 @@ fn growth(items: &[(u16, u16)]) {
     let (m, c) = identities(300);
     let message = stop(m, c);
     for n in [0, 1, 4, 16, 64, 256] {
-        let mut table = held(n);
+        let mut unit = held(n);
         call_row(&format!("call STOP REQUEST, not held, {n} held"), 1, |call| {
-            call(&mut table, black_box(&message), 0, &mut room)
+            call(&mut unit, black_box(&message), 0, &mut room)
         });
     }
     for n in [1, 4, 16, 64, 256] {
@@ -174,17 +197,17 @@ fn chosen() {
         let pairs: Vec<_> = (0..256).map(|k| (identity(k), identity(k))).collect();
         let (m, _) = pairs[255];
         let (a, z) = (start(m), stop(m, m));
-        let mut table = holding(&pairs[..255]);
+        let mut unit = holding(&pairs[..255]);
         call_row(&format!("call START REQUEST, then STOP REQUEST, 255 held, identities {how}"), 1, |call| {
-            black_box(call(&mut table, black_box(&a), m, &mut room));
-            call(&mut table, black_box(&z), 0, &mut room)
+            black_box(call(&mut unit, black_box(&a), m, &mut room));
+            call(&mut unit, black_box(&z), 0, &mut room)
         });
         let full = holding(&pairs);
         let message = reset(&pairs);
-        let mut table = full.clone();
+        let mut unit = full.clone();
         call_row(&format!("call RESET, 256 items, 256 held, identities {how}"), 1, |call| {
-            table.copy_from_slice(&full);
-            call(&mut table, black_box(&message), 0, &mut room)
+            unit.copy_from_slice(&full);
+            call(&mut unit, black_box(&message), 0, &mut room)
         });
     }
 }
@@ -204,4 +227,7 @@ pub fn measure() {
     println!();
     head("### Identities that a peer chooses");
     chosen();
+    println!();
+    head("### Looking at a unit");
+    view_rows();
 }

@@ -1,4 +1,4 @@
-//! M3AP at the coordination unit: reader, writer and table call for eight messages.
+//! M3AP at the coordination unit: reader, writer and unit call for eight messages, and what a unit holds.
 //! Written from the scope paper (01), its readings and TS 36.444 9.3.3 to 9.3.7 alone.
 #![deny(warnings)]
 #![forbid(unsafe_code)]
@@ -1132,13 +1132,15 @@ pub fn write(record: &Record, room: &mut [u8]) -> Result<usize, Refused> {
     Ok(total)
 }
 
-// ---------------------------------------------------------------- the table call
+// ---------------------------------------------------------------- the unit call
 
-/// Octets of a lent table: the number of associations, high octet first, then 256 rows of 12
-/// octets in order of starting, zeros behind the last. A row: MME identity, MCE identity (high
-/// first), PLMN, service, then 1 and the Session Identity, or 0 and 0.
+/// Octets of the table at the front of a lent unit: the number of associations, high octet first,
+/// then 256 rows of 12 octets in order of starting, zeros behind the last. A row: MME identity, MCE
+/// identity (high first), PLMN, service, then 1 and the Session Identity, or 0 and 0.
 pub const TABLE_OCTETS: usize = 2 + MOST * ROW_OCTETS;
 pub const ROW_OCTETS: usize = 12;
+/// Octets of a lent unit: the table, and behind it marks, of which none is set yet.
+pub const UNIT_OCTETS: usize = TABLE_OCTETS + 14;
 
 const fn row_at(row: usize) -> usize {
     2 + row * ROW_OCTETS
@@ -1152,7 +1154,7 @@ pub struct Done {
     pub reply: usize,
 }
 
-/// Finds rows of a table by one of their identities: open addressing, 512 places for at most
+/// Finds rows of a unit by one of their identities: open addressing, 512 places for at most
 /// 256 rows, each holding the row's number plus 1.
 struct Index {
     places: [u16; 512],
@@ -1198,9 +1200,13 @@ struct Held {
     mce: Index,
 }
 
-/// The associations of a table, or none if the octets are no table.
-fn held(table: &[u8]) -> Option<Held> {
-    if table.len() != TABLE_OCTETS {
+/// The associations of a unit, or none if the octets are no unit.
+fn held(unit: &[u8]) -> Option<Held> {
+    if unit.len() != UNIT_OCTETS {
+        return None;
+    }
+    let (table, marks) = unit.split_at(TABLE_OCTETS);
+    if marks.iter().any(|&mark| mark != 0) {
         return None;
     }
     let count = be16(table, 0) as usize;
@@ -1234,24 +1240,24 @@ impl Held {
     }
 }
 
-fn set_count(table: &mut [u8], count: usize) {
-    table[..2].copy_from_slice(&(count as u16).to_be_bytes());
+fn set_count(unit: &mut [u8], count: usize) {
+    unit[..2].copy_from_slice(&(count as u16).to_be_bytes());
 }
 
 /// Removes the rows marked in `gone`; the others keep their order.
-fn remove(table: &mut [u8], count: usize, gone: &[bool; MOST]) {
+fn remove(unit: &mut [u8], count: usize, gone: &[bool; MOST]) {
     let mut kept = 0;
     for (row, &gone) in gone.iter().enumerate().take(count) {
         if gone {
             continue;
         }
         if kept != row {
-            table.copy_within(row_at(row)..row_at(row + 1), row_at(kept));
+            unit.copy_within(row_at(row)..row_at(row + 1), row_at(kept));
         }
         kept += 1;
     }
-    table[row_at(kept)..row_at(count)].fill(0);
-    set_count(table, kept);
+    unit[row_at(kept)..row_at(count)].fill(0);
+    set_count(unit, kept);
 }
 
 fn bare(answer: u8) -> Done {
@@ -1284,10 +1290,10 @@ fn finish<'a>(answer: u8, mut reply: Record<'a>, frame: &Frame, listed: Option<E
     }
 }
 
-/// Takes one message on a lent table: the new table stands in the old one's place (unchanged
+/// Takes one message on a lent unit: the new unit stands in the old one's place (unchanged
 /// unless the answer is 0), the reply at the front of the room.
-pub fn call(table: &mut [u8], message: &[u8], offered: u16, room: &mut [u8]) -> Done {
-    let Some(held) = held(table) else {
+pub fn call(unit: &mut [u8], message: &[u8], offered: u16, room: &mut [u8]) -> Done {
+    let Some(held) = held(unit) else {
         return bare(21);
     };
     if message.len() > LIMIT {
@@ -1350,14 +1356,14 @@ pub fn call(table: &mut [u8], message: &[u8], offered: u16, room: &mut [u8]) -> 
             let done = finish(0, reply, room);
             if done.answer == 0 {
                 let at = row_at(held.count);
-                let row = &mut table[at..at + ROW_OCTETS];
+                let row = &mut unit[at..at + ROW_OCTETS];
                 row[0..2].copy_from_slice(&mme.to_be_bytes());
                 row[2..4].copy_from_slice(&offered.to_be_bytes());
                 row[4..7].copy_from_slice(&tmgi.plmn);
                 row[7..10].copy_from_slice(&tmgi.service);
                 row[10] = record.session.is_some() as u8;
                 row[11] = record.session.unwrap_or(0);
-                set_count(table, held.count + 1);
+                set_count(unit, held.count + 1);
             }
             done
         }
@@ -1373,9 +1379,9 @@ pub fn call(table: &mut [u8], message: &[u8], offered: u16, room: &mut [u8]) -> 
             };
             let done = finish(0, reply, room);
             if done.answer == 0 {
-                table.copy_within(row_at(row + 1)..row_at(held.count), row_at(row));
-                table[row_at(held.count - 1)..row_at(held.count)].fill(0);
-                set_count(table, held.count - 1);
+                unit.copy_within(row_at(row + 1)..row_at(held.count), row_at(row));
+                unit[row_at(held.count - 1)..row_at(held.count)].fill(0);
+                set_count(unit, held.count - 1);
             }
             done
         }
@@ -1394,7 +1400,7 @@ pub fn call(table: &mut [u8], message: &[u8], offered: u16, room: &mut [u8]) -> 
                 return done;
             }
             match part {
-                None => table[..row_at(held.count)].fill(0),
+                None => unit[..row_at(held.count)].fill(0),
                 Some(items) => {
                     let mut gone = [false; MOST];
                     let mut any = false;
@@ -1405,7 +1411,7 @@ pub fn call(table: &mut [u8], message: &[u8], offered: u16, room: &mut [u8]) -> 
                         }
                     }
                     if any {
-                        remove(table, held.count, &gone);
+                        remove(unit, held.count, &gone);
                     }
                 }
             }
@@ -1414,12 +1420,64 @@ pub fn call(table: &mut [u8], message: &[u8], offered: u16, room: &mut [u8]) -> 
     }
 }
 
+// ---------------------------------------------------------------- what a unit holds
+
+#[derive(Clone, Copy, PartialEq, Eq, Debug)]
+pub struct Association {
+    pub mme: u16,
+    pub mce: u16,
+    pub tmgi: Tmgi,
+    pub session: Option<u8>,
+}
+
+/// The rows that are held, of octets that are a unit.
+fn rows(unit: &[u8], count: usize) -> impl Iterator<Item = Association> + '_ {
+    unit[2..].chunks_exact(ROW_OCTETS).take(count).map(|row| Association {
+        mme: be16(row, 0),
+        mce: be16(row, 2),
+        tmgi: Tmgi { plmn: [row[4], row[5], row[6]], service: [row[7], row[8], row[9]] },
+        session: (row[10] == 1).then_some(row[11]),
+    })
+}
+
+/// How many associations a unit holds, and the k-th of them, from 0, if there is one. None: no unit.
+pub fn row_in(unit: &[u8], k: u32) -> Option<(usize, Option<Association>)> {
+    let count = held(unit)?.count;
+    let association = rows(unit, count).nth(k as usize);
+    Some((count, association))
+}
+
+/// How many associations of a unit have the TMGI. None: no unit.
+pub fn count_in(unit: &[u8], tmgi: Tmgi) -> Option<usize> {
+    let count = held(unit)?.count;
+    Some(rows(unit, count).filter(|row| row.tmgi == tmgi).count())
+}
+
+/// All that a unit remembers beside its rows.
+#[derive(Clone, Copy, PartialEq, Eq, Debug)]
+pub struct Marks {
+    /// Associations of each link.
+    pub held: [usize; 2],
+    /// Whether a setup request is open on each link.
+    pub open: [bool; 2],
+    pub edition: u32,
+    pub rooms: u32,
+    pub next: u16,
+    pub settings: u16,
+}
+
+/// The marks of a unit: but for how many are held, those of a fresh one. None: no unit.
+pub fn marks(unit: &[u8]) -> Option<Marks> {
+    let count = held(unit)?.count;
+    Some(Marks { held: [count, 0], open: [false; 2], edition: 18, rooms: MOST as u32, next: 0, settings: 0 })
+}
+
 // ---------------------------------------------------------------- the capture program
 
 /// Plays a capture and appends what the capture program writes.
 pub fn capture(input: &[u8], out: &mut String) {
     use std::fmt::Write;
-    let mut table = vec![0; TABLE_OCTETS];
+    let mut unit = vec![0; UNIT_OCTETS];
     let mut room = vec![0; LIMIT];
     let mut rest = input;
     let mut messages = 0;
@@ -1433,8 +1491,8 @@ pub fn capture(input: &[u8], out: &mut String) {
         let (message, behind) = rest[4..].split_at(be16(rest, 2) as usize);
         rest = behind;
         messages += 1;
-        let done = call(&mut table, message, offered, &mut room);
-        let (answer, reply, held) = (done.answer, done.reply, be16(&table, 0));
+        let done = call(&mut unit, message, offered, &mut room);
+        let (answer, reply, held) = (done.answer, done.reply, be16(&unit, 0));
         let _ = writeln!(out, "message={messages}\nanswer={answer}\nreply={reply}\nheld={held}");
     }
     let _ = writeln!(out, "messages={messages}\ncut={cut}");

@@ -2,13 +2,13 @@
 #![forbid(unsafe_code)]
 
 use second::text::{call_parts, call_verdict, read_verdict, unhex};
-use second::{capture, check, make, TABLE_OCTETS};
+use second::{capture, check, make, UNIT_OCTETS};
 use std::io::{self, BufRead, BufWriter, Write};
 use std::process::ExitCode;
 
 const USAGE: &str = "usage:
   second check WITNESSES.txt [VECTORS.jsonl ..]
-  second make SEED COUNT reads|calls|calls-table|calls-binary
+  second make SEED COUNT reads|calls|calls-unit|calls-binary
   second judge < LINES
   second capture FILE";
 
@@ -61,7 +61,7 @@ fn make_all(seed: &str, count: &str, kind: &str) -> Done {
     match kind {
         "reads" => make::reads(seed, count, &mut out),
         "calls" => make::calls(seed, count, make::Form::Text, &mut out),
-        "calls-table" => make::calls(seed, count, make::Form::Digest, &mut out),
+        "calls-unit" => make::calls(seed, count, make::Form::Digest, &mut out),
         "calls-binary" => make::calls(seed, count, make::Form::Binary, &mut out),
         _ => return Err(USAGE.into()),
     }
@@ -73,19 +73,19 @@ fn make_all(seed: &str, count: &str, kind: &str) -> Done {
 /// Gives our verdict on cases from elsewhere: lines as `make` prints them (what stands behind
 /// ` =>` is dropped).
 fn judge() -> Done {
-    let mut table = vec![0; TABLE_OCTETS];
+    let mut unit = vec![0; UNIT_OCTETS];
     let mut out = BufWriter::new(io::stdout().lock());
     for line in io::stdin().lock().lines() {
         let line = line.map_err(|e| e.to_string())?;
         let shown = line.split_once(" => ").map_or(&line[..], |(case, _)| case);
         let case = shown.trim();
         let verdict = if case == "table" {
-            table.fill(0);
+            unit.fill(0);
             writeln!(out, "table").map_err(|e| e.to_string())?;
             continue;
         } else if let Some(text) = case.strip_prefix("call ") {
             let (offered, room, octets) = call_parts(text).ok_or_else(|| format!("not understood: {case}"))?;
-            call_verdict(&mut table, offered, room, &octets)
+            call_verdict(&mut unit, offered, room, &octets)
         } else {
             let octets = unhex(case.strip_prefix("read ").unwrap_or(case));
             read_verdict(&octets.ok_or_else(|| format!("not understood: {case}"))?)

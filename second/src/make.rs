@@ -1,8 +1,8 @@
-//! Seeded cases: messages, mostly damaged, and runs of table calls.
+//! Seeded cases: messages, mostly damaged, and runs of unit calls.
 //! The messages are put together bit by bit here, without the writer.
 
 use crate::text::{call_verdict, hex, read_verdict};
-use crate::{call, Field, Item, Kind, CAUSES, ID_ITEM, KINDS, LIMIT, ROW_OCTETS, TABLE_OCTETS};
+use crate::{call, Field, Item, Kind, CAUSES, ID_ITEM, KINDS, LIMIT, ROW_OCTETS, UNIT_OCTETS};
 use std::collections::VecDeque;
 use std::io::{self, Write};
 
@@ -53,7 +53,7 @@ impl Rng {
     }
 }
 
-/// Where identities come from: a small or the full range, and what the table holds.
+/// Where identities come from: a small or the full range, and what the unit holds.
 struct Pool {
     span: Span,
     held: Vec<(u16, u16)>,
@@ -555,9 +555,9 @@ impl Iterator for Reads {
 
 /// A step of a run of calls.
 pub enum Step {
-    /// An empty table.
-    Table,
-    /// A call, its verdict, and the digest of the table afterwards.
+    /// A fresh unit.
+    Fresh,
+    /// A call, its verdict, and the digest of the unit afterwards.
     Call { offered: u16, room: u16, message: Vec<u8>, verdict: String, digest: u64 },
 }
 
@@ -569,7 +569,7 @@ pub fn digest(octets: &[u8]) -> u64 {
 /// Runs of calls, without end.
 pub struct Calls {
     rng: Rng,
-    table: Vec<u8>,
+    unit: Vec<u8>,
     pool: Pool,
     steps: VecDeque<Step>,
 }
@@ -587,8 +587,8 @@ impl Iterator for Calls {
 
 impl Calls {
     pub fn new(seed: u64) -> Self {
-        let table = vec![0; TABLE_OCTETS];
-        Calls { rng: Rng::new(seed), table, pool: Pool::new(Span::Small), steps: VecDeque::new() }
+        let unit = vec![0; UNIT_OCTETS];
+        Calls { rng: Rng::new(seed), unit, pool: Pool::new(Span::Small), steps: VecDeque::new() }
     }
 
     fn run(&mut self) {
@@ -607,9 +607,9 @@ impl Calls {
     }
 
     fn empty(&mut self) {
-        self.table.fill(0);
+        self.unit.fill(0);
         self.pool.held.clear();
-        self.steps.push_back(Step::Table);
+        self.steps.push_back(Step::Fresh);
     }
 
     fn make(&mut self, kind: Kind, want: Want, style: Style) -> Vec<u8> {
@@ -617,13 +617,13 @@ impl Calls {
     }
 
     fn play(&mut self, offered: u16, room: usize, message: Vec<u8>) {
-        let verdict = call_verdict(&mut self.table, offered, room, &message);
-        let count = u16::from_be_bytes([self.table[0], self.table[1]]) as usize;
+        let verdict = call_verdict(&mut self.unit, offered, room, &message);
+        let count = u16::from_be_bytes([self.unit[0], self.unit[1]]) as usize;
         self.pool.held.clear();
-        for row in self.table[2..].chunks(ROW_OCTETS).take(count) {
+        for row in self.unit[2..].chunks(ROW_OCTETS).take(count) {
             self.pool.held.push((u16::from_be_bytes([row[0], row[1]]), u16::from_be_bytes([row[2], row[3]])));
         }
-        let digest = digest(&self.table);
+        let digest = digest(&self.unit);
         self.steps.push_back(Step::Call { offered, room: room as u16, message, verdict, digest });
     }
 
@@ -632,7 +632,7 @@ impl Calls {
         if self.rng.percent(75) {
             return LIMIT;
         }
-        let reply = call(&mut self.table.clone(), message, offered, &mut [0; LIMIT]).reply;
+        let reply = call(&mut self.unit.clone(), message, offered, &mut [0; LIMIT]).reply;
         match self.rng.below(6) {
             0 | 1 => reply,
             2 | 3 => reply.saturating_sub(1),
@@ -657,7 +657,7 @@ impl Calls {
         let want = Want { mme: Some(mme), mce: Some(mce), ..Want::default() };
         let mut message = match self.rng.below(100) {
             0..=39 => {
-                // Fresh more often than held, or the table would stay small.
+                // Fresh more often than held, or the unit would stay small.
                 let mme = if self.rng.percent(70) { self.pool.identity(&mut self.rng) } else { mme };
                 self.make(Kind::StartRequest, Want { mme: Some(mme), ..want }, style)
             }
@@ -703,7 +703,7 @@ impl Calls {
         self.play(0, LIMIT, message);
     }
 
-    /// Fills the table to 256 and on, thins it out, and fills it again.
+    /// Fills the unit to 256 and on, thins it out, and fills it again.
     fn fill(&mut self) {
         self.empty();
         let mut next = {
@@ -774,7 +774,7 @@ impl Calls {
         }
     }
 
-    /// Draws distinct pairs and starts them on an empty table.
+    /// Draws distinct pairs and starts them on a fresh unit.
     fn pairs(&mut self, n: usize) -> Vec<(u16, u16)> {
         let mut pairs: Vec<(u16, u16)> = Vec::new();
         for _ in 0..4 * n {
@@ -794,7 +794,7 @@ impl Calls {
         }
     }
 
-    /// Stops all that may be held: which are answered 0 shows what the table held.
+    /// Stops all that may be held: which are answered 0 shows what the unit held.
     fn probe(&mut self, pairs: &[(u16, u16)]) {
         for &(mme, mce) in pairs {
             self.stop(mme, mce);
@@ -885,7 +885,7 @@ pub fn reads(seed: u64, count: usize, out: &mut impl Write) -> io::Result<()> {
 #[derive(Clone, Copy, PartialEq, Eq)]
 pub enum Form {
     Text,
-    /// Text with the digest of the table behind each call.
+    /// Text with the digest of the unit behind each call.
     Digest,
     Binary,
 }
@@ -898,8 +898,8 @@ pub fn calls(seed: u64, count: usize, form: Form, out: &mut impl Write) -> io::R
             break;
         }
         match step {
-            Step::Table if form == Form::Binary => out.write_all(&[0, 0, 0, 0, 0xff, 0xff])?,
-            Step::Table => writeln!(out, "table")?,
+            Step::Fresh if form == Form::Binary => out.write_all(&[0, 0, 0, 0, 0xff, 0xff])?,
+            Step::Fresh => writeln!(out, "table")?,
             Step::Call { offered, room, message, verdict, digest } => {
                 left -= 1;
                 match form {
@@ -911,7 +911,7 @@ pub fn calls(seed: u64, count: usize, form: Form, out: &mut impl Write) -> io::R
                     }
                     Form::Text => writeln!(out, "call {offered} {room} {} => {verdict}", hex(&message))?,
                     Form::Digest => {
-                        writeln!(out, "call {offered} {room} {} => {verdict} table={digest:016x}", hex(&message))?
+                        writeln!(out, "call {offered} {room} {} => {verdict} unit={digest:016x}", hex(&message))?
                     }
                 }
             }

@@ -1,6 +1,6 @@
 //! Verdicts as text, in the form of the readings' witnesses (see README.md).
 
-use crate::{call, read, Entries, Field, Items, Kind, Read, Record, ResetType, TABLE_OCTETS};
+use crate::{call, read, Entries, Field, Items, Kind, Read, Record, ResetType, UNIT_OCTETS};
 use std::fmt::Write;
 
 pub fn hex(octets: &[u8]) -> String {
@@ -129,19 +129,19 @@ pub fn read_verdict(octets: &[u8]) -> String {
 }
 
 /// Makes a call and tells its verdict. Also holds the call to what it may touch: the rest of
-/// the room, and the table where the answer is not 0.
-pub fn call_verdict(table: &mut [u8], offered: u16, room: usize, message: &[u8]) -> String {
+/// the room, and the unit where the answer is not 0.
+pub fn call_verdict(unit: &mut [u8], offered: u16, room: usize, message: &[u8]) -> String {
     const FILL: u8 = 0xa5;
     let mut room = vec![FILL; room];
-    let before = table.to_vec();
-    let done = call(table, message, offered, &mut room);
+    let before = unit.to_vec();
+    let done = call(unit, message, offered, &mut room);
     assert!(room[done.reply..].iter().all(|&b| b == FILL), "room touched behind the reply");
-    assert!(done.answer == 0 || before == table, "table changed");
+    assert!(done.answer == 0 || before == unit, "unit changed");
     let offset = match done.answer {
         2 | 3 => done.offset.to_string(),
         _ => "-".into(),
     };
-    let held = if table.len() == TABLE_OCTETS { u16::from_be_bytes([table[0], table[1]]) } else { 0 };
+    let held = if unit.len() == UNIT_OCTETS { u16::from_be_bytes([unit[0], unit[1]]) } else { 0 };
     format!("answer={} offset={offset} reply={} held={held}", done.answer, hex(&room[..done.reply]))
 }
 
@@ -154,15 +154,15 @@ pub fn call_parts(text: &str) -> Option<(u16, usize, Vec<u8>)> {
     Some((offered, room, octets))
 }
 
-/// Runs a witness, `read HEX => VERDICT` or `call OFFERED ROOM HEX => VERDICT` on an empty
-/// table: the verdict it gives and ours. None if the line is no witness.
+/// Runs a witness, `read HEX => VERDICT` or `call OFFERED ROOM HEX => VERDICT` on a fresh
+/// unit: the verdict it gives and ours. None if the line is no witness.
 pub fn witness(line: &str) -> Option<(String, String)> {
     let (case, given) = line.trim().split_once(" => ")?;
     let ours = if let Some(text) = case.strip_prefix("read ") {
         read_verdict(&unhex(text)?)
     } else if let Some(text) = case.strip_prefix("call ") {
         let (offered, room, octets) = call_parts(text)?;
-        call_verdict(&mut [0; TABLE_OCTETS], offered, room, &octets)
+        call_verdict(&mut [0; UNIT_OCTETS], offered, room, &octets)
     } else {
         return None;
     };

@@ -3,7 +3,7 @@
 
 use second::make::{Calls, Reads, Step};
 use second::text::{hex, read_verdict};
-use second::{call, read, write, Read, TABLE_OCTETS};
+use second::{call, count_in, marks, read, row_in, write, Association, Marks, Read, Tmgi, UNIT_OCTETS};
 
 type Pair = (Option<u16>, Option<u16>);
 type Note = (u8, u16, u8);
@@ -441,8 +441,25 @@ fn lent(state: &[Held]) -> Vec<u8> {
             None => [0, 0],
         });
     }
-    o.resize(TABLE_OCTETS, 0);
+    o.resize(UNIT_OCTETS, 0);
     o
+}
+
+/// What a unit says of the state: its rows and none behind them, counts by TMGI, marks.
+fn seen_in(unit: &[u8], state: &[Held]) {
+    let tmgi = |o: &[u8]| Tmgi { plmn: o[..3].try_into().unwrap(), service: o[3..].try_into().unwrap() };
+    let n = state.len();
+    for (k, held) in state.iter().enumerate() {
+        let association = Association { mme: held.0, mce: held.1, tmgi: tmgi(&held.2), session: held.3 };
+        assert_eq!(row_in(unit, k as u32), Some((n, Some(association))));
+        let alike = state.iter().filter(|other| other.2 == held.2).count();
+        assert_eq!(count_in(unit, tmgi(&held.2)), Some(alike));
+    }
+    for k in [n as u32, 256, 65536, u32::MAX] {
+        assert_eq!(row_in(unit, k), Some((n, None)));
+    }
+    let fresh = Marks { held: [n, 0], open: [false; 2], edition: 18, rooms: 256, next: 0, settings: 0 };
+    assert_eq!(marks(unit), Some(fresh));
 }
 
 fn element(id: u16, value: &[u8], out: &mut Vec<u8>) {
@@ -615,21 +632,24 @@ fn calls_agree() {
     let mut seen = [0usize; 11];
     for seed in 0..8 {
         let mut state = Vec::new();
-        let mut table = vec![0; TABLE_OCTETS];
+        let mut unit = vec![0; UNIT_OCTETS];
         for step in Calls::new(seed).take(4000) {
             let Step::Call { offered, room, message, .. } = step else {
                 state.clear();
-                table.fill(0);
+                unit.fill(0);
                 continue;
             };
             let before = state.len();
             let (answer, offset, reply) = model_call(&mut state, offered, room as usize, &message);
             let mut lend = vec![0xa5; room as usize];
-            let done = call(&mut table, &message, offered, &mut lend);
+            let done = call(&mut unit, &message, offered, &mut lend);
             assert_eq!((answer, offset), (done.answer, done.offset), "{offered} {room} {}", hex(&message));
             assert_eq!(hex(&reply), hex(&lend[..done.reply]), "{offered} {room} {}", hex(&message));
             assert!(lend[done.reply..].iter().all(|&b| b == 0xa5));
-            assert_eq!(lent(&state), table, "{before} {}", hex(&message));
+            assert_eq!(lent(&state), unit, "{before} {}", hex(&message));
+            if seen.iter().sum::<usize>() % 50 == 0 {
+                seen_in(&unit, &state);
+            }
             seen[answer as usize] += 1;
             if !reply.is_empty() {
                 // Every reply is a message of ours, read with 0 and written alike.

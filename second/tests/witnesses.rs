@@ -45,14 +45,14 @@ fn bench() {
     let reply = hex(&h(ACKNOWLEDGE_1_2));
     // Held (1, 3): removes nothing and is acknowledged. Held (1, 2): removed.
     for (mce, held) in [(3, 1), (2, 0)] {
-        let mut table = [0; TABLE_OCTETS];
-        table[1] = 1;
-        table[3] = 1;
-        table[5] = mce;
-        let verdict = call_verdict(&mut table, 0, 21, &h(RESET_1_2));
+        let mut unit = [0; UNIT_OCTETS];
+        unit[1] = 1;
+        unit[3] = 1;
+        unit[5] = mce;
+        let verdict = call_verdict(&mut unit, 0, 21, &h(RESET_1_2));
         assert_eq!(verdict, format!("answer=0 offset=- reply={reply} held={held}"));
     }
-    let verdict = call_verdict(&mut [0; TABLE_OCTETS], 0, 20, &h(RESET_1_2));
+    let verdict = call_verdict(&mut [0; UNIT_OCTETS], 0, 20, &h(RESET_1_2));
     assert_eq!(verdict, "answer=10 offset=- reply= held=0");
 }
 
@@ -113,37 +113,81 @@ fn refused_records() {
     }
 }
 
+/// A unit of two associations.
+fn two_held() -> Vec<u8> {
+    let mut unit = vec![0; UNIT_OCTETS];
+    unit[1] = 2;
+    unit[2..14].copy_from_slice(&[0, 1, 0, 1, 9, 9, 9, 8, 8, 8, 1, 0]);
+    unit[14..26].copy_from_slice(&[0, 2, 0, 2, 9, 9, 9, 8, 8, 8, 0, 0]);
+    unit
+}
+
 #[test]
-fn no_tables() {
-    let good = {
-        let mut table = vec![0; TABLE_OCTETS];
-        table[1] = 2;
-        table[2..14].copy_from_slice(&[0, 1, 0, 1, 9, 9, 9, 8, 8, 8, 1, 0]);
-        table[14..26].copy_from_slice(&[0, 2, 0, 2, 9, 9, 9, 8, 8, 8, 0, 0]);
-        table
-    };
-    let answer = |table: &[u8]| {
-        let mut table = table.to_vec();
+fn no_units() {
+    let good = two_held();
+    // Whatever looks at a unit says the same of octets that are none.
+    let answer = |unit: &[u8]| {
+        let mut after = unit.to_vec();
         let mut room = [0xa5; 7];
-        let before = table.clone();
-        let done = call(&mut table, &h("00 02 40 03 00 00 00"), 0, &mut room);
-        assert_eq!((before, [0xa5; 7]), (table, room));
+        let done = call(&mut after, &h("00 02 40 03 00 00 00"), 0, &mut room);
+        assert_eq!((unit, [0xa5; 7]), (&after[..], room));
+        let good = done.answer == 0;
+        assert_eq!(row_in(unit, 0).is_some(), good);
+        assert_eq!(count_in(unit, Tmgi { plmn: [9; 3], service: [8; 3] }).is_some(), good);
+        assert_eq!(marks(unit).is_some(), good);
         done.answer
     };
     assert_eq!(answer(&good), 0);
     for (at, value) in [(0, 1), (1, 3), (1, 1), (24, 2), (25, 1), (15, 1), (17, 1), (26, 1), (TABLE_OCTETS - 1, 1)] {
-        let mut table = good.clone();
-        table[at] = value;
+        let mut unit = good.clone();
+        unit[at] = value;
         // A count of 3 names a row of zeros, which is one: identities 0 and 0.
-        assert_eq!(answer(&table), if (at, value) == (1, 3) { 0 } else { 21 }, "{at} {value}");
+        assert_eq!(answer(&unit), if (at, value) == (1, 3) { 0 } else { 21 }, "{at} {value}");
     }
-    assert_eq!(answer(&good[..TABLE_OCTETS - 1]), 21);
-    assert_eq!(answer(&[]), 21);
+    // No mark may be set, on a fresh unit or another.
+    for at in TABLE_OCTETS..UNIT_OCTETS {
+        for unit in [&good, &vec![0; UNIT_OCTETS]] {
+            for value in [1, 128, 255] {
+                let mut unit = unit.clone();
+                unit[at] = value;
+                assert_eq!(answer(&unit), 21, "{at} {value}");
+            }
+        }
+    }
+    assert_eq!(answer(&[0; UNIT_OCTETS]), 0);
+    for size in [0, 1, TABLE_OCTETS - 1, TABLE_OCTETS, TABLE_OCTETS + 1, UNIT_OCTETS - 1] {
+        assert_eq!(answer(&good[..size]), 21, "{size}");
+    }
     let longer = [&good[..], &[0]].concat();
     assert_eq!(answer(&longer), 21);
     // 21 comes before 1.
     assert_eq!(call(&mut [], &[0; 9000], 0, &mut []).answer, 21);
-    assert_eq!(call(&mut [0; TABLE_OCTETS], &[0; 9000], 0, &mut []).answer, 1);
+    assert_eq!(call(&mut [0; TABLE_OCTETS], &[0; 9000], 0, &mut []).answer, 21);
+    assert_eq!(call(&mut [0; UNIT_OCTETS], &[0; 9000], 0, &mut []).answer, 1);
+}
+
+#[test]
+fn what_a_unit_holds() {
+    let unit = two_held();
+    let tmgi = Tmgi { plmn: [9; 3], service: [8; 3] };
+    let first = Association { mme: 1, mce: 1, tmgi, session: Some(0) };
+    let second = Association { mme: 2, mce: 2, tmgi, session: None };
+    assert_eq!(row_in(&unit, 0), Some((2, Some(first))));
+    assert_eq!(row_in(&unit, 1), Some((2, Some(second))));
+    for k in [2, 255, 256, 65536, 1 << 31, u32::MAX] {
+        assert_eq!(row_in(&unit, k), Some((2, None)), "{k}");
+    }
+    assert_eq!(count_in(&unit, tmgi), Some(2));
+    for other in [Tmgi { plmn: [9, 9, 8], ..tmgi }, Tmgi { service: [9, 8, 8], ..tmgi }] {
+        assert_eq!(count_in(&unit, other), Some(0));
+    }
+    // Rows that are not held are not counted.
+    let fresh = [0; UNIT_OCTETS];
+    assert_eq!(count_in(&fresh, Tmgi { plmn: [0; 3], service: [0; 3] }), Some(0));
+    assert_eq!(row_in(&fresh, 0), Some((0, None)));
+    let marked = Marks { held: [0, 0], open: [false; 2], edition: 18, rooms: 256, next: 0, settings: 0 };
+    assert_eq!(marks(&fresh), Some(marked));
+    assert_eq!(marks(&unit), Some(Marks { held: [2, 0], ..marked }));
 }
 
 #[test]

@@ -3,7 +3,7 @@ use Prim.Native.Nat.{ℕ}
 use Rattle.octets.specs.declared.Stop.{Stop}
 use Rattle.octets.specs.declared.Stop.the-variants.{Fault, Extension}
 use Rattle.carry.specs.declared.Answer.{Answer}
-use Rattle.carry.specs.declared.Answer.the-variants.{CarriedOut, TooLong, Stopped, NoRequest, Rejected, MmeHeld, OfferHeld, PairNotHeld, Full, NoRoom, NoTable}
+use Rattle.carry.specs.declared.Answer.the-variants.{CarriedOut, TooLong, Stopped, NoRequest, Rejected, MmeHeld, OfferHeld, PairNotHeld, Full, NoRoom, NoUnit}
 
 pub record Numbered : Type 0 where
   pub number : ℕ
@@ -24,4 +24,4 @@ numbered OfferHeld = plain 7
 numbered PairNotHeld = plain 8
 numbered Full = plain 9
 numbered NoRoom = plain 10
-numbered NoTable = plain 21
+numbered NoUnit = plain 21

@@ -22,7 +22,7 @@ pub fn number_of(a: Answer) -> u32
         Answer::PairNotHeld => 8,
         Answer::Full => 9,
         Answer::NoRoom => 10,
-        Answer::NoTable => 21,
+        Answer::NoUnit => 21,
     }
 }
 
@@ -44,6 +44,6 @@ pub fn place_of(a: Answer) -> usize
         Answer::PairNotHeld => 0,
         Answer::Full => 0,
         Answer::NoRoom => 0,
-        Answer::NoTable => 0,
+        Answer::NoUnit => 0,
     }
 }

@@ -1,4 +1,4 @@
--- The table call: read the table, judge the message, decide, and settle: the reply stands in front of the room and the table is the new one;
+-- The table call: the unit is read, the message judged, and settled what is decided: the reply stands in front of the room and the unit is the new one;
 -- or the reply does not fit, which is 10, and everything is as it was.
 use Prim.Native.Nat.{ℕ}
 use mathlib.Core.Bool.{Bool, true, false}
@@ -7,25 +7,24 @@ use lib.Dec.{leb}
 use lib.ListN.{length, drop}
 use Rattle.identity.specs.declared.MceId.{MceId}
 use Rattle.editions.specs.declared.Edition.{Edition}
-use Rattle.verdicts.specs.Verdict.{Verdict, readOf}
-use Rattle.lent.specs.Lent.{Lent, Held, NoTable, readTable, tableOctets}
-use Rattle.requests.specs.Requests.{asks}
+use Rattle.units.specs.Unit.{MaybeUnit, isUnit, noUnit, readUnit, unitOctets}
 use Rattle.replies.specs.Replies.{Replied, replyOctets}
 use Rattle.carry.specs.declared.Answer.{Answer}
 use Rattle.carry.specs.declared.Answer.the-variants as answer
+use Rattle.calls.specs.Judged.{judged}
 use Rattle.calls.specs.Decided.{Decided, keeps, changes, decided}
 
--- what is handed over with the table
+-- what is handed over with the unit
 pub record Call : Type 0 where
   pub message : List ℕ
   pub offered : MceId
   pub room : List ℕ
 
--- what comes back: the answer, the reply's octets, the table's and the room's
+-- what comes back: the answer, the reply's octets, the unit's and the room's
 pub record Back : Type 0 where
   pub answer : Answer
   pub reply : List ℕ
-  pub table : List ℕ
+  pub unit : List ℕ
   pub room : List ℕ
 
 abbrev pub repliedIn : Decided → Replied
@@ -36,16 +35,12 @@ abbrev pub answerOf : Decided → Answer
 answerOf (keeps a r) = a
 answerOf (changes l r) = answer.CarriedOut
 
-abbrev pub tableAfter : List ℕ → Decided → List ℕ
-tableAfter t (keeps a r) = t
-tableAfter t (changes l r) = tableOctets l
+abbrev pub unitAfter : List ℕ → Decided → List ℕ
+unitAfter t (keeps a r) = t
+unitAfter t (changes u r) = unitOctets u
 
 abbrev pub nothing : Answer → List ℕ → List ℕ → Back
-nothing a t d = record { answer = a; reply = []; table = t; room = d }
-
--- among the messages that ask
-abbrev pub judged : Edition → List ℕ → Verdict
-judged e s = readOf e asks s
+nothing a t d = record { answer = a; reply = []; unit = t; room = d }
 
 module _ (e : Edition) where
   abbrev pub replyOf : Decided → List ℕ
@@ -53,7 +48,7 @@ module _ (e : Edition) where
 
   -- the reply fits the room, or not
   abbrev pub settledIf : Bool → List ℕ → List ℕ → Decided → Back
-  settledIf true t d x = record { answer = answerOf x; reply = replyOf x; table = tableAfter t x; room = replyOf x ++ drop (length (replyOf x)) d }
+  settledIf true t d x = record { answer = answerOf x; reply = replyOf x; unit = unitAfter t x; room = replyOf x ++ drop (length (replyOf x)) d }
   settledIf false t d x = nothing answer.NoRoom t d
 
   abbrev pub fits : List ℕ → Decided → Bool
@@ -62,9 +57,9 @@ module _ (e : Edition) where
   unfoldable pub settled : List ℕ → List ℕ → Decided → Back
   settled t d x = settledIf (fits d x) t d x
 
-  abbrev pub onTable : List ℕ → Call → Lent → Back
-  onTable t c (Held l) = settled t (c .room) (decided e l (c .offered) (judged e (c .message)))
-  onTable t c NoTable = nothing answer.NoTable t (c .room)
+  abbrev pub onUnit : List ℕ → Call → MaybeUnit → Back
+  onUnit t c (isUnit u) = settled t (c .room) (decided e u (c .offered) (judged e (c .message)))
+  onUnit t c noUnit = nothing answer.NoUnit t (c .room)
 
   unfoldable pub call : List ℕ → Call → Back
-  call t c = onTable t c (readTable t)
+  call t c = onUnit t c (readUnit t)

@@ -52,7 +52,7 @@ fn show(out: &[usize], entries: usize, before: usize) {
 // Plays all whole entries of s, as many at a time as the array has room for.
 fn play_whole(
     s: &[u8],
-    table: &mut [u8],
+    unit: &mut [u8],
     room: &mut [u8],
     out: &mut [usize],
     before: usize,
@@ -60,7 +60,7 @@ fn play_whole(
     let mut messages = before;
     let mut at: usize = 0;
     while at < s.len() {
-        let p = evening::play(&s[at..], table, room, out);
+        let p = evening::play(&s[at..], unit, room, out);
         if p.octets == 0 {
             return Progress {
                 messages: messages,
@@ -96,7 +96,7 @@ fn to_front(space: &mut [u8], from: usize, to: usize) -> usize {
 fn read_on(
     r: Reading,
     space: &mut [u8],
-    table: &mut [u8],
+    unit: &mut [u8],
     room: &mut [u8],
     out: &mut [usize],
 ) -> Reading {
@@ -110,7 +110,7 @@ fn read_on(
     }
     let got = io::read_full(STDIN_FILENO, &mut space[left..]);
     let have = left + got;
-    let p = play_whole(&space[..have], table, room, out, r.messages);
+    let p = play_whole(&space[..have], unit, room, out, r.messages);
     let more = have == space.len();
     let rest = to_front(space, p.octets, have);
     Reading {
@@ -132,7 +132,7 @@ fn finish(r: Reading) {
 fn main() {
     let mut space = space_for_two();
     let mut room = [0u8; 8192];
-    let mut table = [0u8; 3074];
+    let mut unit = [0u8; 3088];
     let mut out = [0usize; 3072];
     let mut r = Reading {
         messages: 0,
@@ -141,7 +141,7 @@ fn main() {
     };
     let mut turns = u64::MAX;
     while 0 < turns {
-        r = read_on(r, &mut space, &mut table, &mut room, &mut out);
+        r = read_on(r, &mut space, &mut unit, &mut room, &mut out);
         let more = r.more;
         if !more {
             finish(r);

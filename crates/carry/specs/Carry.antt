@@ -1,7 +1,8 @@
--- 01's rules: what is decided about what a message asks for, by what is held of its identities.
+-- 01's rules: the judging ends in a refusal or in a request, and a request is carried out by what is held of its identities.
 use Rattle.lists.specs.Lists.{pick}
 use Rattle.identity.specs.declared.MmeId.{MmeId}
 use Rattle.identity.specs.declared.MceId.{MceId}
+use Rattle.identity.specs.declared.Mme.{Mme}
 use Rattle.identity.specs.declared.Mme.the-variants as mme
 use Rattle.identity.specs.declared.Mce.the-variants as mce
 use Rattle.identity.specs.declared.Session.{Session}
@@ -9,8 +10,6 @@ use Rattle.identity.specs.declared.Tmgi.{Tmgi}
 use Rattle.identity.specs.declared.Item.{Item}
 use Rattle.identity.specs.Items.{emptyItem}
 use Rattle.values.specs.declared.Cause.{Cause}
-use Rattle.requests.specs.declared.MaybeTmgi.the-variants as tmgi
-use Rattle.requests.specs.declared.MaybeReset.the-variants as reset
 use Rattle.verdicts.specs.declared.Outcome.{Outcome}
 use Rattle.verdicts.specs.declared.Outcome.the-variants as outcome
 use Rattle.verdicts.specs.declared.Refusal.{Refusal}
@@ -19,43 +18,70 @@ use Rattle.table.specs.declared.Standing.{Standing}
 use Rattle.replies.specs.declared.Reply.{Reply}
 use Rattle.replies.specs.declared.Reply.the-variants as reply
 use Rattle.replies.specs.Replies.{mmeTaken, noResources, abstractSyntax, falselyConstructed}
+use Rattle.requests.specs.declared.Ask.{Ask}
+use Rattle.requests.specs.declared.Ask.the-variants as ask
+use Rattle.requests.specs.declared.Seen.{Seen}
 use Rattle.requests.specs.declared.Request.{Request}
 use Rattle.requests.specs.declared.Request.the-variants as request
+use Rattle.requests.specs.declared.Wanted.{Wanted}
+use Rattle.requests.specs.declared.Wanted.the-variants as wanted
+use Rattle.requests.specs.Requests.{requestOf}
 use Rattle.carry.specs.declared.Answer.{Answer}
 use Rattle.carry.specs.declared.Answer.the-variants as answer
 use Rattle.carry.specs.declared.Change.{Change}
 use Rattle.carry.specs.declared.Change.the-variants as change
 use Rattle.carry.specs.declared.Decision.{Decision}
+use Rattle.carry.specs.declared.Ruling.{Ruling}
+use Rattle.carry.specs.declared.Ruling.the-variants.{Granted, Refused}
 
--- a start asks about its MME identity and the offered one, a stop about its two; nothing else asks
-abbrev pub asked : MceId → Request → Item
-asked c (request.Start x t s) = record { mme = x; mce = mce.Is c }
-asked c (request.Stop x y) = record { mme = x; mce = y }
-asked c (request.Reset x) = emptyItem
-asked c request.Indication = emptyItem
-asked c request.None = emptyItem
+-- ---- the judging ends in a refusal with its reply, or in a request
+
+-- answer 5: START FAILURE if a start's MME identity was read; none for an ERROR INDICATION; else ERROR INDICATION, with the identities read for a stop
+abbrev pub startRejected : Mme → Cause → Reply
+startRejected (mme.Is m) why = reply.StartFailure m why
+startRejected mme.Absent why = reply.Rejection mme.Absent mce.Absent why
+
+unfoldable pub rejection : Ask → Seen → Cause → Reply
+rejection ask.Start x why = startRejected (x .mme) why
+rejection ask.Stop x why = reply.Rejection (x .mme) (x .mce) why
+rejection ask.Reset x why = reply.Rejection mme.Absent mce.Absent why
+rejection ask.Indication x why = reply.None
+rejection ask.Nothing x why = reply.None
+
+-- a mandatory element that is missing is rejected
+abbrev pub ruledBy : Reply → Wanted → Ruling
+ruledBy r (wanted.Is q) = Granted q
+ruledBy r wanted.Lacking = Refused r
+
+abbrev pub ruling : Ask → Seen → Outcome → Ruling
+ruling a x outcome.Accepted = ruledBy (rejection a x abstractSyntax) (requestOf a x)
+ruling a x (outcome.Misplaced p) = Refused (rejection a x falselyConstructed)
+ruling a x outcome.Rejected = Refused (rejection a x abstractSyntax)
+
+-- answers 1 to 4
+abbrev pub refusal : Refusal → Answer
+refusal refused.TooLong = answer.TooLong
+refusal (refused.Stopped x) = answer.Stopped x
+refusal refused.NotAmong = answer.NoRequest
+
+-- ---- a request is carried out
 
 abbrev deciding : Change → Reply → Decision
 deciding x r = record { change = x; reply = r }
 
--- the table stays
+-- what is held stays
 abbrev pub stays : Answer → Reply → Decision
 stays a r = deciding (change.Stays a) r
 
--- answer 5: START FAILURE if a start's MME identity was read; none for an ERROR INDICATION; else ERROR INDICATION, with the identities read for a stop
-unfoldable pub rejection : Request → Cause → Reply
-rejection (request.Start (mme.Is m) t s) why = reply.StartFailure m why
-rejection (request.Start mme.Absent t s) why = reply.Rejection mme.Absent mce.Absent why
-rejection (request.Stop x y) why = reply.Rejection x y why
-rejection (request.Reset x) why = reply.Rejection mme.Absent mce.Absent why
-rejection request.Indication why = reply.None
-rejection request.None why = reply.None
+-- a start asks about its MME identity and the offered one, a stop about its two; nothing else asks
+abbrev pub asked : MceId → Request → Item
+asked c (request.Start m t s) = record { mme = mme.Is m; mce = mce.Is c }
+asked c (request.Stop m x) = record { mme = mme.Is m; mce = mce.Is x }
+asked c request.Whole = emptyItem
+asked c request.Part = emptyItem
+asked c request.Indication = emptyItem
 
--- elements rejected, for a cause
-abbrev pub rejected : Request → Cause → Decision
-rejected q why = stays answer.Rejected (rejection q why)
-
--- k is what is held of the identities that the message asks about
+-- k is what is held of the identities that the request asks about
 module _ (k : Standing) where
   -- start: 6, 7, 9, or the new association stands behind the others
   unfoldable pub started : MceId → MmeId → Tmgi → Session → Decision
@@ -69,30 +95,20 @@ module _ (k : Standing) where
   unfoldable pub stopped : MmeId → MceId → Decision
   stopped m c = pick (k .pair) (deciding (change.Stops m c) (reply.StopResponse m c)) (stays answer.PairNotHeld (reply.PairNotHeld m c))
 
-  module _ (c : MceId) where
-    -- a request that was accepted. A mandatory element of reject is never absent here (the judging has seen to that); if it were, it would be rejected.
-    -- Whole reset empties the table; partial reset removes what the items name. ERROR INDICATION changes nothing and gets no reply
-    abbrev pub carriedOut : Request → Decision
-    carriedOut (request.Start (mme.Is m) (tmgi.Is t) s) = started c m t s
-    carriedOut (request.Start (mme.Is m) tmgi.Absent s) = rejected (request.Start (mme.Is m) tmgi.Absent s) abstractSyntax
-    carriedOut (request.Start mme.Absent t s) = rejected (request.Start mme.Absent t s) abstractSyntax
-    carriedOut (request.Stop (mme.Is m) (mce.Is x)) = stopped m x
-    carriedOut (request.Stop (mme.Is m) mce.Absent) = rejected (request.Stop (mme.Is m) mce.Absent) abstractSyntax
-    carriedOut (request.Stop mme.Absent y) = rejected (request.Stop mme.Absent y) abstractSyntax
-    carriedOut (request.Reset reset.Whole) = deciding change.Empties reply.Acknowledge
-    carriedOut (request.Reset reset.Part) = deciding change.Resets reply.AcknowledgeItems
-    carriedOut (request.Reset reset.Absent) = rejected (request.Reset reset.Absent) abstractSyntax
-    carriedOut request.Indication = stays answer.CarriedOut reply.None
-    carriedOut request.None = stays answer.NoRequest reply.None
+  -- whole reset empties the table; partial reset removes what the items name; ERROR INDICATION changes nothing and gets no reply
+  abbrev pub carriedOut : MceId → Request → Decision
+  carriedOut c (request.Start m t s) = started c m t s
+  carriedOut c (request.Stop m x) = stopped m x
+  carriedOut c request.Whole = deciding change.Empties reply.Acknowledge
+  carriedOut c request.Part = deciding change.Resets reply.AcknowledgeItems
+  carriedOut c request.Indication = stays answer.CarriedOut reply.None
 
-    -- by what the judging came to
-    abbrev pub decision : Request → Outcome → Decision
-    decision q outcome.Accepted = carriedOut q
-    decision q (outcome.Misplaced p) = rejected q falselyConstructed
-    decision q outcome.Rejected = rejected q abstractSyntax
+-- ---- both in turn, as the code has them: of a refusal nothing is asked, and nothing changes
 
--- answers 1 to 4
-abbrev pub refusal : Refusal → Answer
-refusal refused.TooLong = answer.TooLong
-refusal (refused.Stopped x) = answer.Stopped x
-refusal refused.NotAmong = answer.NoRequest
+abbrev pub askedBy : MceId → Ruling → Item
+askedBy c (Granted q) = asked c q
+askedBy c (Refused r) = emptyItem
+
+abbrev pub decision : Standing → MceId → Ruling → Decision
+decision k c (Granted q) = carriedOut k c q
+decision k c (Refused r) = stays answer.Rejected r

@@ -1,6 +1,6 @@
-// What is decided about a judged message: 01's rules on the table, and the replies.
+// 01's rules: the judging ends in a refusal with its reply or in a request, and a request is carried out by what is held.
 ghost use mathlib.Core.Path.{_≡_};
-ghost use Rattle.carry.specs.Carry.{stays, started, stopped, rejection, rejected, carriedOut, decision, asked, refusal};
+ghost use Rattle.carry.specs.Carry.{startRejected, rejection, ruling, stays, started, stopped, asked, carriedOut, askedBy, decision};
 use identity::Item;
 use identity::Mce;
 use identity::MceId;
@@ -10,14 +10,14 @@ use identity::Session;
 use identity::Tmgi;
 use octets::Stop;
 use replies::Reply;
-use requests::MaybeReset;
-use requests::MaybeTmgi;
+use requests::Ask;
 use requests::Request;
+use requests::Seen;
+use requests::Wanted;
 use table::Association;
 use table::Standing;
 use values::Cause;
 use verdicts::Outcome;
-use verdicts::Refusal;
 
 pub enum Answer {
     // 0
@@ -40,8 +40,14 @@ pub enum Answer {
     Full,
     // 10: the reply would not fit the lent room
     NoRoom,
-    // 21: octets of no table
-    NoTable,
+    // 21: octets of no unit
+    NoUnit,
+}
+
+// What the judging of elements ends in: a request of which nothing is absent, or answer 5 with its reply.
+pub enum Ruling {
+    Granted(Request),
+    Refused(Reply),
 }
 
 // What becomes of the table: it stays, with an answer; or it changes, and the answer is 0.
@@ -72,6 +78,11 @@ const ABSTRACT_SYNTAX: Cause = Cause { group: 3, value: 1 };
 
 // Abstract syntax error (falsely constructed message).
 const FALSELY_CONSTRUCTED: Cause = Cause { group: 3, value: 5 };
+
+const NOBODY: Item = Item {
+    mme: Mme::Absent,
+    mce: Mce::Absent,
+};
 
 fn stays(a: Answer, reply: Reply) -> Decision
     ensures { λ d. ⌜ d ≡ stays a reply ⌝ }
@@ -120,128 +131,106 @@ fn stop(k: Standing, m: MmeId, c: MceId) -> Decision
     stays(Answer::PairNotHeld, Reply::PairNotHeld(m, c))
 }
 
+// Answer 5's reply to a start.
+fn start_rejected(x: Mme, why: Cause) -> Reply
+    ensures { λ r. ⌜ r ≡ startRejected x why ⌝ }
+{
+    match x {
+        Mme::Is(m) => Reply::StartFailure(m, why),
+        Mme::Absent => Reply::Rejection(Mme::Absent, Mce::Absent, why),
+    }
+}
+
 // Answer 5's reply.
-fn rejection(q: Request, why: Cause) -> Reply
-    ensures { λ r. ⌜ r ≡ rejection q why ⌝ }
+fn rejection(a: Ask, x: Seen, why: Cause) -> Reply
+    ensures { λ r. ⌜ r ≡ rejection a x why ⌝ }
 {
-    match q {
-        Request::Start(x, _, _) => match x {
-            Mme::Is(m) => Reply::StartFailure(m, why),
-            Mme::Absent => Reply::Rejection(Mme::Absent, Mce::Absent, why),
-        },
-        Request::Stop(x, y) => Reply::Rejection(x, y, why),
-        Request::Reset(_) => Reply::Rejection(Mme::Absent, Mce::Absent, why),
-        Request::Indication => Reply::None,
-        Request::None => Reply::None,
+    let mme = x.mme;
+    let mce = x.mce;
+    match a {
+        Ask::Start => start_rejected(mme, why),
+        Ask::Stop => Reply::Rejection(mme, mce, why),
+        Ask::Reset => Reply::Rejection(Mme::Absent, Mce::Absent, why),
+        Ask::Indication => Reply::None,
+        Ask::Nothing => Reply::None,
     }
 }
 
-// Elements rejected, for a cause.
-fn rejected(q: Request, why: Cause) -> Decision
-    ensures { λ d. ⌜ d ≡ rejected q why ⌝ }
+// A mandatory element that is missing is rejected.
+fn granted(a: Ask, x: Seen) -> Ruling
+    ensures { λ r. ⌜ r ≡ ruling a x Outcome.Accepted ⌝ }
 {
-    stays(Answer::Rejected, rejection(q, why))
-}
-
-// A start that was accepted. A mandatory element of reject is never absent here; if it were, it would be rejected.
-fn start_request(k: Standing, c: MceId, x: Mme, g: MaybeTmgi, session: Session) -> Decision
-    ensures { λ d. ⌜ d ≡ carriedOut k c (Request.Start x g session) ⌝ }
-{
-    match x {
-        Mme::Is(m) => match g {
-            MaybeTmgi::Is(tmgi) => start(k, c, m, tmgi, session),
-            MaybeTmgi::Absent => rejected(Request::Start(x, g, session), ABSTRACT_SYNTAX),
-        },
-        Mme::Absent => rejected(Request::Start(x, g, session), ABSTRACT_SYNTAX),
+    match requests::request_of(a, x) {
+        Wanted::Is(q) => Ruling::Granted(q),
+        Wanted::Lacking => Ruling::Refused(rejection(a, x, ABSTRACT_SYNTAX)),
     }
 }
 
-// A stop that was accepted.
-fn stop_request(k: Standing, c: MceId, x: Mme, y: Mce) -> Decision
-    ensures { λ d. ⌜ d ≡ carriedOut k c (Request.Stop x y) ⌝ }
+// What the judging of elements ends in.
+pub fn rule(a: Ask, x: Seen, o: Outcome) -> Ruling
+    ensures { λ r. ⌜ r ≡ ruling a x o ⌝ }
 {
-    match x {
-        Mme::Is(m) => match y {
-            Mce::Is(i) => stop(k, m, i),
-            Mce::Absent => rejected(Request::Stop(x, y), ABSTRACT_SYNTAX),
-        },
-        Mme::Absent => rejected(Request::Stop(x, y), ABSTRACT_SYNTAX),
+    match o {
+        Outcome::Accepted => granted(a, x),
+        Outcome::Misplaced(_) => Ruling::Refused(rejection(a, x, FALSELY_CONSTRUCTED)),
+        Outcome::Rejected => Ruling::Refused(rejection(a, x, ABSTRACT_SYNTAX)),
     }
 }
 
-// A reset that was accepted.
-fn reset_request(k: Standing, c: MceId, x: MaybeReset) -> Decision
-    ensures { λ d. ⌜ d ≡ carriedOut k c (Request.Reset x) ⌝ }
-{
-    match x {
-        MaybeReset::Whole => Decision {
-            change: Change::Empties,
-            reply: Reply::Acknowledge,
-        },
-        MaybeReset::Part => Decision {
-            change: Change::Resets,
-            reply: Reply::AcknowledgeItems,
-        },
-        MaybeReset::Absent => rejected(Request::Reset(x), ABSTRACT_SYNTAX),
-    }
-}
-
-// A request that was accepted, carried out. ERROR INDICATION changes nothing and gets no reply.
+// A request, carried out. ERROR INDICATION changes nothing and gets no reply.
 fn carry_out(k: Standing, c: MceId, q: Request) -> Decision
     ensures { λ d. ⌜ d ≡ carriedOut k c q ⌝ }
 {
     match q {
-        Request::Start(x, g, session) => start_request(k, c, x, g, session),
-        Request::Stop(x, y) => stop_request(k, c, x, y),
-        Request::Reset(x) => reset_request(k, c, x),
+        Request::Start(m, tmgi, session) => start(k, c, m, tmgi, session),
+        Request::Stop(m, x) => stop(k, m, x),
+        Request::Whole => Decision {
+            change: Change::Empties,
+            reply: Reply::Acknowledge,
+        },
+        Request::Part => Decision {
+            change: Change::Resets,
+            reply: Reply::AcknowledgeItems,
+        },
         Request::Indication => stays(Answer::CarriedOut, Reply::None),
-        Request::None => stays(Answer::NoRequest, Reply::None),
     }
 }
 
-// What is decided about a judged message, by what is held of the identities that it asks about.
-pub fn decide(k: Standing, c: MceId, q: Request, o: Outcome) -> Decision
-    ensures { λ d. ⌜ d ≡ decision k c q o ⌝ }
+// What is decided, by what is held of the identities that are asked about.
+pub fn decide(k: Standing, c: MceId, r: Ruling) -> Decision
+    ensures { λ d. ⌜ d ≡ decision k c r ⌝ }
 {
-    match o {
-        Outcome::Accepted => carry_out(k, c, q),
-        Outcome::Misplaced(_) => rejected(q, FALSELY_CONSTRUCTED),
-        Outcome::Rejected => rejected(q, ABSTRACT_SYNTAX),
+    match r {
+        Ruling::Granted(q) => carry_out(k, c, q),
+        Ruling::Refused(reply) => stays(Answer::Rejected, reply),
     }
 }
 
 // A start asks about its MME identity and the offered one, a stop about its two; nothing else asks.
-pub fn asked(c: MceId, q: Request) -> Item
+fn asked_by_request(c: MceId, q: Request) -> Item
     ensures { λ i. ⌜ i ≡ asked c q ⌝ }
 {
     match q {
-        Request::Start(x, _, _) => Item {
-            mme: x,
+        Request::Start(m, _, _) => Item {
+            mme: Mme::Is(m),
             mce: Mce::Is(c),
         },
-        Request::Stop(x, y) => Item { mme: x, mce: y },
-        Request::Reset(_) => Item {
-            mme: Mme::Absent,
-            mce: Mce::Absent,
+        Request::Stop(m, x) => Item {
+            mme: Mme::Is(m),
+            mce: Mce::Is(x),
         },
-        Request::Indication => Item {
-            mme: Mme::Absent,
-            mce: Mce::Absent,
-        },
-        Request::None => Item {
-            mme: Mme::Absent,
-            mce: Mce::Absent,
-        },
+        Request::Whole => NOBODY,
+        Request::Part => NOBODY,
+        Request::Indication => NOBODY,
     }
 }
 
-// Answers 1 to 4.
-pub fn refusal(x: Refusal) -> Answer
-    ensures { λ a. ⌜ a ≡ refusal x ⌝ }
+// The identities that are asked about.
+pub fn asked(c: MceId, r: Ruling) -> Item
+    ensures { λ i. ⌜ i ≡ askedBy c r ⌝ }
 {
-    match x {
-        Refusal::TooLong => Answer::TooLong,
-        Refusal::Stopped(p) => Answer::Stopped(p),
-        Refusal::NotAmong => Answer::NoRequest,
+    match r {
+        Ruling::Granted(q) => asked_by_request(c, q),
+        Ruling::Refused(_) => NOBODY,
     }
 }

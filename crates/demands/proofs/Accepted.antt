@@ -45,22 +45,44 @@ use Rattle.verdicts.specs.Verdict.{Opening, outcomeBy, Understood, understood, 
 use Rattle.round_trips.proofs.Ordered.{Scanned, scanned}
 use Rattle.round_trips.proofs.ValueAgain.{read-as}
 use Rattle.round_trips.proofs.Accepted.{opened}
-use Rattle.requests.specs.declared.Request.{Request}
-use Rattle.requests.specs.declared.Request.the-variants as request
-use Rattle.requests.specs.Requests.{seen, requestOf, requestIn, asks}
+use Rattle.identity.specs.declared.Mme.{Mme}
+use Rattle.identity.specs.declared.Mme.the-variants as mme
+use Rattle.identity.specs.declared.Mce.{Mce}
+use Rattle.identity.specs.declared.Mce.the-variants as mce
+use Rattle.identity.specs.declared.Session.{Session}
+use Rattle.requests.specs.declared.MaybeTmgi.{MaybeTmgi}
+use Rattle.requests.specs.declared.MaybeTmgi.the-variants as tmgi
+use Rattle.requests.specs.declared.MaybeReset.{MaybeReset}
+use Rattle.requests.specs.declared.MaybeReset.the-variants as reset
+use Rattle.requests.specs.declared.Seen.{Seen}
+use Rattle.requests.specs.declared.Wanted.{Wanted}
+use Rattle.requests.specs.declared.Wanted.the-variants as wanted
+use Rattle.requests.specs.Requests.{seen, startOf, stopOf, resetOf, requestOf, askOf, asks}
 use Rattle.demands.proofs.Seen.{IsMme, IsMce, IsTmgi, IsReset, Has, seen-has}
 use Rattle.demands.proofs.Verdicts.{only-passed, judging}
 use Rattle.demands.proofs.Sound.{front-each, of-read}
 
 -- ---- what is said
 
--- a request, with what the rules look at
-abbrev pub Complete : Request → Type 0
-Complete (request.Start x t s) = IsMme x × IsTmgi t
-Complete (request.Stop x y) = IsMme x × IsMce y
-Complete (request.Reset x) = IsReset x
-Complete request.Indication = Unit
-Complete request.None = ⊥
+-- nothing is lacking
+abbrev pub Complete : Wanted → Type 0
+Complete (wanted.Is q) = Unit
+Complete wanted.Lacking = ⊥
+
+start-complete : (x : Mme) (t : MaybeTmgi) (s : Session) → IsMme x → IsTmgi t → Complete (startOf x t s)
+start-complete (mme.Is m) (tmgi.Is t) s g h = tt
+start-complete (mme.Is m) tmgi.Absent s g h = absurd h
+start-complete mme.Absent t s g h = absurd g
+
+stop-complete : (x : Mme) (y : Mce) → IsMme x → IsMce y → Complete (stopOf x y)
+stop-complete (mme.Is m) (mce.Is c) g h = tt
+stop-complete (mme.Is m) mce.Absent g h = absurd h
+stop-complete mme.Absent y g h = absurd g
+
+reset-complete : (x : MaybeReset) → IsReset x → Complete (resetOf x)
+reset-complete reset.Whole g = tt
+reset-complete reset.Part g = tt
+reset-complete reset.Absent g = absurd g
 
 -- ---- rows that have a value
 
@@ -209,26 +231,33 @@ not-asked q = let z : _≡_ {A = ℕ} 0 1 = cc in absurd (omega arith)
 -- which rows the rules look at, in each edition
 complete : (e : Edition) (m : Message) (s : List ℕ) (n at : ℕ) → asks m ≡ true → got tt ≡ scanAt (tableOf e m) s n at
     → outcomeBy n (elements.judgedOf (tableOf e m) n (headsAt s n at)) ≡ outcome.Accepted
-    → Complete (requestOf m (seen (valuesIn (tableOf e m) s (elements.readOf (tableOf e m) (front (tableOf e m) 0 (headsAt s n at))))))
+    → Complete (requestOf (askOf m) (seen (valuesIn (tableOf e m) s (elements.readOf (tableOf e m) (front (tableOf e m) 0 (headsAt s n at))))))
 unfolding release18
 complete Release18 message.StartRequest s n at a q o =
-    let r = row-seen (tableOf Release18 message.StartRequest) s n at q o in (r 0 (omega arith) refl refl, r 1 (omega arith) refl refl)
+    let r = row-seen (tableOf Release18 message.StartRequest) s n at q o in
+    let x : Seen = seen (valuesIn (tableOf Release18 message.StartRequest) s (elements.readOf (tableOf Release18 message.StartRequest) (front (tableOf Release18 message.StartRequest) 0 (headsAt s n at)))) in
+    start-complete (x .mme) (x .tmgi) (x .session) (r 0 (omega arith) refl refl) (r 1 (omega arith) refl refl)
 complete Release18 message.StopRequest s n at a q o =
-    let r = row-seen (tableOf Release18 message.StopRequest) s n at q o in (r 0 (omega arith) refl refl, r 1 (omega arith) refl refl)
-complete Release18 message.Reset s n at a q o = row-seen (tableOf Release18 message.Reset) s n at q o 1 (omega arith) refl refl
+    let r = row-seen (tableOf Release18 message.StopRequest) s n at q o in
+    let x : Seen = seen (valuesIn (tableOf Release18 message.StopRequest) s (elements.readOf (tableOf Release18 message.StopRequest) (front (tableOf Release18 message.StopRequest) 0 (headsAt s n at)))) in
+    stop-complete (x .mme) (x .mce) (r 0 (omega arith) refl refl) (r 1 (omega arith) refl refl)
+complete Release18 message.Reset s n at a q o =
+    let x : Seen = seen (valuesIn (tableOf Release18 message.Reset) s (elements.readOf (tableOf Release18 message.Reset) (front (tableOf Release18 message.Reset) 0 (headsAt s n at)))) in
+    reset-complete (x .reset) (row-seen (tableOf Release18 message.Reset) s n at q o 1 (omega arith) refl refl)
 complete Release18 message.ErrorIndication s n at a q o = tt
 complete Release18 message.StartResponse s n at a q o = not-asked a
 complete Release18 message.StartFailure s n at a q o = not-asked a
 complete Release18 message.StopResponse s n at a q o = not-asked a
 complete Release18 message.ResetAcknowledge s n at a q o = not-asked a
 
-pub accepted-complete : (e : Edition) (s : List ℕ) (u : Understood) → readOf e asks s ≡ understood u → u .outcome ≡ outcome.Accepted → Complete (requestIn (u .what))
+pub accepted-complete : (e : Edition) (s : List ℕ) (u : Understood) → readOf e asks s ≡ understood u → u .outcome ≡ outcome.Accepted
+    → Complete (requestOf (askOf (u .what .message)) (seen (u .what .values)))
 unfolding elements.judgedOf
 accepted-complete e s u q =
     let w = opened e asks s u q in
     let m : Message = u .what .message in
     let t : List Row = tableOf e m in
     let j = judging t s (u .frame .from) (w .read) in
-    subst (λ (x : Understood). x .outcome ≡ outcome.Accepted → Complete (requestIn (x .what))) (w .is)
-    (subst (λ (y : Opening). y .outcome ≡ outcome.Accepted → Complete (requestOf m (seen (valuesIn t s (y .spans))))) (j .is)
+    subst (λ (x : Understood). x .outcome ≡ outcome.Accepted → Complete (requestOf (askOf (x .what .message)) (seen (x .what .values)))) (w .is)
+    (subst (λ (y : Opening). y .outcome ≡ outcome.Accepted → Complete (requestOf (askOf m) (seen (valuesIn t s (y .spans))))) (j .is)
     (λ o. complete e m s (j .count) (u .frame .from + 3) (only-passed e asks s u q) (j .scan) o))

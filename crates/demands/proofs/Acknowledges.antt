@@ -17,17 +17,15 @@ use Rattle.editions.specs.declared.Edition.the-variants.{Release18}
 use Rattle.editions.specs.Ids.{id-MBMS-Service-associatedLogicalM3-ConnectionListResAck}
 use Rattle.editions.specs.Editions.{release18}
 use Rattle.meaning.specs.Value as value
-use Rattle.verdicts.specs.Verdict.{Understood}
 use Rattle.layout.specs.Record.{listsOf}
-use Rattle.requests.specs.Requests.{itemsIn, asks}
 use Rattle.replies.specs.declared.Reply.the-variants as reply
 use Rattle.replies.specs.Replies.{Element, _is_, valueOf, saying, someOf, listOnly, hasIdentity, listing, replied}
-use Rattle.calls.specs.Call.{judged}
+use Rattle.calls.specs.Judged.{Accepted, judged}
 use Rattle.demands.specs.Words.{PartialReset, Acknowledges}
 use Rattle.demands.proofs.Taken.{Written}
 use Rattle.demands.proofs.Written.{spoken}
 use Rattle.demands.proofs.Seen.{asking}
-use Rattle.demands.proofs.Sound.{read-sound}
+use Rattle.demands.proofs.JudgedSound.{judged-sound}
 use Rattle.demands.proofs.Runs.{acknowledgement}
 
 abbrev acknowledged : List Item → List Entry → List Element
@@ -50,10 +48,10 @@ lists-kept Release18 kept es = by (someOf kept) refl
 pub reply-acknowledges : (e : Edition) (s : List ℕ) (items : List Item) → Octets s → PartialReset (judged e s) items → Acknowledges e (acknowledgement e s) (keep hasIdentity items)
 unfolding replied
 reply-acknowledges e s items o p =
-    let u : Understood = p .what in
-    let z = read-sound e s o asks u (p .read) in
-    let kept : List Item = keep hasIdentity (itemsIn (u .what)) in
-    let w : Written e (saying e message.ResetAcknowledge (acknowledged kept (u .noted))) = spoken e (u .frame) (z .frame) (itemsIn (u .what)) (z .items .list) (u .noted) (z .noted) reply.AcknowledgeItems tt in
-    let b = w .back in
-    let a = asking _ (b .what .what) (saying e message.ResetAcknowledge (acknowledged kept (u .noted))) (b .said) in
-    rw (p .read, ← p .so .1) (record { what = b .what; read = b .read; accepted = b .accepted; so = (a .message, a .items ∙ lists-kept e kept (u .noted)) })
+    let w : Accepted = p .asks .what in
+    let z = judged-sound e s o w (p .asks .accepted) in
+    let kept : List Item = keep hasIdentity (w .items) in
+    let x : Written e (saying e message.ResetAcknowledge (acknowledged kept (w .noted))) = spoken e (w .frame) (z .frame) (w .items) (z .items) (w .noted) (z .noted) reply.AcknowledgeItems tt in
+    let b = x .back in
+    let a = asking _ (b .what .what) (saying e message.ResetAcknowledge (acknowledged kept (w .noted))) (b .said) in
+    rw (p .asks .accepted, ← p .items) (record { what = b .what; read = b .read; accepted = b .accepted; named = a .message; items = a .items ∙ lists-kept e kept (w .noted) })

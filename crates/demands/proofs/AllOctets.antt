@@ -15,7 +15,8 @@ use Rattle.packed.proofs.Packed.{packed-below}
 use Rattle.octets.specs.Many.{eachOctets}
 use Rattle.table.specs.declared.Association.{Association}
 use Rattle.table.specs.Table.{State}
-use Rattle.lent.specs.Lent.{rowOctets, rowsOctets, tableOctets}
+use Rattle.lent.specs.Lent.{rowOctets, rowsOctets}
+use Rattle.units.specs.Unit.{Unit, unitOctets}
 
 -- Octets, as a record, so that the list is read off
 pub record All (vs : List ℕ) : Type 0 where
@@ -86,14 +87,20 @@ unfolding rowsOctets
 all-row (b ∷ l) o a (List·Memᴰ·head e) = subst (λ (x : Association). Octets (rowOctets x)) (sym e) (all-split (rowOctets b) (rowsOctets l) o .0 .octets)
 all-row (b ∷ l) o a (List·Memᴰ·tail m) = all-row l (all-split (rowOctets b) (rowsOctets l) o .1) a m
 
-module _ (l : State) where
+module _ (u : Unit) where
   abbrev front : List ℕ
-  front = numberOctets 2 (length l) ++ rowsOctets l
+  front = numberOctets 2 (length (u .held)) ++ rowsOctets (u .held)
 
-  pub octets-table : ((a : Association) → List·Memᴰ a l → Octets (rowOctets a)) → Octets (tableOctets l)
-  octets-table h = all-join {vs = front} (all-join (all-number 2 (length l)) (all-rows l h)) (all-zeros (3074 - length front)) .octets
+  abbrev rest : List ℕ
+  rest = replicate (3074 - length front) 0
 
-  pub octets-held : Octets (tableOctets l) → (a : Association) → List·Memᴰ a l → Octets (rowOctets a)
+  pub octets-unit : ((a : Association) → List·Memᴰ a (u .held) → Octets (rowOctets a)) → Octets (unitOctets u)
+  unfolding unitOctets
+  octets-unit h = all-join {vs = front ++ rest} (all-join {vs = front} (all-join (all-number 2 (length (u .held))) (all-rows (u .held) h)) (all-zeros (3074 - length front))) (all-zeros 14) .octets
+
+  pub octets-held : Octets (unitOctets u) → (a : Association) → List·Memᴰ a (u .held) → Octets (rowOctets a)
+  unfolding unitOctets
   octets-held o =
-      let f = all-split front (replicate (3074 - length front) 0) (record { octets = o }) .0 in
-      all-row l (all-split (numberOctets 2 (length l)) (rowsOctets l) f .1)
+      let t = all-split (front ++ rest) (replicate 14 0) (record { octets = o }) .0 in
+      let f = all-split front rest t .0 in
+      all-row (u .held) (all-split (numberOctets 2 (length (u .held))) (rowsOctets (u .held)) f .1)

@@ -1,144 +1,245 @@
--- The table call answers as 01's table of answers says: the first that is due, or 10 where the reply does not fit.
+-- The table call answers and replies as 01's table of answers says: the first that is due, or 10 where the reply does not fit.
 -- Assumes nothing.
 use Prim.Native.Nat.{ℕ}
-use mathlib.Core.Path.{_≡_, refl}
+use mathlib.Core.Path.{_≡_, _∙_, refl, sym, ap, subst}
 use mathlib.Core.Bool.{Bool, true, false, not}
-use mathlib.Core.List.{List}
+use mathlib.Core.List.{List, []}
 use lib.Dec.{ltb}
 use lib.ListN.{length}
 use Rattle.lists.specs.Lists.{pick}
 use Rattle.octets.specs.Read.{Read, got, stop}
 use Rattle.octets.specs.declared.Stop.the-variants.{Fault, Extension}
 use Rattle.identity.specs.declared.MceId.{MceId}
+use Rattle.identity.specs.declared.Mme.{Mme}
 use Rattle.identity.specs.declared.Mme.the-variants as mme
+use Rattle.identity.specs.declared.Mce.{Mce}
 use Rattle.identity.specs.declared.Mce.the-variants as mce
+use Rattle.identity.specs.declared.Session.{Session}
+use Rattle.values.specs.declared.Cause.{Cause}
+use Rattle.entries.specs.declared.Entry.{Entry}
+use Rattle.rows.specs.declared.Row.{Row}
+use Rattle.elements.specs.Judge as elements
+use Rattle.envelopes.specs.Envelope.{headsAt}
 use Rattle.editions.specs.declared.Message.{Message}
 use Rattle.editions.specs.declared.Named.{Named}
 use Rattle.editions.specs.declared.Named.the-variants as named
 use Rattle.editions.specs.declared.Edition.{Edition}
 use Rattle.editions.specs.Editions.{tableOf, namedBy}
 use Rattle.frames.specs.declared.Frame.{Frame}
-use Rattle.frames.specs.Frame.{frameAt}
+use Rattle.frames.specs.Frame.{frameAt, countAt}
+use Rattle.meaning.specs.Value.{Said, saidBy}
+use Rattle.meaning.specs.Reading.{valuesIn}
 use Rattle.verdicts.specs.declared.Outcome.{Outcome}
 use Rattle.verdicts.specs.declared.Outcome.the-variants as outcome
 use Rattle.verdicts.specs.declared.Refusal.the-variants as refusal
 use Rattle.verdicts.specs.Verdict.{Opening, openedAt, Understood, Verdict, refused, understood, understoodBy, verdictOf, ofThose, framed, readOf}
-use Rattle.table.specs.Table.{State, full, holdsMme, holdsMce, holdsPair}
-use Rattle.lent.specs.Lent.{Lent, Held, NoTable, readTable}
+use Rattle.round_trips.specs.Ties.{ReadAs}
+use Rattle.table.specs.Table.{full, holdsMme, holdsMce, holdsPair}
+use Rattle.units.specs.Unit.{Unit, MaybeUnit, isUnit, noUnit, readUnit}
+use Rattle.requests.specs.declared.MaybeTmgi.{MaybeTmgi}
 use Rattle.requests.specs.declared.MaybeTmgi.the-variants as tmgi
+use Rattle.requests.specs.declared.MaybeReset.{MaybeReset}
 use Rattle.requests.specs.declared.MaybeReset.the-variants as reset
-use Rattle.requests.specs.declared.Request.{Request}
-use Rattle.requests.specs.declared.Request.the-variants as request
-use Rattle.requests.specs.Requests.{asks, requestIn, itemsIn}
+use Rattle.requests.specs.declared.Ask.{Ask}
+use Rattle.requests.specs.declared.Ask.the-variants as ask
+use Rattle.requests.specs.declared.Seen.{Seen}
+use Rattle.requests.specs.Requests.{askOf, asks, isAsked, requestOf, seen}
+use Rattle.replies.specs.Replies.{Replied, silent, says, replied, replyOctets}
 use Rattle.carry.specs.declared.Decision.{Decision}
-use Rattle.carry.specs.Carry.{started, stopped}
+use Rattle.carry.specs.Carry.{rejection, ruling, started, stopped}
 use Rattle.answers.specs.Answers.{numbered}
-use Rattle.calls.specs.Decided.{Decided, applied, decided}
-use Rattle.calls.specs.Call.{answerOf, settledIf, fits, settled, onTable, call, judged}
-use Rattle.demands.specs.Due.{firstDue, dueFor, due, fitsIn, AnswersAs}
+use Rattle.calls.specs.Judged.{ruled, judgedBy, verdict}
+use Rattle.calls.specs.Decided.{Decided, decided}
+use Rattle.calls.specs.Call.{Call, Back, replyOf, answerOf, repliedIn, settledIf, fits, settled, onUnit, call}
+use Rattle.demands.specs.Answered.{Handed, decidedOn}
+use Rattle.demands.specs.Due.{Reply, none, sends, Due, noRoom, MaybeInside, inside, nowhere, judgedIn, insideOf, insideBy, rejectedReply, countedBy, dueFor, due, dueOn, AnswersAs, ReplyIs, RepliesAs}
+use Rattle.demands.proofs.Settle.{none-said}
+use Rattle.demands.proofs.Verdicts.{judging}
 use Rattle.demands.proofs.Accepted.{Complete, accepted-complete}
+use Rattle.demands.proofs.UnitOut.{call-on}
+use Rattle.demands.proofs.Demand.{demand-1}
 
-abbrev number : Decided → ℕ
-number x = numbered (answerOf x) .number
+-- the number of what is decided, and the message that is the reply
+record Given : Type 0 where
+  number : ℕ
+  reply : Reply
 
--- ---- the rules
+abbrev replyBy : Replied → Reply
+replyBy silent = none
+replyBy (says w) = sends (w .message)
 
-module _ (g : Decision → ℕ) where
-  of-three : (a b d : Bool) (w x y z : Decision) → g (pick a w (pick b x (pick d y z))) ≡ pick a (g w) (pick b (g x) (pick d (g y) (g z)))
-  of-three true b d w x y z = refl
-  of-three false true d w x y z = refl
-  of-three false false true w x y z = refl
-  of-three false false false w x y z = refl
+abbrev given : Decided → Given
+given x = record { number = numbered (answerOf x) .number; reply = replyBy (repliedIn x) }
 
-  of-two : (a : Bool) (x y : Decision) → g (pick a x y) ≡ pick (not a) (g y) (g x)
-  of-two true x y = refl
-  of-two false x y = refl
+abbrev dueAs : Due → Given
+dueAs d = record { number = d .number; reply = d .reply }
 
--- over a table that holds l; of a message of at most 8,192 octets with the frame of a request
-module _ (e : Edition) (l : State) (c : MceId) (s : List ℕ) where
-  -- the first that is due, by the frame and the verdict
-  abbrev first : Read Frame → Verdict → ℕ
-  first r v = firstDue (dueFor e (Held l) s r v c)
+-- ---- the rules, on a unit u; of a message of at most 8,192 octets with a frame
+module _ (e : Edition) (u : Unit) (c : MceId) (s : List ℕ) (f : Frame) where
+  module _ (w : Understood) (o : Opening) where
+    abbrev within : Ask → Outcome → Seen → MaybeInside
+    within q x y = inside (record { ask = q; opened = got o; outcome = x; seen = y })
 
-  abbrev numberBy : Verdict → ℕ
-  numberBy v = number (decided e l c v)
+    abbrev first : Ask → Outcome → Seen → Given
+    first q x y = dueAs (dueFor (isUnit u) s (got f) (within q x y) c)
 
-  module _ (small : ltb 8192 (length s) ≡ false) (f : Frame) (m : Message) (name : namedBy e (f .kind) (f .code) ≡ named.Is m) (asking : asks m ≡ true) (u : Understood) where
-    -- what is decided
-    abbrev meant : Decision → ℕ
-    meant d = number (applied e l (u .frame) (itemsIn (u .what)) (u .noted) d)
+    abbrev made : Ask → Outcome → Seen → Given
+    made q x y = given (decided e u c (ruled e w (ruling q y x)))
 
-    asked-due : (q : Request) → requestIn (u .what) ≡ q → u .outcome ≡ outcome.Accepted → Complete q → numberBy (understood u) ≡ first (got f) (understood u)
-    unfolding decided started stopped
-    asked-due (request.Start (mme.Is x) (tmgi.Is i) v) p o g = rw (small, name, asking, o, p) (of-three meant (holdsMme x l) (holdsMce c l) (full l) _ _ _ _)
-    asked-due (request.Start (mme.Is x) tmgi.Absent v) p o g = absurd (g .1)
-    asked-due (request.Start mme.Absent i v) p o g = absurd (g .0)
-    asked-due (request.Stop (mme.Is x) (mce.Is y)) p o g = rw (small, name, asking, o, p) (of-two meant (holdsPair x y l) _ _)
-    asked-due (request.Stop (mme.Is x) mce.Absent) p o g = absurd (g .1)
-    asked-due (request.Stop mme.Absent y) p o g = absurd (g .0)
-    asked-due (request.Reset reset.Whole) p o g = rw (small, name, asking, o, p)
-    asked-due (request.Reset reset.Part) p o g = rw (small, name, asking, o, p)
-    asked-due (request.Reset reset.Absent) p o g = absurd g
-    asked-due request.Indication p o g = rw (small, name, asking, o, p)
-    asked-due request.None p o g = absurd g
+    module _ (small : ltb 8192 (length s) ≡ false) where
+      rejected-reply : (q : Ask) (x : Mme) (y : Mce) (g : MaybeTmgi) (v : Session) (r : MaybeReset) (why : Cause) → isAsked q ≡ true
+          → let z : Seen = record { mme = x; mce = y; tmgi = g; session = v; reset = r } in replyBy (replied e (w .frame) [] (w .noted) (rejection q z why)) ≡ rejectedReply q z
+      unfolding replied rejection
+      rejected-reply ask.Start (mme.Is m) y g v r why i = refl
+      rejected-reply ask.Start mme.Absent y g v r why i = refl
+      rejected-reply ask.Stop x y g v r why i = refl
+      rejected-reply ask.Reset x y g v r why i = refl
+      rejected-reply ask.Indication x y g v r why i = refl
+      rejected-reply ask.Nothing x y g v r why i = refl
 
-    understood-due : (o : Outcome) → u .outcome ≡ o → (u .outcome ≡ outcome.Accepted → Complete (requestIn (u .what))) → numberBy (understood u) ≡ first (got f) (understood u)
-    unfolding decided
-    understood-due outcome.Accepted p g = asked-due (requestIn (u .what)) refl p (g p)
-    understood-due (outcome.Misplaced k) p g = rw (small, name, asking, p)
-    understood-due outcome.Rejected p g = rw (small, name, asking, p)
+      accepted-due : (q : Ask) (x : Mme) (y : Mce) (g : MaybeTmgi) (v : Session) (r : MaybeReset) → isAsked q ≡ true
+          → let z : Seen = record { mme = x; mce = y; tmgi = g; session = v; reset = r } in Complete (requestOf q z) → made q outcome.Accepted z ≡ first q outcome.Accepted z
+      unfolding decided started stopped replied
+      accepted-due ask.Start (mme.Is m) y (tmgi.Is g) v r i k = by (holdsMme m (u .held)) refl (holdsMce c (u .held)) refl (full (u .held)) refl
+        where
+          z : Seen
+          z = record { mme = mme.Is m; mce = y; tmgi = tmgi.Is g; session = v; reset = r }
+
+          by : (p : Bool) → holdsMme m (u .held) ≡ p → (q : Bool) → holdsMce c (u .held) ≡ q → (n : Bool) → full (u .held) ≡ n → made ask.Start outcome.Accepted z ≡ first ask.Start outcome.Accepted z
+          by true h q l n o = rw (small, h)
+          by false h true l n o = rw (small, h, l)
+          by false h false l true o = rw (small, h, l, o)
+          by false h false l false o = rw (small, h, l, o)
+      accepted-due ask.Start (mme.Is m) y tmgi.Absent v r i k = absurd k
+      accepted-due ask.Start mme.Absent y g v r i k = absurd k
+      accepted-due ask.Stop (mme.Is m) (mce.Is x) g v r i k = by (holdsPair m x (u .held)) refl
+        where
+          z : Seen
+          z = record { mme = mme.Is m; mce = mce.Is x; tmgi = g; session = v; reset = r }
+
+          by : (p : Bool) → holdsPair m x (u .held) ≡ p → made ask.Stop outcome.Accepted z ≡ first ask.Stop outcome.Accepted z
+          by true h = rw (small, h)
+          by false h = rw (small, h)
+      accepted-due ask.Stop (mme.Is m) mce.Absent g v r i k = absurd k
+      accepted-due ask.Stop mme.Absent y g v r i k = absurd k
+      accepted-due ask.Reset x y g v reset.Whole i k = rw small
+      accepted-due ask.Reset x y g v reset.Part i k = rw small
+      accepted-due ask.Reset x y g v reset.Absent i k = absurd k
+      accepted-due ask.Indication x y g v r i k = rw small
+      accepted-due ask.Nothing x y g v r i k = absurd k
+
+      rules-due : (q : Ask) (x : Outcome) (z : Seen) → isAsked q ≡ true → (x ≡ outcome.Accepted → Complete (requestOf q z)) → made q x z ≡ first q x z
+      unfolding decided
+      rules-due q outcome.Accepted z i k = accepted-due q (z .mme) (z .mce) (z .tmgi) (z .session) (z .reset) i (k refl)
+      rules-due q (outcome.Misplaced p) z i k = rw (small, i, rejected-reply q (z .mme) (z .mce) (z .tmgi) (z .session) (z .reset) _ i)
+      rules-due q outcome.Rejected z i k = rw (small, i, rejected-reply q (z .mme) (z .mce) (z .tmgi) (z .session) (z .reset) _ i)
 
   -- ---- what is judged
 
-  module _ (small : ltb 8192 (length s) ≡ false) (f : Frame) where
-    module _ (m : Message) (name : namedBy e (f .kind) (f .code) ≡ named.Is m) where
-      opened-due : asks m ≡ true → (o : Read Opening) → judged e s ≡ verdictOf (tableOf e m) m f s o → numberBy (verdictOf (tableOf e m) m f s o) ≡ first (got f) (verdictOf (tableOf e m) m f s o)
-      unfolding decided
-      opened-due a (got o) q =
-          let u : Understood = understoodBy (tableOf e m) m f s o in
-          understood-due small f m name a u (o .outcome) refl (accepted-complete e s u q)
-      opened-due a (stop (Fault p)) q = rw (small, name, a)
-      opened-due a (stop (Extension p)) q = rw (small, name, a)
+  abbrev due-of : MaybeInside → Given
+  due-of i = dueAs (dueFor (isUnit u) s (got f) i c)
 
-      asking-due : (b : Bool) → asks m ≡ b → judged e s ≡ pick b (verdictOf (tableOf e m) m f s (openedAt (tableOf e m) s (f .from))) (refused refusal.NotAmong)
-          → numberBy (pick b (verdictOf (tableOf e m) m f s (openedAt (tableOf e m) s (f .from))) (refused refusal.NotAmong))
-          ≡ first (got f) (pick b (verdictOf (tableOf e m) m f s (openedAt (tableOf e m) s (f .from))) (refused refusal.NotAmong))
-      unfolding decided
-      asking-due true a q = opened-due a (openedAt (tableOf e m) s (f .from)) q
-      asking-due false a q = rw (small, name, a)
+  abbrev given-by : Verdict → Given
+  given-by v = given (decided e u c (judgedBy e v))
 
-    named-due : (n : Named) → namedBy e (f .kind) (f .code) ≡ n → judged e s ≡ ofThose e asks s f n → numberBy (ofThose e asks s f n) ≡ first (got f) (ofThose e asks s f n)
-    unfolding decided
+  module _ (small : ltb 8192 (length s) ≡ false) where
+    module _ (m : Message) (name : namedBy e (f .kind) (f .code) ≡ named.Is m) (asking : asks m ≡ true) where
+      abbrev rows : List Row
+      rows = tableOf e m
+
+      -- what is inside, where it can be read to the end
+      inside-is : (o : Opening) → openedAt rows s (f .from) ≡ got o
+          → insideBy e s (got f) ≡ inside (record { ask = askOf m; opened = got o; outcome = o .outcome; seen = seen (valuesIn rows s (o .spans)) })
+      inside-is o q =
+          let j = judging rows s (f .from) (sym q) in
+          let n : ℕ = j .count in
+          ap (insideOf e s f) name
+          ∙ (ap (λ (r : Read ℕ). inside (judgedIn rows s (f .from) (countedBy r) (askOf m))) (sym (j .counted))
+          ∙ (λ i. inside (record { ask = askOf m; opened = q i; outcome = ap (λ (y : Opening). y .outcome) (j .is) i; seen = seen (valuesIn rows s (ap (λ (y : Opening). y .spans) (j .is) i)) })))
+
+      opened-due : (o : Read Opening) → openedAt rows s (f .from) ≡ o → verdict e s ≡ verdictOf rows m f s o → given-by (verdictOf rows m f s o) ≡ due-of (insideBy e s (got f))
+      unfolding decided judgedBy
+      opened-due (got o) q v =
+          let w : Understood = understoodBy rows m f s o in
+          rules-due w o small (askOf m) (o .outcome) (seen (valuesIn rows s (o .spans))) asking (accepted-complete e s w v) ∙ sym (ap due-of (inside-is o q))
+      opened-due (stop (Fault p)) q v = rw (name, small, asking, q)
+      opened-due (stop (Extension p)) q v = rw (name, small, asking, q)
+
+    asking-due : (m : Message) → namedBy e (f .kind) (f .code) ≡ named.Is m → (b : Bool) → asks m ≡ b
+        → verdict e s ≡ pick b (verdictOf (tableOf e m) m f s (openedAt (tableOf e m) s (f .from))) (refused refusal.NotAmong)
+        → given-by (pick b (verdictOf (tableOf e m) m f s (openedAt (tableOf e m) s (f .from))) (refused refusal.NotAmong)) ≡ due-of (insideBy e s (got f))
+    unfolding decided judgedBy
+    asking-due m name true i q = opened-due m name i (openedAt (tableOf e m) s (f .from)) refl q
+    asking-due m name false i q = rw (name, small, i)
+
+    named-due : (n : Named) → namedBy e (f .kind) (f .code) ≡ n → verdict e s ≡ ofThose e asks s f n → given-by (ofThose e asks s f n) ≡ due-of (insideBy e s (got f))
+    unfolding decided judgedBy
     named-due (named.Is m) name q = asking-due m name (asks m) refl q
-    named-due named.Other name q = rw (small, name)
+    named-due named.Other name q = rw (name, small)
 
-  framed-due : ltb 8192 (length s) ≡ false → (r : Read Frame) → judged e s ≡ framed e asks s r → numberBy (framed e asks s r) ≡ first r (framed e asks s r)
-  unfolding decided
-  framed-due small (got f) q = named-due small f (namedBy e (f .kind) (f .code)) refl q
+module _ (e : Edition) (u : Unit) (c : MceId) (s : List ℕ) where
+  abbrev given-of : Verdict → Given
+  given-of v = given (decided e u c (judgedBy e v))
+
+  abbrev due-by : Read Frame → Given
+  due-by r = dueAs (dueFor (isUnit u) s r (insideBy e s r) c)
+
+  framed-due : ltb 8192 (length s) ≡ false → (r : Read Frame) → verdict e s ≡ framed e asks s r → given-of (framed e asks s r) ≡ due-by r
+  unfolding decided judgedBy
+  framed-due small (got f) q = named-due e u c s f small (namedBy e (f .kind) (f .code)) refl q
   framed-due small (stop (Fault p)) q = rw small
   framed-due small (stop (Extension p)) q = rw small
 
-  judged-due : numberBy (judged e s) ≡ first (frameAt s) (judged e s)
-  unfolding readOf decided
+  judged-due : given-of (verdict e s) ≡ due-by (frameAt s)
+  unfolding readOf decided judgedBy
   judged-due = by (ltb 8192 (length s)) refl refl
     where
-      by : (b : Bool) → ltb 8192 (length s) ≡ b → judged e s ≡ pick b (refused refusal.TooLong) (framed e asks s (frameAt s))
-          → numberBy (pick b (refused refusal.TooLong) (framed e asks s (frameAt s))) ≡ first (frameAt s) (pick b (refused refusal.TooLong) (framed e asks s (frameAt s)))
+      by : (b : Bool) → ltb 8192 (length s) ≡ b → verdict e s ≡ pick b (refused refusal.TooLong) (framed e asks s (frameAt s))
+          → given-of (pick b (refused refusal.TooLong) (framed e asks s (frameAt s))) ≡ due-by (frameAt s)
       by true z q = rw z
       by false z q = framed-due z (frameAt s) q
 
 -- ---- the call
 
-settled-due : (e : Edition) (t d : List ℕ) (b : Bool) (x : Decided) {n : ℕ} → number x ≡ n → numbered (settledIf e b t d x .answer) .number ≡ pick b n 10
-settled-due e t d true x q = q
-settled-due e t d false x q = refl
+settled-due : (e : Edition) (t d : List ℕ) (b : Bool) (x : Decided) (y z : Due) → numbered (answerOf x) .number ≡ y .number → z .number ≡ 10
+    → numbered (settledIf e b t d x .answer) .number ≡ pick b y z .number
+settled-due e t d true x y z q r = q
+settled-due e t d false x y z q r = sym r
 
 pub answers-as : (e : Edition) → AnswersAs e
 unfolding call settled due
-answers-as e t c = by (readTable t)
+answers-as e t c = by (readUnit t)
   where
-    by : (x : Lent) → numbered (onTable e t c x .answer) .number ≡ pick (fitsIn e x c) (firstDue (dueFor e x (c .message) (frameAt (c .message)) (judged e (c .message)) (c .offered))) 10
-    by (Held l) =
-        let x : Decided = decided e l (c .offered) (judged e (c .message)) in
-        settled-due e t (c .room) (fits e (c .room) x) x (judged-due e l (c .offered) (c .message))
-    by NoTable = refl
+    by : (x : MaybeUnit) → numbered (onUnit e t c x .answer) .number ≡ dueOn e x c .number
+    by (isUnit u) =
+        let x : Decided = decidedOn e u c in
+        settled-due e t (c .room) (fits e (c .room) x) x (due e (isUnit u) c) noRoom (ap (λ (y : Given). y .number) (judged-due e u (c .offered) (c .message))) refl
+    by noUnit = refl
+
+-- ---- the reply
+
+module _ (e : Edition) (t : List ℕ) (c : Call) (h : Handed t c) where
+  module _ (u : Unit) (q : readUnit t ≡ isUnit u) where
+    abbrev made-on : Decided
+    made-on = decidedOn e u c
+
+    called : (b : Bool) → fits e (c .room) made-on ≡ b → call e t c .reply ≡ settledIf e b t (c .room) made-on .reply
+    unfolding settled
+    called b f = ap (λ (x : Back). x .reply) (call-on e t c u q) ∙ ap (λ (y : Bool). settledIf e y t (c .room) made-on .reply) f
+
+    spoken-is : fits e (c .room) made-on ≡ true → (r : Replied) → repliedIn made-on ≡ r → ReplyIs e (call e t c .reply) (replyBy r)
+    unfolding saidBy
+    spoken-is f silent k = called true f ∙ (ap (replyOctets e) k ∙ none-said e)
+    spoken-is f (says w) k = let b = demand-1 e .spoken t c u w h q f k in (b .what, b .read, ap (λ (x : Said). x .message) (b .said))
+
+    unit-replies : (b : Bool) → fits e (c .room) made-on ≡ b → (y z : Due) → replyBy (repliedIn made-on) ≡ y .reply → z .reply ≡ none → ReplyIs e (call e t c .reply) (pick b y z .reply)
+    unit-replies true f y z k n = subst (ReplyIs e (call e t c .reply)) k (spoken-is f (repliedIn made-on) refl)
+    unit-replies false f y z k n = subst (ReplyIs e (call e t c .reply)) (sym n) (called false f)
+
+pub replies-as : (e : Edition) → RepliesAs e
+unfolding call due
+replies-as e t c h = by (readUnit t) refl
+  where
+    by : (x : MaybeUnit) → readUnit t ≡ x → ReplyIs e (call e t c .reply) (dueOn e x c .reply)
+    by (isUnit u) q = unit-replies e t c h u q (fits e (c .room) (decidedOn e u c)) refl (due e (isUnit u) c) noRoom (ap (λ (y : Given). y .reply) (judged-due e u (c .offered) (c .message))) refl
+    by noUnit q = ap (λ (x : MaybeUnit). onUnit e t c x .reply) q

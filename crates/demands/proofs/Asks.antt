@@ -1,7 +1,7 @@
--- A start, a stop and a partial reset that are answered 0 were accepted with the elements that they need: so they ask for what the words say.
+-- A start, a stop and a partial reset that are answered 0 were accepted: so they ask for what the words say.
 -- Assumes nothing.
 use Prim.Native.Nat.{ℕ}
-use mathlib.Core.Path.{_≡_, refl, ap, subst, _∙_}
+use mathlib.Core.Path.{_≡_, _∙_, refl, sym, ap, subst}
 use mathlib.Core.List.{List}
 use native.Mathlib.Omega.{arith}
 use Rattle.identity.specs.declared.MmeId.{MmeId}
@@ -16,77 +16,99 @@ use Rattle.identity.specs.declared.Item.{Item}
 use Rattle.editions.specs.declared.Message.{Message}
 use Rattle.editions.specs.declared.Message.the-variants as message
 use Rattle.editions.specs.declared.Edition.{Edition}
-use Rattle.verdicts.specs.declared.Outcome.{Outcome}
-use Rattle.verdicts.specs.declared.Outcome.the-variants as outcome
-use Rattle.verdicts.specs.Verdict.{Understood, Verdict, understood}
-use Rattle.lent.specs.Lent.{Lent, Held, NoTable, readTable}
-use Rattle.table.specs.Table.{State}
+use Rattle.verdicts.specs.Verdict.{Understood, Verdict, refused, understood}
+use Rattle.units.specs.Unit.{Unit, MaybeUnit, isUnit, noUnit, readUnit}
 use Rattle.requests.specs.declared.MaybeTmgi.{MaybeTmgi}
 use Rattle.requests.specs.declared.MaybeTmgi.the-variants as tmgi
 use Rattle.requests.specs.declared.MaybeReset.the-variants as reset
+use Rattle.requests.specs.declared.Request.{Request}
 use Rattle.requests.specs.declared.Request.the-variants as request
-use Rattle.requests.specs.Requests.{seen, requestOf, requestIn, itemsIn}
+use Rattle.requests.specs.declared.Wanted.{Wanted}
+use Rattle.requests.specs.declared.Wanted.the-variants as wanted
+use Rattle.requests.specs.declared.Seen.{Seen}
+use Rattle.requests.specs.Requests.{askOf, startOf, stopOf, resetOf, requestOf, seen}
+use Rattle.carry.specs.declared.Ruling.{Ruling}
+use Rattle.carry.specs.declared.Ruling.the-variants.{Granted, Refused}
+use Rattle.carry.specs.Carry.{ruling}
 use Rattle.answers.specs.Answers.{numbered}
+use Rattle.calls.specs.Judged.{Accepted, Judged, refuses, accepts, ruled, judgedBy, judged, verdict}
 use Rattle.calls.specs.Decided.{decided}
-use Rattle.calls.specs.Call.{Call, onTable, call, judged}
+use Rattle.calls.specs.Call.{Call, onUnit, call}
 use Rattle.demands.specs.Answered.{numberOf}
-use Rattle.demands.specs.Words.{Starts, Stops, PartialReset}
+use Rattle.demands.specs.Words.{Asks, PartialReset}
 use Rattle.demands.specs.Resets.{NoneLeftOut}
-use Rattle.demands.proofs.Accepted.{Complete, accepted-complete}
+use Rattle.demands.proofs.JudgedSound.{Of, accepted-of}
 use Rattle.demands.proofs.Done.{number, done}
 
--- ---- answer 0 comes of a table, and of a message that was accepted
+-- ---- answer 0 comes of a unit, and of a message that was accepted
 
 module _ (e : Edition) where
-  was-accepted : (l : State) (x : MceId) (u : Understood) → number (decided e l x (understood u)) ≡ 0 → u .outcome ≡ outcome.Accepted
+  ruled-accepted : (u : Unit) (x : MceId) (w : Understood) (r : Ruling) → number (decided e u x (ruled e w r)) ≡ 0 → (a : Accepted) × (ruled e w r ≡ accepts a)
   unfolding decided
-  was-accepted l x u h = by (u .outcome) refl
-    where
-      by : (o : Outcome) → u .outcome ≡ o → u .outcome ≡ outcome.Accepted
-      by outcome.Accepted q = q
-      by (outcome.Misplaced k) q = absurd (omega (arith, rw q at h))
-      by outcome.Rejected q = absurd (omega (arith, rw q at h))
+  ruled-accepted u x w (Granted q) h = (_, refl)
+  ruled-accepted u x w (Refused r) h = absurd (omega arith)
 
-  is-table : (t : List ℕ) (c : Call) → numberOf e t c ≡ 0 → (l : State) × (readTable t ≡ Held l)
+  was-accepted : (u : Unit) (x : MceId) (w : Understood) → number (decided e u x (judgedBy e (understood w))) ≡ 0 → (a : Accepted) × (judgedBy e (understood w) ≡ accepts a)
+  unfolding judgedBy
+  was-accepted u x w h = ruled-accepted u x w (ruling (askOf (w .what .message)) (seen (w .what .values)) (w .outcome)) h
+
+  is-unit : (t : List ℕ) (c : Call) → numberOf e t c ≡ 0 → (u : Unit) × (readUnit t ≡ isUnit u)
   unfolding call
-  is-table t c = by (readTable t) refl
+  is-unit t c = by (readUnit t) refl
     where
-      by : (x : Lent) → readTable t ≡ x → numbered (onTable e t c x .answer) .number ≡ 0 → (l : State) × (readTable t ≡ Held l)
-      by (Held l) q h = (l, q)
-      by NoTable q h = absurd (omega arith)
+      by : (x : MaybeUnit) → readUnit t ≡ x → numbered (onUnit e t c x .answer) .number ≡ 0 → (u : Unit) × (readUnit t ≡ isUnit u)
+      by (isUnit u) q h = (u, q)
+      by noUnit q h = absurd (omega arith)
 
-  module _ (t : List ℕ) (c : Call) (u : Understood) (h : numberOf e t c ≡ 0) (q : judged e (c .message) ≡ understood u) where
-    accepted : u .outcome ≡ outcome.Accepted
+  same-read : {x y : Understood} → understood x ≡ understood y → x ≡ y
+  same-read q = cc
+
+  module _ (t : List ℕ) (c : Call) (v : Understood) (h : numberOf e t c ≡ 0) (q : verdict e (c .message) ≡ understood v) where
+    abbrev s : List ℕ
+    s = c .message
+
+    accepted : (a : Accepted) × (judged e s ≡ accepts a)
     accepted =
-        let k = is-table t c h in
-        was-accepted (k .0) (c .offered) u (subst (λ (v : Verdict). number (decided e (k .0) (c .offered) v) ≡ 0) q (done e t c (k .0) (k .1) h .answer))
+        let k = is-unit t c h in
+        let n = done e t c (k .0) (k .1) h .answer in
+        let a = was-accepted (k .0) (c .offered) v (subst (λ (x : Verdict). number (decided e (k .0) (c .offered) (judgedBy e x)) ≡ 0) q n) in
+        (a .0, ap (judgedBy e) q ∙ a .1)
 
-    complete : Complete (requestIn (u .what))
-    complete = accepted-complete e (c .message) u q accepted
+    abbrev what : Accepted
+    what = accepted .0
 
-    start-asks : (x : Mme) (i : MaybeTmgi) (v : Session) → requestIn (u .what) ≡ request.Start x i v → Complete (request.Start x i v)
-        → (m : MmeId) × (g : Tmgi) × (w : Session) × Starts (judged e (c .message)) m g w
-    start-asks (mme.Is m) (tmgi.Is g) v r k = (m, g, v, record { what = u; read = q; accepted = accepted; so = r })
-    start-asks (mme.Is m) tmgi.Absent v r k = absurd (k .1)
-    start-asks mme.Absent i v r k = absurd (k .0)
+    -- the request is what the values say
+    wanted-is : requestOf (askOf (v .what .message)) (seen (v .what .values)) ≡ wanted.Is (what .request)
+    wanted-is =
+        let a = accepted-of e (verdict e s) what (accepted .1) in
+        let z : a .what ≡ v = same-read (sym (a .read) ∙ q) in
+        subst (λ (x : Understood). requestOf (askOf (x .what .message)) (seen (x .what .values)) ≡ wanted.Is (what .request)) z (a .request)
 
-    stop-asks : (x : Mme) (y : Mce) → requestIn (u .what) ≡ request.Stop x y → Complete (request.Stop x y) → (m : MmeId) × (z : MceId) × Stops (judged e (c .message)) m z
-    stop-asks (mme.Is m) (mce.Is z) r k = (m, z, record { what = u; read = q; accepted = accepted; so = r })
-    stop-asks (mme.Is m) mce.Absent r k = absurd (k .1)
-    stop-asks mme.Absent y r k = absurd (k .0)
+    asks-for : (r : Request) → wanted.Is (what .request) ≡ wanted.Is r → Asks (judged e s) r
+    asks-for r p = record { what = what; accepted = accepted .1; request = cc }
 
-    -- what the message asks for, by its name
-    asked : {m : Message} → u .what .message ≡ m → requestIn (u .what) ≡ requestOf m (seen (u .what .values))
-    asked p = ap (λ (x : Message). requestOf x (seen (u .what .values))) p
+    named-is : {m : Message} → v .what .message ≡ m → requestOf (askOf m) (seen (v .what .values)) ≡ wanted.Is (what .request)
+    named-is p = subst (λ (m : Message). requestOf (askOf m) (seen (v .what .values)) ≡ wanted.Is (what .request)) p wanted-is
 
-    starts : u .what .message ≡ message.StartRequest → (m : MmeId) × (g : Tmgi) × (w : Session) × Starts (judged e (c .message)) m g w
-    starts p = let r = asked p in let s = seen (u .what .values) in start-asks (s .mme) (s .tmgi) (s .session) r (subst Complete r complete)
+    start-asks : (x : Mme) (i : MaybeTmgi) (w : Session) → startOf x i w ≡ wanted.Is (what .request) → (m : MmeId) × (g : Tmgi) × (y : Session) × Asks (judged e s) (request.Start m g y)
+    start-asks (mme.Is m) (tmgi.Is g) w p = (m, g, w, asks-for (request.Start m g w) (sym p))
+    start-asks (mme.Is m) tmgi.Absent w p = absurd (let z : _≡_ {A = ℕ} 0 1 = cc in omega arith)
+    start-asks mme.Absent i w p = absurd (let z : _≡_ {A = ℕ} 0 1 = cc in omega arith)
 
-    stops : u .what .message ≡ message.StopRequest → (m : MmeId) × (z : MceId) × Stops (judged e (c .message)) m z
-    stops p = let r = asked p in let s = seen (u .what .values) in stop-asks (s .mme) (s .mce) r (subst Complete r complete)
+    stop-asks : (x : Mme) (y : Mce) → stopOf x y ≡ wanted.Is (what .request) → (m : MmeId) × (z : MceId) × Asks (judged e s) (request.Stop m z)
+    stop-asks (mme.Is m) (mce.Is z) p = (m, z, asks-for (request.Stop m z) (sym p))
+    stop-asks (mme.Is m) mce.Absent p = absurd (let z : _≡_ {A = ℕ} 0 1 = cc in omega arith)
+    stop-asks mme.Absent y p = absurd (let z : _≡_ {A = ℕ} 0 1 = cc in omega arith)
 
-    partial : u .what .message ≡ message.Reset → seen (u .what .values) .reset ≡ reset.Part → (items : List Item) × PartialReset (judged e (c .message)) items
-    partial p k = (itemsIn (u .what), record { what = u; read = q; accepted = accepted; so = (asked p ∙ ap request.Reset k, refl) })
+    starts : v .what .message ≡ message.StartRequest → (m : MmeId) × (g : Tmgi) × (y : Session) × Asks (judged e s) (request.Start m g y)
+    starts p = let x : Seen = seen (v .what .values) in start-asks (x .mme) (x .tmgi) (x .session) (named-is p)
+
+    stops : v .what .message ≡ message.StopRequest → (m : MmeId) × (z : MceId) × Asks (judged e s) (request.Stop m z)
+    stops p = let x : Seen = seen (v .what .values) in stop-asks (x .mme) (x .mce) (named-is p)
+
+    partial : v .what .message ≡ message.Reset → seen (v .what .values) .reset ≡ reset.Part → (items : List Item) × PartialReset (judged e s) items
+    unfolding accepted asks-for
+    partial p k = (what .items, record { asks = asks-for request.Part (sym (named-is p) ∙ ap resetOf k); items = refl })
 
   pub none-left-out : NoneLeftOut e
   none-left-out = record { starts = starts; stops = stops; partial = partial }

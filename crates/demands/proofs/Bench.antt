@@ -29,32 +29,34 @@ use Rattle.meaning.specs.Written.{octetsOf, hasOctets, elementsOctets, howMany,
 use Rattle.verdicts.specs.Verdict.{openedAt, readOf}
 use Rattle.layout.specs.Record.{listsOf}
 use Rattle.table.specs.Table.{State, named, without}
-use Rattle.lent.specs.Lent.{tableOctets, Good}
-use Rattle.lent.proofs.OneForm.{one-form}
+use Rattle.lent.specs.Lent.{Good}
+use Rattle.units.specs.Unit.{unitOctets}
+use Rattle.units.proofs.OneForm.{one-unit}
 use Rattle.round_trips.specs.Examples.{partialReset}
 use Rattle.requests.specs.Requests.{seen}
 use Rattle.replies.specs.Replies.{valueOf, listOnly, replied, replyOctets}
 use Rattle.carry.specs.declared.Answer.the-variants as answer
+use Rattle.calls.specs.Judged.{judgedBy, judged}
 use Rattle.calls.specs.Decided.{Decided, decided}
-use Rattle.calls.specs.Call.{replyOf, answerOf, tableAfter, fits, settled, judged}
-use Rattle.demands.specs.Occur.{offer, pair, whole, emptyReset, Does, BenchCalls, Demand2}
+use Rattle.calls.specs.Call.{replyOf, answerOf, unitAfter, fits, settled}
+use Rattle.demands.specs.Occur.{holding, offer, pair, whole, emptyReset, Does, BenchCalls, Demand2}
 use Rattle.demands.proofs.Decisions.{none-good}
-use Rattle.demands.proofs.TableOut.{call-on}
-use Rattle.demands.proofs.Answers.{answers-as}
+use Rattle.demands.proofs.UnitOut.{call-on}
+use Rattle.demands.proofs.Answers.{answers-as, replies-as}
 use Rattle.demands.proofs.Occur.{one-good, room-number, every-answer}
 
 abbrev made : State → List ℕ → Decided
-made l s = decided Release18 l offer (judged Release18 s)
+made l s = decided Release18 (record { held = l }) offer (judged Release18 s)
 
 does : (l : State) (s : List ℕ) {os : List ℕ} (l′ : State) → Good l → answerOf (made l s) ≡ answer.CarriedOut
-    → replyOf Release18 (made l s) ≡ os → tableAfter (tableOctets l) (made l s) ≡ tableOctets l′ → Does l s os l′
+    → replyOf Release18 (made l s) ≡ os → unitAfter (holding l) (made l s) ≡ holding l′ → Does l s os l′
 unfolding settled
 does l s l′ g a r t d h =
     let f : fits Release18 d (made l s) ≡ true = le-leb (length (replyOf Release18 (made l s))) (length d) (rw r h) in
-    call-on Release18 (tableOctets l) (record { message = s; offered = offer; room = d }) l (one-form .back l g) ∙ rw (f, a, r, t)
+    call-on Release18 (holding l) (record { message = s; offered = offer; room = d }) (record { held = l }) (one-unit .back (record { held = l }) (record { held = g })) ∙ rw (f, a, r, t)
 
 pub bench-calls : BenchCalls
-unfolding decided readOf frameAt kindAt countAt openedAt elementsAt elements.judgedOf front find readInto unknownOf missingOf scanAt headsAt envelopeAt criticalityAt valueAt resetAt causeAt readAs valueIn valuesIn seen listsOf release18 firstOf namedBy flagAt plainAt choiceAt padAt numberAt openAt lengthAt longLengthAt endsAt sameAt bitsOf cutShort noMeaning leftOver extended _>>=_ numberOctets replyOctets encoded replied listOnly valueOf elementsGood elementsOctets messageOctets insideOctets howMany lengthOctets packedIn itemsAt several.many itemElementAt itemAt marksAt without named hasOctets octetsOf itemsOctets itemElementOctets itemOctets
+unfolding decided judgedBy unitOctets readOf frameAt kindAt countAt openedAt elementsAt elements.judgedOf front find readInto unknownOf missingOf scanAt headsAt envelopeAt criticalityAt valueAt resetAt causeAt readAs valueIn valuesIn seen listsOf release18 firstOf namedBy flagAt plainAt choiceAt padAt numberAt openAt lengthAt longLengthAt endsAt sameAt bitsOf cutShort noMeaning leftOver extended _>>=_ numberOctets replyOctets encoded replied listOnly valueOf elementsGood elementsOctets messageOctets insideOctets howMany lengthOctets packedIn itemsAt several.many itemElementAt itemAt marksAt without named hasOctets octetsOf itemsOctets itemElementOctets itemOctets
 bench-calls = record {
   named = does (pair 1 2 ∷ []) partialReset [] (one-good 1 2 (omega arith) (omega arith)) refl refl refl;
   unknown = does [] partialReset [] none-good refl refl refl;
@@ -65,4 +67,4 @@ bench-calls = record {
 }
 
 pub demand-2 : Demand2
-demand-2 = record { exactly = answers-as; each = every-answer; bench = bench-calls }
+demand-2 = record { exactly = answers-as; replies = replies-as; each = every-answer; bench = bench-calls }

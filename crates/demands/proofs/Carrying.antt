@@ -12,8 +12,6 @@ use Rattle.octets.specs.Many.{Each}
 use Rattle.octets.proofs.Back.{length-number}
 use Rattle.identity.specs.declared.MmeId.{MmeId}
 use Rattle.identity.specs.declared.MceId.{MceId}
-use Rattle.identity.specs.declared.Mme.the-variants as mme
-use Rattle.identity.specs.declared.Mce.the-variants as mce
 use Rattle.identity.specs.declared.Tmgi.{Tmgi}
 use Rattle.identity.specs.declared.Session.{Session}
 use Rattle.identity.specs.declared.Session.the-variants as session
@@ -36,25 +34,34 @@ use Rattle.meaning.specs.Ranges.{InRange}
 use Rattle.round_trips.specs.Ties.{ReadAs}
 use Rattle.round_trips.proofs.ValueAgain.{counted-good}
 use Rattle.layout.specs.Record.{listsOf}
-use Rattle.requests.specs.declared.MaybeTmgi.the-variants as tmgi
-use Rattle.requests.specs.declared.MaybeReset.the-variants as reset
+use Rattle.verdicts.specs.Verdict.{Understood, understood}
+use Rattle.requests.specs.declared.Ask.the-variants as ask
+use Rattle.requests.specs.declared.Request.{Request}
 use Rattle.requests.specs.declared.Request.the-variants as request
-use Rattle.requests.specs.Requests.{seen, requestOf, asks}
+use Rattle.requests.specs.declared.Wanted.the-variants as wanted
+use Rattle.requests.specs.Requests.{askOf, asks, requestOf, seen, itemsIn}
 use Rattle.replies.specs.Replies.{Element, _is_, valueOf, saying}
-use Rattle.calls.specs.Call.{judged}
-use Rattle.demands.specs.Words.{Accepts, PartialReset, Starts, Stops, resetMessage}
+use Rattle.calls.specs.Judged.{Accepted, accepts, judgedBy, judged}
+use Rattle.demands.specs.Words.{Asks, PartialReset, resetMessage}
 use Rattle.demands.proofs.AllOctets.{all-none, all-more}
 use Rattle.demands.proofs.Taken.{Takes, Taken, taken-none, taken-more, takes-value, takes-absent, taken-back}
 use Rattle.demands.proofs.Written.{items-size, takes-mme, takes-mce, takes-cause}
-use Rattle.demands.proofs.Seen.{Asking, asking}
+use Rattle.demands.proofs.Seen.{asking}
 use Rattle.demands.proofs.Verdicts.{judged-as-read}
 use Rattle.demands.proofs.MessageOctets.{AllElement, message-octets, value-cause, value-part, value-mme, value-mce, value-tmgi, value-session, value-carried}
 
--- what is read back and asks is judged so
-asked-so : (e : Edition) (os : List ℕ) (w : Said) → ReadAs e os w → asks (w .message) ≡ true → Accepts (judged e os) (λ r. Asking r w)
-asked-so e os w b a =
-    let k = asking os (b .what .what) w (b .said) in
-    record { what = b .what; read = judged-as-read e asks os (b .what) (ap asks (k .message) ∙ a) (b .read); accepted = b .accepted; so = k }
+-- what is read back and asks is accepted, with the request that it says
+asked-so : (e : Edition) (os : List ℕ) (w : Said) (q : Request) → ReadAs e os w → asks (w .message) ≡ true → requestOf (askOf (w .message)) (seen (w .values)) ≡ wanted.Is q
+    → (a : Asks (judged e os) q) × (a .what .items ≡ listsOf (w .values) .items)
+unfolding judgedBy
+asked-so e os w q b a h =
+    let u : Understood = b .what in
+    let k = asking os (u .what) w (b .said) in
+    let v = judged-as-read e asks os u (ap asks (k .message) ∙ a) (b .read) in
+    let r : requestOf (askOf (u .what .message)) (seen (u .what .values)) ≡ wanted.Is q = (λ i. requestOf (askOf (k .message i)) (k .seen i)) ∙ h in
+    let x : Accepted = record { request = q; items = itemsIn (u .what); frame = u .frame; noted = u .noted } in
+    let j : judgedBy e (understood u) ≡ accepts x = rw (b .accepted, r) in
+    (record { what = x; accepted = ap (judgedBy e) v ∙ j; request = refl }, k .items)
 
 -- ---- partial resets
 
@@ -69,7 +76,7 @@ reset-suits Release18 k items g h =
     (taken-more (takes-value (value.reset (part items)) 2306 refl (h .2) (counted-good (length items) (h .0) (h .1)) (omega arith)) taken-none)
 
 reset-asks : (e : Edition) (k : Cause) (items : List Item)
-    → (requestOf message.Reset (seen (saying e message.Reset (resetElements k items) .values)) ≡ request.Reset reset.Part) × (listsOf (saying e message.Reset (resetElements k items) .values) .items ≡ items)
+    → (requestOf ask.Reset (seen (saying e message.Reset (resetElements k items) .values)) ≡ wanted.Is request.Part) × (listsOf (saying e message.Reset (resetElements k items) .values) .items ≡ items)
 unfolding release18 valueOf seen listsOf
 reset-asks Release18 k items = (refl, refl)
 
@@ -80,9 +87,9 @@ module _ (e : Edition) (k : Cause) (items : List Item) (g : GoodCause k) where
   pub reset-carries : GoodItems items → PartialReset (judged e (resetMessage e k items)) items
   reset-carries h =
       let w : Said = saying e message.Reset (resetElements k items) in
-      let a = asked-so e (resetMessage e k items) w (taken-back e w 2317 (reset-suits e k items g h) (omega arith)) refl in
       let q = reset-asks e k items in
-      record { what = a .what; read = a .read; accepted = a .accepted; so = (a .so .request ∙ q .0, a .so .items ∙ q .1) }
+      let a = asked-so e (resetMessage e k items) w request.Part (taken-back e w 2317 (reset-suits e k items g h) (omega arith)) refl (q .0) in
+      record { asks = a .0; items = a .1 ∙ q .1 }
 
 -- ---- starts
 
@@ -132,7 +139,7 @@ module _ (m : MmeId) (t : Tmgi) where
       (taken-more (takes-absent 0 refl) (taken-more (takes-absent 0 refl) (taken-more (takes-absent 0 refl) (taken-more (takes-absent 0 refl) taken-none)))))))))))
 
   start-asks : (e : Edition) (v : Session)
-      → requestOf message.StartRequest (seen (saying e message.StartRequest (startElements v) .values)) ≡ request.Start (mme.Is m) (tmgi.Is t) v
+      → requestOf ask.Start (seen (saying e message.StartRequest (startElements v) .values)) ≡ wanted.Is (request.Start m t v)
   unfolding release18 valueOf seen
   start-asks Release18 (session.Is v) = refl
   start-asks Release18 session.Absent = refl
@@ -151,11 +158,10 @@ module _ (e : Edition) (m : MmeId) (t : Tmgi) (v : Session) where
         let c = value-carried 0 (omega arith) in
         message-octets (startElements m t v) (value-mme m, (value-tmgi t h, (c, (c, (c, (c, (c, all-session m t v))))))) e message.StartRequest
 
-    pub start-carries : Starts (judged e startMessage) m t v
+    pub start-carries : Asks (judged e startMessage) (request.Start m t v)
     start-carries =
         let w : Said = saying e message.StartRequest (startElements m t v) in
-        let a = asked-so e startMessage w (taken-back e w 55 (start-suits m t e v g h f) (omega arith)) refl in
-        record { what = a .what; read = a .read; accepted = a .accepted; so = a .so .request ∙ start-asks m t e v }
+        asked-so e startMessage w (request.Start m t v) (taken-back e w 55 (start-suits m t e v g h f) (omega arith)) refl (start-asks m t e v) .0
 
 -- ---- stops
 
@@ -167,7 +173,7 @@ module _ (m : MmeId) (c : MceId) where
   unfolding release18 valueOf
   stop-suits Release18 g h = taken-more (takes-mme m refl g) (taken-more (takes-mce c refl h) (taken-more (takes-absent 0 refl) taken-none))
 
-  stop-asks : (e : Edition) → requestOf message.StopRequest (seen (saying e message.StopRequest stopElements .values)) ≡ request.Stop (mme.Is m) (mce.Is c)
+  stop-asks : (e : Edition) → requestOf ask.Stop (seen (saying e message.StopRequest stopElements .values)) ≡ wanted.Is (request.Stop m c)
   unfolding release18 valueOf seen
   stop-asks Release18 = refl
 
@@ -178,8 +184,7 @@ module _ (e : Edition) (m : MmeId) (c : MceId) where
   pub stop-octets : Octets stopMessage
   stop-octets = message-octets (stopElements m c) (value-mme m, (value-mce c, tt)) e message.StopRequest
 
-  pub stop-carries : m .0 < 65536 → c .0 < 65536 → Stops (judged e stopMessage) m c
+  pub stop-carries : m .0 < 65536 → c .0 < 65536 → Asks (judged e stopMessage) (request.Stop m c)
   stop-carries g h =
       let w : Said = saying e message.StopRequest (stopElements m c) in
-      let a = asked-so e stopMessage w (taken-back e w 14 (stop-suits m c e g h) (omega arith)) refl in
-      record { what = a .what; read = a .read; accepted = a .accepted; so = a .so .request ∙ stop-asks m c e }
+      asked-so e stopMessage w (request.Stop m c) (taken-back e w 14 (stop-suits m c e g h) (omega arith)) refl (stop-asks m c e) .0

@@ -1,4 +1,4 @@
--- A decision on what is in range, over what a table can hold: it has no reply, or one that is written; and what the table then holds is again what a table can hold.
+-- A decision on what is in range, over what a unit can remember: it has no reply, or one that is written; and what is then remembered is again what a unit can remember.
 -- Assumes nothing.
 use Prim.Native.Nat.{_<_}
 use mathlib.Core.Logic.{_⊎_, inl, inr}
@@ -30,18 +30,30 @@ use Rattle.table.specs.Table.{State, without, full, starting, stopping, holdsMm
 use Rattle.table.proofs.Rules.{always}
 use Rattle.lent.specs.Lent.{InRange, Good}
 use Rattle.replies.specs.Replies.{abstractSyntax, falselyConstructed, hasIdentity, Replied, replied}
+use Rattle.units.specs.Unit as units
+use Rattle.units.specs.Unit.{GoodUnit}
+use Rattle.replies.specs.declared.Reply.{Reply}
+use Rattle.requests.specs.declared.MaybeTmgi.{MaybeTmgi}
 use Rattle.requests.specs.declared.MaybeTmgi.the-variants as tmgi
+use Rattle.requests.specs.declared.MaybeReset.{MaybeReset}
 use Rattle.requests.specs.declared.MaybeReset.the-variants as reset
+use Rattle.requests.specs.declared.Ask.{Ask}
+use Rattle.requests.specs.declared.Ask.the-variants as ask
+use Rattle.requests.specs.declared.Seen.{Seen}
 use Rattle.requests.specs.declared.Request.{Request}
 use Rattle.requests.specs.declared.Request.the-variants as request
-use Rattle.requests.specs.Requests.{requestIn, itemsIn}
+use Rattle.requests.specs.Requests.{askOf, startOf, stopOf, resetOf, requestOf, seen, itemsIn}
 use Rattle.carry.specs.declared.Change.{Change}
 use Rattle.carry.specs.declared.Change.the-variants as change
 use Rattle.carry.specs.declared.Decision.{Decision}
-use Rattle.carry.specs.Carry.{rejection, started, stopped, carriedOut, decision, asked}
+use Rattle.carry.specs.declared.Ruling.{Ruling}
+use Rattle.carry.specs.declared.Ruling.the-variants.{Granted, Refused}
+use Rattle.carry.specs.Carry.{startRejected, rejection, ruledBy, ruling, started, stopped, carriedOut, asked}
+use Rattle.calls.specs.Judged.{ruled, judgedBy}
 use Rattle.calls.specs.Decided.{Decided, keeps, changes, changed, decided}
-use Rattle.demands.proofs.Written.{GoodReply, Spoken, spoken}
-use Rattle.demands.proofs.Sound.{GoodRequest, Sound}
+use Rattle.demands.proofs.Written.{GoodMme, GoodMce, GoodReply, Spoken, spoken}
+use Rattle.demands.proofs.Seen.{GoodSeen}
+use Rattle.demands.proofs.Sound.{Sound}
 
 -- ---- what a table can hold, after the rules
 
@@ -83,25 +95,67 @@ module _ (l : State) (g : Good l) where
 
 -- ---- the rules
 
-rejection-good : (q : Request) (why : Cause) → GoodRequest q → GoodCause why → GoodReply (rejection q why)
-unfolding rejection
-rejection-good (request.Start (mme.Is m) t s) why g k = (g, k)
-rejection-good (request.Start mme.Absent t s) why g k = (tt, tt, k)
-rejection-good (request.Stop x y) why g k = (g .0, g .1, k)
-rejection-good (request.Reset x) why g k = (tt, tt, k)
-rejection-good request.Indication why g k = tt
-rejection-good request.None why g k = tt
+started-rejected : (x : Mme) (why : Cause) → GoodMme x → GoodCause why → GoodReply (startRejected x why)
+started-rejected (mme.Is m) why g k = (g, k)
+started-rejected mme.Absent why g k = (tt, tt, k)
 
--- what is decided: a reply, and what the table then holds
+rejection-good : (a : Ask) (x : Seen) (why : Cause) → GoodSeen x → GoodCause why → GoodReply (rejection a x why)
+unfolding rejection
+rejection-good ask.Start x why g k = started-rejected (x .mme) why (g .mme) k
+rejection-good ask.Stop x why g k = (g .mme, g .mce, k)
+rejection-good ask.Reset x why g k = (tt, tt, k)
+rejection-good ask.Indication x why g k = tt
+rejection-good ask.Nothing x why g k = tt
+
+-- the identities of a request
+abbrev pub GoodRequest : Request → Type 0
+GoodRequest (request.Start m t s) = m .0 < 65536
+GoodRequest (request.Stop m c) = (m .0 < 65536) × (c .0 < 65536)
+GoodRequest request.Whole = Unit
+GoodRequest request.Part = Unit
+GoodRequest request.Indication = Unit
+
+abbrev pub GoodRuling : Ruling → Type 0
+GoodRuling (Granted q) = GoodRequest q
+GoodRuling (Refused r) = GoodReply r
+
+start-good : (x : Mme) (t : MaybeTmgi) (s : Session) (r : Reply) → GoodMme x → GoodReply r → GoodRuling (ruledBy r (startOf x t s))
+start-good (mme.Is m) (tmgi.Is t) s r g k = g
+start-good (mme.Is m) tmgi.Absent s r g k = k
+start-good mme.Absent t s r g k = k
+
+stop-good : (x : Mme) (y : Mce) (r : Reply) → GoodMme x → GoodMce y → GoodReply r → GoodRuling (ruledBy r (stopOf x y))
+stop-good (mme.Is m) (mce.Is c) r g h k = (g, h)
+stop-good (mme.Is m) mce.Absent r g h k = k
+stop-good mme.Absent y r g h k = k
+
+reset-good : (x : MaybeReset) (r : Reply) → GoodReply r → GoodRuling (ruledBy r (resetOf x))
+reset-good reset.Whole r k = tt
+reset-good reset.Part r k = tt
+reset-good reset.Absent r k = k
+
+pub asked-good : (a : Ask) (x : Seen) (r : Reply) → GoodSeen x → GoodReply r → GoodRuling (ruledBy r (requestOf a x))
+asked-good ask.Start x r g k = start-good (x .mme) (x .tmgi) (x .session) r (g .mme) k
+asked-good ask.Stop x r g k = stop-good (x .mme) (x .mce) r (g .mme) (g .mce) k
+asked-good ask.Reset x r g k = reset-good (x .reset) r k
+asked-good ask.Indication x r g k = tt
+asked-good ask.Nothing x r g k = k
+
+pub ruling-good : (a : Ask) (x : Seen) (o : Outcome) → GoodSeen x → GoodRuling (ruling a x o)
+ruling-good a x outcome.Accepted g = asked-good a x (rejection a x abstractSyntax) g (rejection-good a x abstractSyntax g (omega arith))
+ruling-good a x (outcome.Misplaced k) g = rejection-good a x falselyConstructed g (omega arith)
+ruling-good a x outcome.Rejected g = rejection-good a x abstractSyntax g (omega arith)
+
+-- what is decided: a reply, and what is then remembered
 abbrev pub Sure : Edition → Decided → Type 0
 Sure e (keeps a r) = Spoken e r
-Sure e (changes l r) = Spoken e r × Good l
+Sure e (changes u r) = Spoken e r × GoodUnit u
 
-module _ (l : State) (t : Good l) where
+module _ (u : units.Unit) (t : GoodUnit u) where
   -- only a start asks for something
   abbrev GoodChange : Change → Type 0
   GoodChange (change.Stays a) = Unit
-  GoodChange (change.Starts a) = Good (starting a l)
+  GoodChange (change.Starts a) = Good (starting a (u .held))
   GoodChange (change.Stops m c) = Unit
   GoodChange change.Empties = Unit
   GoodChange change.Resets = Unit
@@ -109,53 +163,50 @@ module _ (l : State) (t : Good l) where
   abbrev GoodDecision : Decision → Type 0
   GoodDecision d = GoodReply (d .reply) × GoodChange (d .change)
 
-  changed-sure : (e : Edition) (items : List Item) (r : Replied) → Spoken e r → (x : Change) → GoodChange x → Sure e (changed l items r x)
+  changed-sure : (e : Edition) (items : List Item) (r : Replied) → Spoken e r → (x : Change) → GoodChange x → Sure e (changed u items r x)
   changed-sure e items r s (change.Stays a) g = s
-  changed-sure e items r s (change.Starts a) g = (s, g)
-  changed-sure e items r s (change.Stops m c) g = (s, stopping-good l t m c)
-  changed-sure e items r s change.Empties g = (s, none-good)
-  changed-sure e items r s change.Resets g = (s, without-good l t items)
+  changed-sure e items r s (change.Starts a) g = (s, record { held = g })
+  changed-sure e items r s (change.Stops m c) g = (s, record { held = stopping-good (u .held) (t .held) m c })
+  changed-sure e items r s change.Empties g = (s, record { held = none-good })
+  changed-sure e items r s change.Resets g = (s, record { held = without-good (u .held) (t .held) items })
 
   -- of a message that asks about two identities
   abbrev about : Mme → Mce → Standing
-  about x y = standing (record { mme = x; mce = y }) l
+  about x y = standing (record { mme = x; mce = y }) (u .held)
 
   module _ (c : MceId) (o : c .0 < 65536) where
     started-good : (m : MmeId) (i : Tmgi) (s : Session) → m .0 < 65536 → GoodDecision (started (about (mme.Is m) (mce.Is c)) c m i s)
     unfolding started
     started-good m i s g =
-        by-test GoodDecision (holdsMme m l) (λ e. ((g, omega arith), tt))
-        (λ h. by-test GoodDecision (holdsMce c l) (λ e. (tt, tt))
-        (λ k. on-pick GoodDecision (full l) ((g, omega arith), tt) ((g, o), starting-good l t _ (record { mme = g; mce = o }) h k)))
+        by-test GoodDecision (holdsMme m (u .held)) (λ e. ((g, omega arith), tt))
+        (λ h. by-test GoodDecision (holdsMce c (u .held)) (λ e. (tt, tt))
+        (λ k. on-pick GoodDecision (full (u .held)) ((g, omega arith), tt) ((g, o), starting-good (u .held) (t .held) _ (record { mme = g; mce = o }) h k)))
 
     stopped-good : (m : MmeId) (x : MceId) → m .0 < 65536 → x .0 < 65536 → GoodDecision (stopped (about (mme.Is m) (mce.Is x)) m x)
     unfolding stopped
-    stopped-good m x g h = on-pick GoodDecision (holdsPair m x l) ((g, h), tt) ((g, h), tt)
+    stopped-good m x g h = on-pick GoodDecision (holdsPair m x (u .held)) ((g, h), tt) ((g, h), tt)
 
-    carried-good : (q : Request) → GoodRequest q → GoodDecision (carriedOut (standing (asked c q) l) c q)
-    carried-good (request.Start (mme.Is m) (tmgi.Is i) s) g = started-good m i s g
-    carried-good (request.Start (mme.Is m) tmgi.Absent s) g = (rejection-good _ abstractSyntax g (omega arith), tt)
-    carried-good (request.Start mme.Absent i s) g = (rejection-good _ abstractSyntax g (omega arith), tt)
-    carried-good (request.Stop (mme.Is m) (mce.Is x)) g = stopped-good m x (g .0) (g .1)
-    carried-good (request.Stop (mme.Is m) mce.Absent) g = (rejection-good _ abstractSyntax g (omega arith), tt)
-    carried-good (request.Stop mme.Absent y) g = (rejection-good _ abstractSyntax g (omega arith), tt)
-    carried-good (request.Reset reset.Whole) g = (tt, tt)
-    carried-good (request.Reset reset.Part) g = (tt, tt)
-    carried-good (request.Reset reset.Absent) g = (rejection-good _ abstractSyntax g (omega arith), tt)
+    carried-good : (q : Request) → GoodRequest q → GoodDecision (carriedOut (standing (asked c q) (u .held)) c q)
+    carried-good (request.Start m i s) g = started-good m i s g
+    carried-good (request.Stop m x) g = stopped-good m x (g .0) (g .1)
+    carried-good request.Whole g = (tt, tt)
+    carried-good request.Part g = (tt, tt)
     carried-good request.Indication g = (tt, tt)
-    carried-good request.None g = (tt, tt)
 
-    ruled-good : (q : Request) (x : Outcome) → GoodRequest q → GoodDecision (decision (standing (asked c q) l) c q x)
-    ruled-good q outcome.Accepted g = carried-good q g
-    ruled-good q (outcome.Misplaced k) g = (rejection-good q falselyConstructed g (omega arith), tt)
-    ruled-good q outcome.Rejected g = (rejection-good q abstractSyntax g (omega arith), tt)
+    ruled-sure : (e : Edition) (w : Understood) → Sound w → (r : Ruling) → GoodRuling r → Sure e (decided e u c (ruled e w r))
+    unfolding decided
+    ruled-sure e w z (Granted q) g =
+        let d : Decision = carriedOut (standing (asked c q) (u .held)) c q in
+        let k = carried-good q g in
+        changed-sure e (itemsIn (w .what)) (replied e (w .frame) (keep hasIdentity (itemsIn (w .what))) (w .noted) (d .reply))
+        (spoken e (w .frame) (z .frame) (itemsIn (w .what)) (z .items .list) (w .noted) (z .noted) (d .reply) (k .0)) (d .change) (k .1)
+    ruled-sure e w z (Refused r) g = spoken e (w .frame) (z .frame) [] (record { few = omega arith; each = tt }) (w .noted) (z .noted) r g
 
-pub decided-sure : (e : Edition) (l : State) (c : MceId) (v : Verdict) → Good l → c .0 < 65536 → ((u : Understood) → v ≡ understood u → Sound u) → Sure e (decided e l c v)
-unfolding decided
-decided-sure e l c (refused x) t o s = tt
-decided-sure e l c (understood u) t o s =
-    let z = s u refl in
-    let q : Request = requestIn (u .what) in
-    let d : Decision = decision (standing (asked c q) l) c q (u .outcome) in
-    let g = ruled-good l t c o q (u .outcome) (z .request) in
-    changed-sure l t e (itemsIn (u .what)) (replied e (u .frame) (keep hasIdentity (itemsIn (u .what))) (u .noted) (d .reply)) (spoken e (u .frame) (z .frame) (itemsIn (u .what)) (z .items .list) (u .noted) (z .noted) (d .reply) (g .0)) (d .change) (g .1)
+pub decided-sure : (e : Edition) (u : units.Unit) (c : MceId) (v : Verdict) → GoodUnit u → c .0 < 65536 → ((w : Understood) → v ≡ understood w → Sound w) → Sure e (decided e u c (judgedBy e v))
+unfolding decided judgedBy
+decided-sure e u c (refused x) t o s = tt
+decided-sure e u c (understood w) t o s =
+    let z = s w refl in
+    let a : Ask = askOf (w .what .message) in
+    let x : Seen = seen (w .what .values) in
+    ruled-sure u t c o e w z (ruling a x (w .outcome)) (ruling-good a x (w .outcome) (z .seen))

@@ -1,4 +1,4 @@
--- Demand 1: one answer of 01's list, what is lent is left as 01 says, a table in is a table out, and a reply reads back.
+-- Demand 1: one answer of 01's list, what is lent is left as 01 says, a unit in is a unit out, and a reply reads back.
 -- Assumes nothing.
 use Prim.Native.Nat.{ℕ}
 use mathlib.Core.Path.{_≡_, refl}
@@ -8,16 +8,15 @@ use native.Mathlib.Omega.{arith}
 use Rattle.editions.specs.declared.Edition.{Edition}
 use Rattle.meaning.specs.Value.{Said}
 use Rattle.round_trips.specs.Ties.{ReadAs}
-use Rattle.table.specs.Table.{State}
-use Rattle.lent.specs.Lent.{Lent, Held, NoTable, readTable}
+use Rattle.units.specs.Unit.{Unit, MaybeUnit, isUnit, noUnit, readUnit}
 use Rattle.replies.specs.Replies.{Replied, silent, says, replyOctets}
 use Rattle.calls.specs.Decided.{Decided, keeps, changes}
-use Rattle.calls.specs.Call.{Call, settledIf, fits, settled, onTable, call, repliedIn}
+use Rattle.calls.specs.Call.{Call, settledIf, fits, settled, onUnit, call, repliedIn}
 use Rattle.demands.specs.Answered.{Handed, ReadsBack, decidedOn, Demand1}
 use Rattle.demands.proofs.Settle.{answered, none-said}
 use Rattle.demands.proofs.Written.{Spoken}
 use Rattle.demands.proofs.Decisions.{Sure}
-use Rattle.demands.proofs.TableOut.{sure, call-on, table-out}
+use Rattle.demands.proofs.UnitOut.{sure, call-on, unit-out}
 
 module _ (e : Edition) where
   reads-back : (r : Replied) → Spoken e r → (replyOctets e r ≡ [] → ⊥) → ReadsBack e (replyOctets e r)
@@ -31,13 +30,13 @@ module _ (e : Edition) where
 
   reply-back : (t : List ℕ) (c : Call) → Handed t c → (call e t c .reply ≡ [] → ⊥) → ReadsBack e (call e t c .reply)
   unfolding call settled
-  reply-back t c h = by (readTable t) refl
+  reply-back t c h = by (readUnit t) refl
     where
-      by : (x : Lent) → readTable t ≡ x → (onTable e t c x .reply ≡ [] → ⊥) → ReadsBack e (onTable e t c x .reply)
-      by (Held l) q k =
-          let x : Decided = decidedOn e l c in
-          settled-back t (c .room) (fits e (c .room) x) x (sure e t c l h q) k
-      by NoTable q k = absurd (k refl)
+      by : (x : MaybeUnit) → readUnit t ≡ x → (onUnit e t c x .reply ≡ [] → ⊥) → ReadsBack e (onUnit e t c x .reply)
+      by (isUnit u) q k =
+          let x : Decided = decidedOn e u c in
+          settled-back t (c .room) (fits e (c .room) x) x (sure e t c u h q) k
+      by noUnit q k = absurd (k refl)
 
   says-back : (r : Replied) (w : Said) → Spoken e r → r ≡ says w → ReadAs e (replyOctets e r) w
   says-back silent w s q = let z : _≡_ {A = ℕ} 0 1 = cc in absurd (omega arith)
@@ -48,9 +47,9 @@ module _ (e : Edition) where
   settled-says t d (keeps a r) w s f h = rw f (says-back r w s h)
   settled-says t d (changes l r) w s f h = rw f (says-back r w (s .0) h)
 
-  reply-says : (t : List ℕ) (c : Call) (l : State) (w : Said) → Handed t c → readTable t ≡ Held l → fits e (c .room) (decidedOn e l c) ≡ true → repliedIn (decidedOn e l c) ≡ says w
+  reply-says : (t : List ℕ) (c : Call) (u : Unit) (w : Said) → Handed t c → readUnit t ≡ isUnit u → fits e (c .room) (decidedOn e u c) ≡ true → repliedIn (decidedOn e u c) ≡ says w
       → ReadAs e (call e t c .reply) w
-  reply-says t c l w h q f k = rw (call-on e t c l q) (settled-says t (c .room) (decidedOn e l c) w (sure e t c l h q) f k)
+  reply-says t c u w h q f k = rw (call-on e t c u q) (settled-says t (c .room) (decidedOn e u c) w (sure e t c u h q) f k)
 
   pub demand-1 : Demand1 e
-  demand-1 = record { answered = answered e; table = table-out e; reply = reply-back; spoken = reply-says }
+  demand-1 = record { answered = answered e; unit = unit-out e; reply = reply-back; spoken = reply-says }

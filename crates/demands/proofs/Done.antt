@@ -1,6 +1,6 @@
--- What a call that is answered 0 does: its decision, carried out; and of partial resets, starts and stops what is decided.
+-- What the table call does where its answer is 0; and the rules, where they accept.
 -- Assumes nothing.
-use Prim.Native.Nat.{ℕ, _≤_, _<_}
+use Prim.Native.Nat.{ℕ, _<_, _≤_}
 use mathlib.Core.Path.{_≡_, refl, ap, sym, subst, _∙_}
 use mathlib.Core.Bool.{Bool, true, false}
 use mathlib.Core.List.{List}
@@ -16,22 +16,22 @@ use Rattle.identity.specs.declared.Mme.the-variants as mme
 use Rattle.identity.specs.declared.Mce.the-variants as mce
 use Rattle.identity.specs.declared.Item.{Item}
 use Rattle.editions.specs.declared.Edition.{Edition}
-use Rattle.verdicts.specs.Verdict.{Understood, Verdict}
 use Rattle.table.specs.declared.Association.{Association}
 use Rattle.table.specs.Table.{State, without, full, starting, stopping, holdsMme, holdsMce, holdsPair, standing}
-use Rattle.lent.specs.Lent.{Held, readTable}
-use Rattle.requests.specs.Requests.{itemsIn}
+use Rattle.units.specs.Unit.{Unit, isUnit, readUnit, withHeld}
+use Rattle.requests.specs.declared.Request.the-variants as request
 use Rattle.replies.specs.declared.Reply.{Reply}
 use Rattle.replies.specs.declared.Reply.the-variants as reply
 use Rattle.replies.specs.Replies.{hasIdentity, Replied, replied}
 use Rattle.carry.specs.declared.Decision.{Decision}
 use Rattle.carry.specs.Carry.{started, stopped}
 use Rattle.answers.specs.Answers.{numbered}
+use Rattle.calls.specs.Judged.{Accepted, Judged}
 use Rattle.calls.specs.Decided.{Decided, changes, applied, decided}
-use Rattle.calls.specs.Call.{Call, Back, call, settled, settledIf, fits, replyOf, answerOf, tableAfter}
+use Rattle.calls.specs.Call.{Call, Back, call, settled, settledIf, fits, replyOf, answerOf, unitAfter}
 use Rattle.demands.specs.Answered.{numberOf, decidedOn}
-use Rattle.demands.specs.Words.{PartialReset, Starts, Stops}
-use Rattle.demands.proofs.TableOut.{call-on}
+use Rattle.demands.specs.Words.{resetBy, Asks, PartialReset}
+use Rattle.demands.proofs.UnitOut.{call-on}
 
 -- there is room for one more
 few : (l : State) → full l ≡ false → length l < 256
@@ -46,20 +46,20 @@ module _ (e : Edition) where
 
   pub record Does (t : List ℕ) (b : Back) (x : Decided) : Type 0 where
     pub answer : number x ≡ 0
-    pub table : b .table ≡ tableAfter t x
+    pub unit : b .unit ≡ unitAfter t x
     pub reply : b .reply ≡ replyOf e x
 
   settles : (t d : List ℕ) (x : Decided) (b : Bool) → numbered (settledIf e b t d x .answer) .number ≡ 0 → Does t (settledIf e b t d x) x
-  settles t d x true h = record { answer = h; table = refl; reply = refl }
+  settles t d x true h = record { answer = h; unit = refl; reply = refl }
   settles t d x false h = absurd (omega arith)
 
-  module _ (t : List ℕ) (c : Call) (l : State) (q : readTable t ≡ Held l) where
+  module _ (t : List ℕ) (c : Call) (u : Unit) (q : readUnit t ≡ isUnit u) where
     abbrev made : Decided
-    made = decidedOn e l c
+    made = decidedOn e u c
 
     called : call e t c ≡ settledIf e (fits e (c .room) made) t (c .room) made
     unfolding settled
-    called = call-on e t c l q
+    called = call-on e t c u q
 
     pub done : numberOf e t c ≡ 0 → Does t (call e t c) made
     done = subst (λ (b : Back). numbered (b .answer) .number ≡ 0 → Does t b made) (sym called) (settles t (c .room) made (fits e (c .room) made))
@@ -70,53 +70,53 @@ module _ (e : Edition) where
 
   -- ---- the rules, where they accept
 
-  -- a reply to a message that is understood, and what a decision about it means
-  abbrev pub replyTo : Understood → Reply → Replied
-  replyTo u r = replied e (u .frame) (keep hasIdentity (itemsIn (u .what))) (u .noted) r
+  -- a reply to an accepted message, and what a decision about it means
+  abbrev pub replyTo : Accepted → Reply → Replied
+  replyTo w r = replied e (w .frame) (keep hasIdentity (w .items)) (w .noted) r
 
-  abbrev pub meaning : State → Understood → Decision → Decided
-  meaning l u d = applied e l (u .frame) (itemsIn (u .what)) (u .noted) d
+  abbrev pub meaning : Unit → Accepted → Decision → Decided
+  meaning u w d = applied e u (w .frame) (w .items) (w .noted) d
 
-  abbrev pub startedOn : State → Understood → MceId → MmeId → Tmgi → Session → Decided
-  startedOn l u x m t s = meaning l u (started (standing (record { mme = mme.Is m; mce = mce.Is x }) l) x m t s)
+  abbrev pub startedOn : Unit → Accepted → MceId → MmeId → Tmgi → Session → Decided
+  startedOn u w x m t s = meaning u w (started (standing (record { mme = mme.Is m; mce = mce.Is x }) (u .held)) x m t s)
 
-  abbrev pub stoppedOn : State → Understood → MmeId → MceId → Decided
-  stoppedOn l u m y = meaning l u (stopped (standing (record { mme = mme.Is m; mce = mce.Is y }) l) m y)
+  abbrev pub stoppedOn : Unit → Accepted → MmeId → MceId → Decided
+  stoppedOn u w m y = meaning u w (stopped (standing (record { mme = mme.Is m; mce = mce.Is y }) (u .held)) m y)
 
-  module _ (l : State) (x : MceId) (v : Verdict) where
-    pub reset-decided : {items : List Item} (p : PartialReset v items) → decided e l x v ≡ changes (without items l) (replyTo (p .what) reply.AcknowledgeItems)
+  module _ (u : Unit) (x : MceId) (j : Judged) where
+    pub reset-decided : {items : List Item} (p : PartialReset j items) → decided e u x j ≡ changes (resetBy items u) (replyTo (p .asks .what) reply.AcknowledgeItems)
     unfolding decided
-    reset-decided p = rw (p .read, p .accepted, p .so .0, p .so .1)
+    reset-decided p = rw (p .asks .accepted, p .asks .request, p .items)
 
-    pub start-decided : {m : MmeId} {t : Tmgi} {s : Session} (p : Starts v m t s) → decided e l x v ≡ startedOn l (p .what) x m t s
+    pub start-decided : {m : MmeId} {t : Tmgi} {s : Session} (p : Asks j (request.Start m t s)) → decided e u x j ≡ startedOn u (p .what) x m t s
     unfolding decided
-    start-decided p = rw (p .read, p .accepted, p .so)
+    start-decided p = rw (p .accepted, p .request)
 
-    pub stop-decided : {m : MmeId} {y : MceId} (p : Stops v m y) → decided e l x v ≡ stoppedOn l (p .what) m y
+    pub stop-decided : {m : MmeId} {y : MceId} (p : Asks j (request.Stop m y)) → decided e u x j ≡ stoppedOn u (p .what) m y
     unfolding decided
-    stop-decided p = rw (p .read, p .accepted, p .so)
+    stop-decided p = rw (p .accepted, p .request)
 
   -- an accepted start: neither identity is held, and there is room
-  pub record Started (l : State) (u : Understood) (a : Association) : Type 0 where
-    pub mme : holdsMme (a .mme) l ≡ false
-    pub mce : holdsMce (a .mce) l ≡ false
-    pub few : length l < 256
-    pub decision : startedOn l u (a .mce) (a .mme) (a .tmgi) (a .session) ≡ changes (starting a l) (replyTo u (reply.StartResponse (a .mme) (a .mce)))
+  pub record Started (u : Unit) (w : Accepted) (a : Association) : Type 0 where
+    pub mme : holdsMme (a .mme) (u .held) ≡ false
+    pub mce : holdsMce (a .mce) (u .held) ≡ false
+    pub few : length (u .held) < 256
+    pub decision : startedOn u w (a .mce) (a .mme) (a .tmgi) (a .session) ≡ changes (withHeld (starting a) u) (replyTo w (reply.StartResponse (a .mme) (a .mce)))
 
-  pub start-accepted : (l : State) (u : Understood) (a : Association) → number (startedOn l u (a .mce) (a .mme) (a .tmgi) (a .session)) ≡ 0 → Started l u a
+  pub start-accepted : (u : Unit) (w : Accepted) (a : Association) → number (startedOn u w (a .mce) (a .mme) (a .tmgi) (a .session)) ≡ 0 → Started u w a
   unfolding started
-  start-accepted l u a = by (holdsMme (a .mme) l) (holdsMce (a .mce) l) (full l) refl refl refl
+  start-accepted u w a = by (holdsMme (a .mme) (u .held)) (holdsMce (a .mce) (u .held)) (full (u .held)) refl refl refl
     where
-      by : (p q r : Bool) → holdsMme (a .mme) l ≡ p → holdsMce (a .mce) l ≡ q → full l ≡ r → number (startedOn l u (a .mce) (a .mme) (a .tmgi) (a .session)) ≡ 0 → Started l u a
+      by : (p q r : Bool) → holdsMme (a .mme) (u .held) ≡ p → holdsMce (a .mce) (u .held) ≡ q → full (u .held) ≡ r → number (startedOn u w (a .mce) (a .mme) (a .tmgi) (a .session)) ≡ 0 → Started u w a
       by true q r i f g h = absurd (omega (arith, rw i at h))
       by false true r i f g h = absurd (omega (arith, rw (i, f) at h))
       by false false true i f g h = absurd (omega (arith, rw (i, f, g) at h))
-      by false false false i f g h = record { mme = i; mce = f; few = few l g; decision = rw (i, f, g) }
+      by false false false i f g h = record { mme = i; mce = f; few = few (u .held) g; decision = rw (i, f, g) }
 
-  pub stop-accepted : (l : State) (u : Understood) (m : MmeId) (y : MceId) → number (stoppedOn l u m y) ≡ 0 → stoppedOn l u m y ≡ changes (stopping m y l) (replyTo u (reply.StopResponse m y))
+  pub stop-accepted : (u : Unit) (w : Accepted) (m : MmeId) (y : MceId) → number (stoppedOn u w m y) ≡ 0 → stoppedOn u w m y ≡ changes (withHeld (stopping m y) u) (replyTo w (reply.StopResponse m y))
   unfolding stopped
-  stop-accepted l u m y = by (holdsPair m y l) refl
+  stop-accepted u w m y = by (holdsPair m y (u .held)) refl
     where
-      by : (p : Bool) → holdsPair m y l ≡ p → number (stoppedOn l u m y) ≡ 0 → stoppedOn l u m y ≡ changes (stopping m y l) (replyTo u (reply.StopResponse m y))
+      by : (p : Bool) → holdsPair m y (u .held) ≡ p → number (stoppedOn u w m y) ≡ 0 → stoppedOn u w m y ≡ changes (withHeld (stopping m y) u) (replyTo w (reply.StopResponse m y))
       by true i h = rw i
       by false i h = absurd (omega (arith, rw i at h))

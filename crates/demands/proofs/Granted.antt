@@ -11,8 +11,7 @@ use Rattle.lists.proofs.Tests.{and-right}
 use Rattle.editions.specs.declared.Edition.{Edition}
 use Rattle.editions.specs.Editions.{tableOf}
 use Rattle.meaning.specs.Written.{messageOctets, elementsGood, isWritten, encoded}
-use Rattle.table.specs.Table.{State}
-use Rattle.lent.specs.Lent.{Held, readTable}
+use Rattle.units.specs.Unit.{Unit, isUnit, readUnit}
 use Rattle.replies.specs.Replies.{Replied, silent, says, replyOctets}
 use Rattle.calls.specs.Decided.{Decided, keeps, changes}
 use Rattle.calls.specs.Call.{Call, replyOf}
@@ -31,8 +30,8 @@ module _ (e : Edition) where
 
   reply-small : (x : Decided) → length (replyOf e x) ≤ 8192
   reply-small (keeps a r) = said-small r
-  reply-small (changes l r) = said-small r
+  reply-small (changes u r) = said-small r
 
-  pub granted : (t : List ℕ) (c : Call) (l : State) → readTable t ≡ Held l → 8192 ≤ length (c .room)
-      → {x : Decided} → decidedOn e l c ≡ x → number x ≡ 0 → numberOf e t c ≡ 0
-  granted t c l i b q h = let k = reply-small (decidedOn e l c) in fitting e t c l i (omega arith) ∙ ap number q ∙ h
+  pub granted : (t : List ℕ) (c : Call) (u : Unit) → readUnit t ≡ isUnit u → 8192 ≤ length (c .room)
+      → {x : Decided} → decidedOn e u c ≡ x → number x ≡ 0 → numberOf e t c ≡ 0
+  granted t c u i b q h = let k = reply-small (decidedOn e u c) in fitting e t c u i (omega arith) ∙ ap number q ∙ h

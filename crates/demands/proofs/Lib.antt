@@ -6,7 +6,8 @@ pub mod Seen
 pub mod Verdicts
 pub mod Sound
 pub mod Decisions
-pub mod TableOut
+pub mod JudgedSound
+pub mod UnitOut
 pub mod Demand
 pub mod Accepted
 pub mod Answers

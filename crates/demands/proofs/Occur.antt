@@ -1,4 +1,4 @@
--- Each answer of the table call occurs: messages and tables that get it. And a room of 3,200 octets is always enough.
+-- Each answer of the table call occurs: messages and units that get it. And a room of 3,200 octets is always enough.
 -- Assumes nothing.
 use Prim.Native.Nat.{ℕ, zero, suc, _<_, _≤_}
 use mathlib.Core.Path.{_≡_, _∙_, refl, ap}
@@ -34,22 +34,24 @@ use Rattle.verdicts.specs.Verdict.{openedAt, Verdict, refused, readOf}
 use Rattle.layout.specs.Record.{listsOf}
 use Rattle.table.specs.declared.Association.{Association}
 use Rattle.table.specs.Table.{State, full, holdsMme, holdsMce, distinctHeld}
-use Rattle.lent.specs.Lent.{rowsOctets, tableOctets, rowsOf, same, Lent, Held, NoTable, readTable, InRange, Good}
-use Rattle.lent.proofs.OneForm.{one-form}
+use Rattle.lent.specs.Lent.{rowsOctets, rowsOf, same, InRange, Good}
+use Rattle.units.specs.Unit.{Unit, fresh, unitOctets, MaybeUnit, isUnit, noUnit, readUnit, GoodUnit}
+use Rattle.units.proofs.OneForm.{one-unit}
 use Rattle.requests.specs.Requests.{seen, asks}
 use Rattle.replies.specs.Replies.{valueOf, listOnly, Replied, silent, says, replied, replyOctets}
 use Rattle.carry.specs.declared.Answer.{Answer}
 use Rattle.carry.specs.declared.Answer.the-variants as answer
-use Rattle.carry.specs.Carry.{started, stopped}
+use Rattle.carry.specs.Carry.{rejection, started, stopped}
 use Rattle.answers.specs.Answers.{numbered}
+use Rattle.calls.specs.Judged.{judgedBy, verdict, judged}
 use Rattle.calls.specs.Decided.{Decided, keeps, changes, decided}
-use Rattle.calls.specs.Call.{Back, replyOf, answerOf, fits, settled, onTable, call, judged}
+use Rattle.calls.specs.Call.{Back, replyOf, answerOf, fits, settled, onUnit, call}
 use Rattle.demands.specs.Occur.{offer, Gives, pair, many, start, stop, whole, error, numberOf, EveryAnswer}
 use Rattle.demands.proofs.Settle.{none-said}
 use Rattle.demands.proofs.Written.{Spoken}
 use Rattle.demands.proofs.Sound.{read-sound}
 use Rattle.demands.proofs.Decisions.{none-good, Sure, decided-sure}
-use Rattle.demands.proofs.TableOut.{call-on}
+use Rattle.demands.proofs.UnitOut.{call-on}
 
 -- ---- a room of 3,200 octets is enough
 
@@ -63,16 +65,16 @@ module _ (e : Edition) where
 
   decided-small : (x : Decided) → Sure e x → length (replyOf e x) ≤ 3200
   decided-small (keeps a r) s = reply-small r s
-  decided-small (changes l r) s = reply-small r (s .0)
+  decided-small (changes u r) s = reply-small r (s .0)
 
-  pub with-room : (l : State) (s : List ℕ) (o : MceId) (d : List ℕ) → Good l → Octets s → o .0 < 65536 → 3200 ≤ length d
-      → numbered (call e (tableOctets l) (record { message = s; offered = o; room = d }) .answer) .number ≡ number (decided e l o (judged e s))
+  pub with-room : (u : Unit) (s : List ℕ) (o : MceId) (d : List ℕ) → GoodUnit u → Octets s → o .0 < 65536 → 3200 ≤ length d
+      → numbered (call e (unitOctets u) (record { message = s; offered = o; room = d }) .answer) .number ≡ number (decided e u o (judged e s))
   unfolding settled
-  with-room l s o d g m w h =
-      let x : Decided = decided e l o (judged e s) in
-      let k = decided-small x (decided-sure e l o (judged e s) g w (read-sound e s m asks)) in
+  with-room u s o d g m w h =
+      let x : Decided = decided e u o (judged e s) in
+      let k = decided-small x (decided-sure e u o (verdict e s) g w (read-sound e s m asks)) in
       let f : fits e d x ≡ true = le-leb (length (replyOf e x)) (length d) (omega arith) in
-      ap (λ (b : Back). numbered (b .answer) .number) (call-on e (tableOctets l) (record { message = s; offered = o; room = d }) l (one-form .back l g)) ∙ rw f
+      ap (λ (b : Back). numbered (b .answer) .number) (call-on e (unitOctets u) (record { message = s; offered = o; room = d }) u (one-unit .back u g)) ∙ rw f
 
 -- ---- octets, by a test
 
@@ -81,8 +83,8 @@ octets-by [] e i = omega arith
 octets-by (x ∷ s) e zero = ltb-true x 256 (not-false (ltb x 256) (or-left (not (ltb x 256)) (some (λ (y : ℕ). not (ltb y 256)) s) e))
 octets-by (x ∷ s) e (suc i) = octets-by s (or-right (not (ltb x 256)) (some (λ (y : ℕ). not (ltb y 256)) s) e) i
 
-gives : (l : State) (s : List ℕ) {n : ℕ} → Good l → some (λ (x : ℕ). not (ltb x 256)) s ≡ false → number (decided Release18 l offer (judged Release18 s)) ≡ n → Gives l s n
-gives l s g m e d h = with-room Release18 l s offer d g (octets-by s m) (omega arith) h ∙ e
+gives : (l : State) (s : List ℕ) {n : ℕ} → Good l → some (λ (x : ℕ). not (ltb x 256)) s ≡ false → number (decided Release18 (record { held = l }) offer (judged Release18 s)) ≡ n → Gives l s n
+gives l s g m e d h = with-room Release18 (record { held = l }) s offer d (record { held = g }) (octets-by s m) (omega arith) h ∙ e
 
 pub one-good : (m c : ℕ) → m < 65536 → c < 65536 → Good (pair m c ∷ [])
 unfolding distinctHeld
@@ -103,26 +105,26 @@ silent-number : (t d : List ℕ) (a : Answer) → numbered (settled Release18 t 
 unfolding settled
 silent-number t d a = rw (none-said Release18, le-leb 0 (length d) (omega arith))
 
-long-number : (t s d : List ℕ) (l : State) → readTable t ≡ Held l → 8192 < length s → numberOf t s d ≡ 1
-unfolding decided readOf
-long-number t s d l q h =
-    let e : judged Release18 s ≡ refused refusal.TooLong = rw (lt-ltb 8192 (length s) h) in
-    ap (λ (b : Back). numbered (b .answer) .number) (call-on Release18 t (record { message = s; offered = offer; room = d }) l q)
-    ∙ (ap (λ (v : Verdict). numbered (settled Release18 t d (decided Release18 l offer v) .answer) .number) e ∙ silent-number t d answer.TooLong)
+long-number : (t s d : List ℕ) (u : Unit) → readUnit t ≡ isUnit u → 8192 < length s → numberOf t s d ≡ 1
+unfolding decided judgedBy readOf
+long-number t s d u q h =
+    let e : verdict Release18 s ≡ refused refusal.TooLong = rw (lt-ltb 8192 (length s) h) in
+    ap (λ (b : Back). numbered (b .answer) .number) (call-on Release18 t (record { message = s; offered = offer; room = d }) u q)
+    ∙ (ap (λ (v : Verdict). numbered (settled Release18 t d (decided Release18 u offer (judgedBy Release18 v)) .answer) .number) e ∙ silent-number t d answer.TooLong)
 
-none-number : (t s d : List ℕ) → readTable t ≡ NoTable → numberOf t s d ≡ 21
+none-number : (t s d : List ℕ) → readUnit t ≡ noUnit → numberOf t s d ≡ 21
 unfolding call
-none-number t s d q = ap (λ (x : Lent). numbered (onTable Release18 t (record { message = s; offered = offer; room = d }) x .answer) .number) q
+none-number t s d q = ap (λ (x : MaybeUnit). numbered (onUnit Release18 t (record { message = s; offered = offer; room = d }) x .answer) .number) q
 
-pub room-number : (s : List ℕ) {n : ℕ} → length (replyOf Release18 (decided Release18 [] offer (judged Release18 s))) ≡ n → (d : List ℕ) → length d < n → numberOf (tableOctets []) s d ≡ 10
+pub room-number : (s : List ℕ) {n : ℕ} → length (replyOf Release18 (decided Release18 fresh offer (judged Release18 s))) ≡ n → (d : List ℕ) → length d < n → numberOf (unitOctets fresh) s d ≡ 10
 unfolding settled
 room-number s k d h =
-    let f : fits Release18 d (decided Release18 [] offer (judged Release18 s)) ≡ false = lt-leb _ (length d) (omega arith) in
-    ap (λ (b : Back). numbered (b .answer) .number) (call-on Release18 (tableOctets []) (record { message = s; offered = offer; room = d }) [] (one-form .back [] none-good)) ∙ rw f
+    let f : fits Release18 d (decided Release18 fresh offer (judged Release18 s)) ≡ false = lt-leb _ (length d) (omega arith) in
+    ap (λ (b : Back). numbered (b .answer) .number) (call-on Release18 (unitOctets fresh) (record { message = s; offered = offer; room = d }) fresh (one-unit .back fresh (record { held = none-good }))) ∙ rw f
 
 -- the rest is computed
 pub every-answer : EveryAnswer
-unfolding many decided started stopped full readOf frameAt kindAt countAt openedAt elementsAt elements.judgedOf front find readInto unknownOf missingOf scanAt headsAt envelopeAt criticalityAt valueAt mmeAt mceAt tmgiAt resetAt readAs valueIn valuesIn seen listsOf release18 firstOf namedBy flagAt plainAt choiceAt padAt numberAt stringAt openAt lengthAt longLengthAt endsAt bitsOf cutShort noMeaning leftOver extended _>>=_ readTable same rowsOf rowsOctets numberOctets distinctHeld replyOctets encoded replied listOnly valueOf elementsGood elementsOctets messageOctets insideOctets howMany lengthOctets packedIn
+unfolding many decided judgedBy rejection started stopped full readOf frameAt kindAt countAt openedAt elementsAt elements.judgedOf front find readInto unknownOf missingOf scanAt headsAt envelopeAt criticalityAt valueAt mmeAt mceAt tmgiAt resetAt readAs valueIn valuesIn seen listsOf release18 firstOf namedBy flagAt plainAt choiceAt padAt numberAt stringAt openAt lengthAt longLengthAt endsAt bitsOf cutShort noMeaning leftOver extended _>>=_ readUnit unitOctets same rowsOf rowsOctets numberOctets distinctHeld replyOctets encoded replied listOnly valueOf elementsGood elementsOctets messageOctets insideOctets howMany lengthOctets packedIn
 every-answer = record {
   carried-out = gives [] start none-good refl refl;
   too-long = long-number;
@@ -136,9 +138,9 @@ every-answer = record {
   all-held = λ l g n h k. gives l start g refl (nine l n h k);
   so-many = gives (many 256) start many-good refl (nine (many 256) refl refl refl);
   no-room = room-number whole refl;
-  no-table = none-number;
-  not-a-table = refl;
+  no-unit = none-number;
+  not-a-unit = (refl, refl);
 }
   where
-    nine : (l : State) → length l ≡ 256 → holdsMme (record { 0 = 5 }) l ≡ false → holdsMce offer l ≡ false → number (decided Release18 l offer (judged Release18 start)) ≡ 9
+    nine : (l : State) → length l ≡ 256 → holdsMme (record { 0 = 5 }) l ≡ false → holdsMce offer l ≡ false → number (decided Release18 (record { held = l }) offer (judged Release18 start)) ≡ 9
     nine l n h k = rw (h, k, n)

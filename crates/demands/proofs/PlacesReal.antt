@@ -1,4 +1,4 @@
--- There are neighbours: a start of any association that a table can take, and a stop of any that it holds, next to a partial reset of any items that do not name it.
+-- There are neighbours: a start of any association that a unit can take, and a stop of any that it holds, next to a partial reset of any items that do not name it.
 -- Assumes nothing.
 use Prim.Native.Nat.{ℕ, _≤_, _<_}
 use mathlib.Core.Path.{_≡_, refl, ap, _∙_}
@@ -26,25 +26,27 @@ use Rattle.items.specs.Written.{GoodItems}
 use Rattle.editions.specs.declared.Edition.{Edition}
 use Rattle.meaning.specs.Value as value
 use Rattle.meaning.specs.Ranges as ranges
-use Rattle.verdicts.specs.Verdict.{Understood}
 use Rattle.table.specs.declared.Association.{Association}
 use Rattle.table.specs.Table.{State, hasMme, hasMce, hasPair, names, named, without, full, starting, stopping, holdsMme, holdsMce, holdsPair}
 use Rattle.table.proofs.Rules.{resets, always}
-use Rattle.lent.specs.Lent.{Held, readTable, valueOf, rowOctets, InRange, Good}
-use Rattle.lent.proofs.OneForm.{one-form}
+use Rattle.lent.specs.Lent.{valueOf, rowOctets, InRange}
+use Rattle.units.specs.Unit.{Unit, isUnit, readUnit, withHeld, GoodUnit}
+use Rattle.units.proofs.OneForm.{one-unit}
+use Rattle.requests.specs.declared.Request.the-variants as request
 use Rattle.replies.specs.declared.Reply.the-variants as reply
 use Rattle.replies.specs.Replies.{Replied}
 use Rattle.carry.specs.Carry.{started, stopped}
+use Rattle.calls.specs.Judged.{Accepted, judged}
 use Rattle.calls.specs.Decided.{changes}
-use Rattle.calls.specs.Call.{Call, call, judged}
+use Rattle.calls.specs.Call.{Call, call}
 use Rattle.demands.specs.Answered.{decidedOn}
-use Rattle.demands.specs.Words.{Lent, start, stop, someNamed, Accepted}
+use Rattle.demands.specs.Words.{Lends, resetBy, someNamed, AllAccepted}
 use Rattle.demands.specs.Resets.{SomeNeighbours, ChangingPlacesIsReal}
 use Rattle.demands.proofs.Done.{done, replyTo, startedOn, stoppedOn, start-decided, stop-decided}
 use Rattle.demands.proofs.Granted.{granted}
 use Rattle.demands.proofs.Decisions.{starting-good, stopping-good}
 use Rattle.demands.proofs.States.{lent-good}
-use Rattle.demands.proofs.Runs.{reset-held}
+use Rattle.demands.proofs.Runs.{reset-read}
 use Rattle.demands.proofs.Carrying.{GoodSession, startMessage, start-octets, start-carries, stopMessage, stop-octets, stop-carries, reset-carries}
 use Rattle.demands.proofs.Real.{reset-granted, someCause, someCall}
 
@@ -100,91 +102,96 @@ own-pair : (a : Association) → hasPair (a .mme) (a .mce) a ≡ true
 own-pair a = rw (eq-eqb (a .mme .0) (a .mme .0) refl, eq-eqb (a .mce .0) (a .mce .0) refl)
 
 module _ (e : Edition) where
-  -- both orders are accepted, where the session's message is accepted in both states
-  module _ {t : List ℕ} {l : State} (h : Lent t l) (items : List Item) (i : GoodItems items) (s : Call) (b : 8192 ≤ length (s .room))
-      (f : State → State) {r r′ : Replied} (x : decidedOn e l s ≡ changes (f l) r)
-      (y : decidedOn e (without items l) s ≡ changes (f (without items l)) r′) (g : Good (f l)) where
-    both : Accepted e t (s ∷ someCall e items ∷ []) × Accepted e t (someCall e items ∷ s ∷ [])
+  -- both orders are accepted, where the session's message is accepted in both units
+  module _ {t : List ℕ} {u : Unit} (h : Lends t u) (items : List Item) (i : GoodItems items) (s : Call) (b : 8192 ≤ length (s .room))
+      (f : State → State) {r r′ : Replied} (x : decidedOn e u s ≡ changes (withHeld f u) r)
+      (y : decidedOn e (resetBy items u) s ≡ changes (withHeld f (resetBy items u)) r′) (g : GoodUnit (withHeld f u)) where
+    both : AllAccepted e t (s ∷ someCall e items ∷ []) × AllAccepted e t (someCall e items ∷ s ∷ [])
     both =
         let p : Call = someCall e items in
         let q = reset-carries e someCause items (omega arith) i in
-        let u = granted e t s l (h .held) b x refl in
-        let d = rw x at (done e t s l (h .held) u .table) in
-        let k : readTable (call e t s .table) ≡ Held (f l) = ap readTable d ∙ one-form .back (f l) g in
-        let v = reset-granted e (call e t s .table) p (f l) items k q large in
-        let w = reset-granted e t p l items (h .held) q large in
-        let z = reset-held e t p l items (lent-good h) (h .held) q w in
-        ((u, (v, tt)), (w, (granted e (call e t p .table) s (without items l) z b y refl, tt)))
+        let v = granted e t s u (h .read) b x refl in
+        let d = rw x at (done e t s u (h .read) v .unit) in
+        let k : readUnit (call e t s .unit) ≡ isUnit (withHeld f u) = ap readUnit d ∙ one-unit .back (withHeld f u) g in
+        let w = reset-granted e (call e t s .unit) p (withHeld f u) items k q large in
+        let z = reset-granted e t p u items (h .read) q large in
+        let n = reset-read e t p u items (lent-good h) (h .read) q z in
+        ((v, (w, tt)), (z, (granted e (call e t p .unit) s (resetBy items u) n b y refl, tt)))
 
   -- ---- starts
 
-  start-fits : (l : State) (u : Understood) (a : Association) → length l < 256 → holdsMme (a .mme) l ≡ false → holdsMce (a .mce) l ≡ false
-      → startedOn e l u (a .mce) (a .mme) (a .tmgi) (a .session) ≡ changes (starting a l) (replyTo e u (reply.StartResponse (a .mme) (a .mce)))
+  start-fits : (u : Unit) (w : Accepted) (a : Association) → length (u .held) < 256 → holdsMme (a .mme) (u .held) ≡ false → holdsMce (a .mce) (u .held) ≡ false
+      → startedOn e u w (a .mce) (a .mme) (a .tmgi) (a .session) ≡ changes (withHeld (starting a) u) (replyTo e w (reply.StartResponse (a .mme) (a .mce)))
   unfolding started full
-  start-fits l u a b q f = rw (q, f, lt-leb 256 (length l) b)
+  start-fits u w a b q f = rw (q, f, lt-leb 256 (length (u .held)) b)
 
-  starts : (t : List ℕ) (l : State) (a : Association) (items : List Item) → Lent t l → InRange a → Octets (rowOctets a) →
-      length l < 256 → holdsMme (a .mme) l ≡ false → holdsMce (a .mce) l ≡ false → GoodItems items → named items a ≡ false →
-      SomeNeighbours e t l (start (a .mme) (a .tmgi) (a .session)) items
-  starts t l a items h r o b q f i n =
+  starts : (t : List ℕ) (u : Unit) (a : Association) (items : List Item) → Lends t u → InRange a → Octets (rowOctets a) →
+      length (u .held) < 256 → holdsMme (a .mme) (u .held) ≡ false → holdsMce (a .mce) (u .held) ≡ false → GoodItems items → named items a ≡ false →
+      SomeNeighbours e t u (request.Start (a .mme) (a .tmgi) (a .session)) items
+  starts t u a items h r o b q f i n =
       let m : List ℕ = startMessage e (a .mme) (a .tmgi) (a .session) in
       let s : Call = record { message = m; offered = a .mce; room = room } in
       let c = start-carries e (a .mme) (a .tmgi) (a .session) (r .mme) (tmgi-range a o) (session-range a o) in
-      let u : Understood = c .what in
-      let k = always .reset-size items l in
-      let x = start-decided e l (a .mce) (judged e m) c ∙ start-fits l u a b q f in
-      let y = start-decided e (without items l) (a .mce) (judged e m) c
-      ∙ start-fits (without items l) u a (omega arith) (still-none (hasMme (a .mme)) items l q) (still-none (hasMce (a .mce)) items l f) in
+      let w : Accepted = c .what in
+      let k = always .reset-size items (u .held) in
+      let x = start-decided e u (a .mce) (judged e m) c ∙ start-fits u w a b q f in
+      let y = start-decided e (resetBy items u) (a .mce) (judged e m) c
+      ∙ start-fits (resetBy items u) w a (omega arith) (still-none (hasMme (a .mme)) items (u .held) q) (still-none (hasMce (a .mce)) items (u .held) f) in
       record {
         s = s;
         p = someCall e items;
         p′ = someCall e items;
         s′ = s;
+        a = w;
+        request = c .request;
         neighbours = record {
-          table = h;
+          unit = h;
           handed = record {
-            table = h .octets;
+            unit = h .octets;
             message = start-octets e (a .mme) (a .tmgi) (a .session) (r .mme) (tmgi-range a o) (session-range a o);
             offered = r .mce;
           };
-          session = (c, refl);
+          session = (c .accepted, rw (c .request) tt, refl);
           reset = (reset-carries e someCause items (omega arith) i, refl);
           offered = refl;
-          accepted = both h items i s large (starting a) x y (starting-good l (lent-good h) a r q f);
-          spared = (rw n, rw n);
+          accepted = both h items i s large (starting a) x y (record { held = starting-good (u .held) (lent-good h .held) a r q f });
+          spared = (rw (c .request, n), rw (c .request, n));
         };
       }
 
   -- ---- stops
 
-  stop-fits : (l : State) (u : Understood) (m : MmeId) (c : MceId) → holdsPair m c l ≡ true → stoppedOn e l u m c ≡ changes (stopping m c l) (replyTo e u (reply.StopResponse m c))
+  stop-fits : (u : Unit) (w : Accepted) (m : MmeId) (c : MceId) → holdsPair m c (u .held) ≡ true
+      → stoppedOn e u w m c ≡ changes (withHeld (stopping m c) u) (replyTo e w (reply.StopResponse m c))
   unfolding stopped
-  stop-fits l u m c q = rw q
+  stop-fits u w m c q = rw q
 
-  stops : (t : List ℕ) (l : State) (a : Association) (items : List Item) → Lent t l → List·Memᴰ a l → GoodItems items → named items a ≡ false →
-      SomeNeighbours e t l (stop (a .mme) (a .mce)) items
-  stops t l a items h m i n =
+  stops : (t : List ℕ) (u : Unit) (a : Association) (items : List Item) → Lends t u → List·Memᴰ a (u .held) → GoodItems items → named items a ≡ false →
+      SomeNeighbours e t u (request.Stop (a .mme) (a .mce)) items
+  stops t u a items h m i n =
       let o : List ℕ = stopMessage e (a .mme) (a .mce) in
       let s : Call = record { message = o; offered = record { 0 = 0 }; room = room } in
-      let r = lent-good h .each a m in
+      let r = lent-good h .held .each a m in
       let c = stop-carries e (a .mme) (a .mce) (r .mme) (r .mce) in
-      let u : Understood = c .what in
-      let x = stop-decided e l (s .offered) (judged e o) c ∙ stop-fits l u (a .mme) (a .mce) (some-at (hasPair (a .mme) (a .mce)) m (own-pair a)) in
-      let y = stop-decided e (without items l) (s .offered) (judged e o) c
-      ∙ stop-fits (without items l) u (a .mme) (a .mce) (some-at (hasPair (a .mme) (a .mce)) (resets .left items l a .1 (m, n)) (own-pair a)) in
+      let w : Accepted = c .what in
+      let x = stop-decided e u (s .offered) (judged e o) c ∙ stop-fits u w (a .mme) (a .mce) (some-at (hasPair (a .mme) (a .mce)) m (own-pair a)) in
+      let y = stop-decided e (resetBy items u) (s .offered) (judged e o) c
+      ∙ stop-fits (resetBy items u) w (a .mme) (a .mce) (some-at (hasPair (a .mme) (a .mce)) (resets .left items (u .held) a .1 (m, n)) (own-pair a)) in
       record {
         s = s;
         p = someCall e items;
         p′ = someCall e items;
         s′ = s;
+        a = w;
+        request = c .request;
         neighbours = record {
-          table = h;
-          handed = record { table = h .octets; message = stop-octets e (a .mme) (a .mce); offered = omega arith };
-          session = (c, refl);
+          unit = h;
+          handed = record { unit = h .octets; message = stop-octets e (a .mme) (a .mce); offered = omega arith };
+          session = (c .accepted, rw (c .request) tt, refl);
           reset = (reset-carries e someCause items (omega arith) i, refl);
           offered = refl;
-          accepted = both h items i s large (stopping (a .mme) (a .mce)) x y (stopping-good l (lent-good h) (a .mme) (a .mce));
-          spared = (none-named items a n l, none-named items a n (without items l));
+          accepted = both h items i s large (stopping (a .mme) (a .mce)) x y (record { held = stopping-good (u .held) (lent-good h .held) (a .mme) (a .mce) });
+          spared = (rw (c .request) (none-named items a n (u .held)), rw (c .request) (none-named items a n (without items (u .held))));
         };
       }
 

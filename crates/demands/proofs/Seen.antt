@@ -24,7 +24,7 @@ use Rattle.requests.specs.declared.MaybeTmgi.the-variants as tmgi
 use Rattle.requests.specs.declared.MaybeReset.{MaybeReset}
 use Rattle.requests.specs.declared.MaybeReset.the-variants as reset
 use Rattle.requests.specs.declared.Seen.{Seen}
-use Rattle.requests.specs.Requests.{seeing, seen, requestOf, requestIn, itemsIn}
+use Rattle.requests.specs.Requests.{seeing, seen, itemsIn}
 use Rattle.demands.proofs.Written.{GoodMme, GoodMce, GoodList}
 
 -- ---- with something else for what is carried
@@ -69,7 +69,7 @@ module _ {C D : Type 0} (f : C → D) where
 -- so a record asks what it says
 pub record Asking (r : Record) (w : Said) : Type 0 where
   pub message : r .message ≡ w .message
-  pub request : requestIn r ≡ requestOf (w .message) (seen (w .values))
+  pub seen : seen (r .values) ≡ seen (w .values)
   pub items : itemsIn r ≡ listsOf (w .values) .items
 
 pub asking : (s : List ℕ) (r : Record) (w : Said) → saidBy s r ≡ w → Asking r w
@@ -80,7 +80,7 @@ asking s r w q =
     let b : seen (r .values) ≡ seen (w .values) = sym (seen-map (octetsIn s) (r .values)) ∙ ap seen v in
     record {
       message = a;
-      request = λ i. requestOf (a i) (b i);
+      seen = b;
       items = sym (items-map (octetsIn s) (r .values)) ∙ ap (λ (x : List (Given (List ℕ))). listsOf x .items) v;
     }
 

@@ -1,4 +1,4 @@
--- What the table call does with what is decided: the answer is of 01's list, refusals leave the table, the reply stands in front of the room,
+-- What the table call does with what is decided: the answer is of 01's list, refusals leave the unit, the reply stands in front of the room,
 -- and an answer without a reply leaves the room.
 -- Assumes nothing.
 use Prim.Native.Nat.{ℕ, _≤_}
@@ -13,34 +13,31 @@ use Rattle.lists.proofs.Tests.{on-pick}
 use Rattle.octets.specs.declared.Stop.the-variants.{Fault, Extension}
 use Rattle.identity.specs.declared.MmeId.{MmeId}
 use Rattle.identity.specs.declared.MceId.{MceId}
-use Rattle.identity.specs.declared.Mme.the-variants as mme
-use Rattle.identity.specs.declared.Mce.the-variants as mce
 use Rattle.identity.specs.declared.Session.{Session}
 use Rattle.identity.specs.declared.Tmgi.{Tmgi}
 use Rattle.identity.specs.declared.Item.{Item}
 use Rattle.entries.specs.declared.Entry.{Entry}
 use Rattle.editions.specs.declared.Edition.{Edition}
 use Rattle.frames.specs.declared.Frame.{Frame}
-use Rattle.verdicts.specs.declared.Outcome.{Outcome}
-use Rattle.verdicts.specs.declared.Outcome.the-variants as outcome
-use Rattle.verdicts.specs.Verdict.{Verdict, refused, understood}
+use Rattle.verdicts.specs.Verdict.{Verdict, refused, understood, Understood}
 use Rattle.table.specs.declared.Standing.{Standing}
-use Rattle.table.specs.Table.{State, standing}
-use Rattle.lent.specs.Lent.{Lent, Held, NoTable, readTable}
+use Rattle.table.specs.Table.{standing}
+use Rattle.units.specs.Unit.{Unit, MaybeUnit, isUnit, noUnit, readUnit}
 use Rattle.replies.specs.declared.Reply.the-variants as reply
 use Rattle.replies.specs.Replies.{hasIdentity, silent, replied, replyOctets}
-use Rattle.requests.specs.declared.MaybeTmgi.the-variants as tmgi
-use Rattle.requests.specs.declared.MaybeReset.the-variants as reset
 use Rattle.requests.specs.declared.Request.{Request}
 use Rattle.requests.specs.declared.Request.the-variants as request
-use Rattle.requests.specs.Requests.{requestIn, itemsIn}
+use Rattle.requests.specs.Requests.{askOf, seen, itemsIn}
 use Rattle.carry.specs.declared.Answer.{Answer}
 use Rattle.carry.specs.declared.Answer.the-variants as answer
 use Rattle.carry.specs.declared.Decision.{Decision}
-use Rattle.carry.specs.Carry.{started, stopped, carriedOut, decision, asked}
+use Rattle.carry.specs.declared.Ruling.{Ruling}
+use Rattle.carry.specs.declared.Ruling.the-variants.{Granted, Refused}
+use Rattle.carry.specs.Carry.{started, stopped, carriedOut, asked, ruling}
 use Rattle.answers.specs.Answers.{numbered}
 use Rattle.calls.specs.Decided.{Decided, keeps, changes, applied, decided}
-use Rattle.calls.specs.Call.{Call, Back, replyOf, answerOf, settledIf, fits, settled, onTable, call, judged}
+use Rattle.calls.specs.Judged.{ruled, judgedBy, verdict, judged}
+use Rattle.calls.specs.Call.{Call, Back, replyOf, answerOf, settledIf, fits, settled, onUnit, call}
 use Rattle.demands.specs.Answered.{isAmong, numbers, silentNumbers, Answered}
 
 -- ---- answers
@@ -57,7 +54,7 @@ listed answer.OfferHeld = refl
 listed answer.PairNotHeld = refl
 listed answer.Full = refl
 listed answer.NoRoom = refl
-listed answer.NoTable = refl
+listed answer.NoUnit = refl
 
 pub no-place : (a : Answer) → (numbered a .number ≡ 2 → ⊥) → (numbered a .number ≡ 3 → ⊥) → numbered a .place ≡ 0
 no-place answer.CarriedOut h k = refl
@@ -71,7 +68,7 @@ no-place answer.OfferHeld h k = refl
 no-place answer.PairNotHeld h k = refl
 no-place answer.Full h k = refl
 no-place answer.NoRoom h k = refl
-no-place answer.NoTable h k = refl
+no-place answer.NoUnit h k = refl
 
 -- ---- settling, for any decision
 
@@ -80,10 +77,10 @@ number b = numbered (b .answer) .number
 
 module _ (e : Edition) where
   module _ (t d : List ℕ) where
-    refused-table : (b : Bool) (x : Decided) → (number (settledIf e b t d x) ≡ 0 → ⊥) → settledIf e b t d x .table ≡ t
-    refused-table true (keeps a r) h = refl
-    refused-table true (changes l r) h = absurd (h refl)
-    refused-table false x h = refl
+    refused-unit : (b : Bool) (x : Decided) → (number (settledIf e b t d x) ≡ 0 → ⊥) → settledIf e b t d x .unit ≡ t
+    refused-unit true (keeps a r) h = refl
+    refused-unit true (changes u r) h = absurd (h refl)
+    refused-unit false x h = refl
 
     reply-fits : (b : Bool) (x : Decided) → fits e d x ≡ b → length (settledIf e b t d x .reply) ≤ length d
     reply-fits true x q = leb-true (length (replyOf e x)) (length d) q
@@ -111,9 +108,9 @@ module _ (e : Edition) where
   unfolding replied
   no-record f kept noted = refl
 
-  module _ (l : State) (f : Frame) (items : List Item) (noted : List Entry) where
+  module _ (u : Unit) (f : Frame) (items : List Item) (noted : List Entry) where
     abbrev SilentBy : Decision → Type 0
-    SilentBy d = Silent (applied e l f items noted d)
+    SilentBy d = Silent (applied e u f items noted d)
 
     -- no reply
     none : replyOctets e (replied e f (keep hasIdentity items) noted reply.None) ≡ []
@@ -129,56 +126,48 @@ module _ (e : Edition) where
       stopped-silent m x = on-pick SilentBy (k .pair) (λ e. cc) (λ e. cc)
 
       carried-silent : (q : Request) → SilentBy (carriedOut k c q)
-      carried-silent (request.Start (mme.Is m) (tmgi.Is t) s) = started-silent m t s
-      carried-silent (request.Start (mme.Is m) tmgi.Absent s) = λ e. cc
-      carried-silent (request.Start mme.Absent t s) = λ e. cc
-      carried-silent (request.Stop (mme.Is m) (mce.Is x)) = stopped-silent m x
-      carried-silent (request.Stop (mme.Is m) mce.Absent) = λ e. cc
-      carried-silent (request.Stop mme.Absent y) = λ e. cc
-      carried-silent (request.Reset reset.Whole) = λ e. cc
-      carried-silent (request.Reset reset.Part) = λ e. cc
-      carried-silent (request.Reset reset.Absent) = λ e. cc
+      carried-silent (request.Start m t s) = started-silent m t s
+      carried-silent (request.Stop m x) = stopped-silent m x
+      carried-silent request.Whole = λ e. cc
+      carried-silent request.Part = λ e. cc
       carried-silent request.Indication = λ e. none
-      carried-silent request.None = λ e. none
 
-      ruled-silent : (q : Request) (o : Outcome) → SilentBy (decision k c q o)
-      ruled-silent q outcome.Accepted = carried-silent q
-      ruled-silent q (outcome.Misplaced p) = λ e. cc
-      ruled-silent q outcome.Rejected = λ e. cc
-
-  pub decided-silent : (l : State) (c : MceId) (v : Verdict) → Silent (decided e l c v)
+  ruled-silent : (u : Unit) (c : MceId) (w : Understood) (r : Ruling) → Silent (decided e u c (ruled e w r))
   unfolding decided
-  decided-silent l c (refused x) = λ q. none-said
-  decided-silent l c (understood u) =
-      let q : Request = requestIn (u .what) in
-      ruled-silent l (u .frame) (itemsIn (u .what)) (u .noted) (standing (asked c q) l) c q (u .outcome)
+  ruled-silent u c w (Granted q) = carried-silent u (w .frame) (itemsIn (w .what)) (w .noted) (standing (asked c q) (u .held)) c q
+  ruled-silent u c w (Refused r) = λ q. cc
+
+  pub decided-silent : (u : Unit) (c : MceId) (v : Verdict) → Silent (decided e u c (judgedBy e v))
+  unfolding judgedBy decided
+  decided-silent u c (refused x) = λ q. none-said
+  decided-silent u c (understood w) = ruled-silent u c w (ruling (askOf (w .what .message)) (seen (w .what .values)) (w .outcome))
 
   -- ---- the call
 
   module _ (t : List ℕ) (c : Call) where
     record Left (b : Back) : Type 0 where
-      refused : (number b ≡ 0 → ⊥) → b .table ≡ t
+      refused : (number b ≡ 0 → ⊥) → b .unit ≡ t
       fits : length (b .reply) ≤ length (c .room)
       room : b .room ≡ b .reply ++ drop (length (b .reply)) (c .room)
       silent : isAmong silentNumbers (number b) ≡ true → b .reply ≡ []
 
-    left : (x : Lent) → Left (onTable e t c x)
+    left : (x : MaybeUnit) → Left (onUnit e t c x)
     unfolding settled
-    left (Held l) =
-        let x : Decided = decided e l (c .offered) (judged e (c .message)) in
+    left (isUnit u) =
+        let x : Decided = decided e u (c .offered) (judged e (c .message)) in
         let b : Bool = fits e (c .room) x in
         record {
-          refused = refused-table t (c .room) b x;
+          refused = refused-unit t (c .room) b x;
           fits = reply-fits t (c .room) b x refl;
           room = reply-front t (c .room) b x;
-          silent = no-reply t (c .room) b x (decided-silent l (c .offered) (judged e (c .message)));
+          silent = no-reply t (c .room) b x (decided-silent u (c .offered) (verdict e (c .message)));
         }
-    left NoTable = record { refused = λ h. refl; fits = omega arith; room = refl; silent = λ e. refl }
+    left noUnit = record { refused = λ h. refl; fits = omega arith; room = refl; silent = λ e. refl }
 
     pub answered : Answered e t c
     unfolding call
     answered =
-        let x = left (readTable t) in
+        let x = left (readUnit t) in
         record {
           answer = listed (call e t c .answer);
           refused = x .refused;

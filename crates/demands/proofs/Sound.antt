@@ -44,28 +44,16 @@ use Rattle.verdicts.specs.Verdict.{Opening, Understood, understood, understoodB
 use Rattle.round_trips.proofs.Each.{each-append}
 use Rattle.editions.proofs.Tables.{Fits, rows-fit}
 use Rattle.round_trips.proofs.Accepted.{opened}
-use Rattle.requests.specs.declared.Request.{Request}
-use Rattle.requests.specs.declared.Request.the-variants as request
-use Rattle.editions.specs.declared.Message.the-variants as message
-use Rattle.requests.specs.declared.Seen.{Seen}
-use Rattle.requests.specs.Requests.{requestOf, requestIn}
-use Rattle.demands.proofs.Written.{GoodEntries, GoodFrame, GoodMme, GoodMce}
+use Rattle.requests.specs.Requests.{seen}
+use Rattle.demands.proofs.Written.{GoodEntries, GoodFrame}
 use Rattle.demands.proofs.Seen.{GoodValue, GoodGiven, GoodSeen, seen-good, GoodListed, listed-good}
 use Rattle.demands.proofs.Verdicts.{Judging, judging}
 
 -- ---- what is said
 
--- the identities that a decision looks at
-abbrev pub GoodRequest : Request → Type 0
-GoodRequest (request.Start x t s) = GoodMme x
-GoodRequest (request.Stop x y) = GoodMme x × GoodMce y
-GoodRequest (request.Reset x) = Unit
-GoodRequest request.Indication = Unit
-GoodRequest request.None = Unit
-
 pub record Sound (u : Understood) : Type 0 where
   pub frame : GoodFrame (u .frame)
-  pub request : GoodRequest (requestIn (u .what))
+  pub seen : GoodSeen (seen (u .what .values))
   pub items : GoodListed (u .what .values)
   pub noted : GoodEntries (u .noted)
 
@@ -203,16 +191,6 @@ module _ (s : List ℕ) (o : Octets s) where
   values-good (r ∷ t) [] = tt
   values-good (r ∷ t) (p ∷ l) = (value-good p (r .kind), values-good t l)
 
-request-good : (m : Message) {x : Seen} → GoodSeen x → GoodRequest (requestOf m x)
-request-good message.StartRequest g = g .mme
-request-good message.StopRequest g = (g .mme, g .mce)
-request-good message.Reset g = tt
-request-good message.ErrorIndication g = tt
-request-good message.StartResponse g = tt
-request-good message.StartFailure g = tt
-request-good message.StopResponse g = tt
-request-good message.ResetAcknowledge g = tt
-
 -- ---- verdicts
 
 module _ (e : Edition) (s : List ℕ) (o : Octets s) where
@@ -231,7 +209,7 @@ module _ (e : Edition) (s : List ℕ) (o : Octets s) where
       let v = values-good s o (tableOf e m) (x .spans) in
       record {
         frame = g;
-        request = request-good m (seen-good (valuesIn (tableOf e m) s (x .spans)) v);
+        seen = seen-good (valuesIn (tableOf e m) s (x .spans)) v;
         items = listed-good (valuesIn (tableOf e m) s (x .spans)) v;
         noted = noted-good m (f .from) j;
       }

@@ -81,6 +81,7 @@ module _ (e : Edition) (among : Message → Bool) (s : List ℕ) (u : Understood
 
 pub record Judging (t : List Row) (s : List ℕ) (from : ℕ) (o : Opening) : Type 0 where
   pub count : ℕ
+  pub counted : got count ≡ countAt s from
   pub scan : got tt ≡ scanAt t s count (from + 3)
   pub is : openingBy count (elements.judgedOf t count (headsAt s count (from + 3))) ≡ o
 
@@ -91,4 +92,4 @@ judging t s from {o} q =
     let b = then-got (elements.elementsAt t s (a .0) (from + 3)) _ (a .2) in
     let d = then-got (scanAt t s (a .0) (from + 3)) _ (b .1) in
     let x : b .0 ≡ elements.judgedOf t (a .0) (headsAt s (a .0) (from + 3)) = same-got (d .2) in
-    record { count = a .0; scan = d .1; is = sym (same-got (b .2) ∙ ap (openingBy (a .0)) x) }
+    record { count = a .0; counted = a .1; scan = d .1; is = sym (same-got (b .2) ∙ ap (openingBy (a .0)) x) }

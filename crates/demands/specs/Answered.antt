@@ -1,4 +1,4 @@
--- Demand 1: any octets, any table, any room, any offer get exactly one answer of 01's list, and what is lent is left as 01 says.
+-- Demand 1: any octets, any unit, any room, any offer get exactly one answer of 01's list, and what is lent is left as 01 says.
 use Prim.Native.Nat.{ℕ, _≤_, _<_}
 use mathlib.Core.Path.{_≡_}
 use mathlib.Core.Bool.{Bool, true, false, _||_}
@@ -8,8 +8,7 @@ use lib.ListN.{length, drop, getD}
 use Rattle.lists.specs.Lists.{some}
 use Rattle.octets.specs.Stands.{Octets}
 use Rattle.octets.specs.Field.{valueAt}
-use Rattle.table.specs.Table.{State}
-use Rattle.lent.specs.Lent.{Held, readTable}
+use Rattle.units.specs.Unit.{Unit, isUnit, readUnit}
 use Rattle.editions.specs.declared.Edition.{Edition}
 use Rattle.meaning.specs.Value.{Said}
 use Rattle.verdicts.specs.declared.Outcome.the-variants as outcome
@@ -17,8 +16,9 @@ use Rattle.verdicts.specs.Verdict.{Understood, understood, every, readOf}
 use Rattle.round_trips.specs.Ties.{ReadAs}
 use Rattle.replies.specs.Replies.{says}
 use Rattle.answers.specs.Answers.{numbered}
+use Rattle.calls.specs.Judged.{judged}
 use Rattle.calls.specs.Decided.{Decided, decided}
-use Rattle.calls.specs.Call.{Call, fits, call, judged, repliedIn}
+use Rattle.calls.specs.Call.{Call, fits, call, repliedIn}
 
 abbrev pub isAmong : List ℕ → ℕ → Bool
 isAmong ns n = some (eqb n) ns
@@ -32,7 +32,7 @@ silentNumbers = 1 ∷ 2 ∷ 3 ∷ 4 ∷ 7 ∷ 10 ∷ 21 ∷ []
 
 -- what the types let anyone hand over
 pub record Handed (t : List ℕ) (c : Call) : Type 0 where
-  pub table : Octets t
+  pub unit : Octets t
   pub message : Octets (c .message)
   pub offered : c .offered .0 < 65536
 
@@ -44,8 +44,8 @@ module _ (e : Edition) where
     pub record Answered : Type 0 where
       -- one answer of 01's list
       pub answer : isAmong numbers numberOf ≡ true
-      -- answers other than 0 leave the table as it was
-      pub refused : (numberOf ≡ 0 → ⊥) → call e t c .table ≡ t
+      -- answers other than 0 leave the unit as it was
+      pub refused : (numberOf ≡ 0 → ⊥) → call e t c .unit ≡ t
       -- the reply fills the front of the room, and the rest keeps its octets
       pub fits : length (call e t c .reply) ≤ length (c .room)
       pub room : call e t c .room ≡ call e t c .reply ++ drop (length (call e t c .reply)) (c .room)
@@ -54,11 +54,11 @@ module _ (e : Edition) where
       -- places stand beside 2 and 3 only
       pub place : (numberOf ≡ 2 → ⊥) → (numberOf ≡ 3 → ⊥) → numbered (call e t c .answer) .place ≡ 0
 
-  -- a table in is a table out: never 21 after an accepted call; and the first two octets say how many are held
-  pub record TableOut (t : List ℕ) (c : Call) : Type 0 where
-    pub state : State
-    pub held : readTable (call e t c .table) ≡ Held state
-    pub count : valueAt 2 (call e t c .table) 0 ≡ length state
+  -- a unit in is a unit out: never 21 after an accepted call; and its first two octets say how many are held
+  pub record UnitOut (t : List ℕ) (c : Call) : Type 0 where
+    pub unit : Unit
+    pub read : readUnit (call e t c .unit) ≡ isUnit unit
+    pub count : valueAt 2 (call e t c .unit) 0 ≡ length (unit .held)
 
   -- a reply reads back, with answer 0 and nothing to note
   pub record ReadsBack (os : List ℕ) : Type 0 where
@@ -67,13 +67,13 @@ module _ (e : Edition) where
     pub accepted : what .outcome ≡ outcome.Accepted
     pub noted : what .noted ≡ []
 
-  abbrev pub decidedOn : State → Call → Decided
-  decidedOn l c = decided e l (c .offered) (judged e (c .message))
+  abbrev pub decidedOn : Unit → Call → Decided
+  decidedOn u c = decided e u (c .offered) (judged e (c .message))
 
   pub record Demand1 : Type 0 where
     pub answered : (t : List ℕ) (c : Call) → Answered t c
-    pub table : (t : List ℕ) (c : Call) (l : State) → Handed t c → readTable t ≡ Held l → TableOut t c
+    pub unit : (t : List ℕ) (c : Call) (u : Unit) → Handed t c → readUnit t ≡ isUnit u → UnitOut t c
     pub reply : (t : List ℕ) (c : Call) → Handed t c → (call e t c .reply ≡ [] → ⊥) → ReadsBack (call e t c .reply)
     -- a reply that the rules give is sent where it fits, and reads back as what they say
-    pub spoken : (t : List ℕ) (c : Call) (l : State) (w : Said) → Handed t c → readTable t ≡ Held l → fits e (c .room) (decidedOn l c) ≡ true → repliedIn (decidedOn l c) ≡ says w
+    pub spoken : (t : List ℕ) (c : Call) (u : Unit) (w : Said) → Handed t c → readUnit t ≡ isUnit u → fits e (c .room) (decidedOn u c) ≡ true → repliedIn (decidedOn u c) ≡ says w
         → ReadAs e (call e t c .reply) w

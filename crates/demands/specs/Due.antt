@@ -1,5 +1,6 @@
--- 01's table of answers once more: each number with when it is given, in 01's order. The first that is due is given; 10 takes its place where the reply does not fit.
-use Prim.Native.Nat.{ℕ}
+-- 01's table of answers once more, in 01's order: each number, when it is given, and which message is its reply. The first that is due is given;
+-- 10 takes its place where the reply does not fit. Each row's test says what 01's row says, and nothing of the other rows.
+use Prim.Native.Nat.{ℕ, _+_}
 use mathlib.Core.Path.{_≡_}
 use mathlib.Core.Bool.{Bool, true, false, not, _&&_}
 use mathlib.Core.List.{List, [], _∷_}
@@ -8,56 +9,58 @@ use lib.ListN.{length}
 use Rattle.lists.specs.Lists.{pick}
 use Rattle.octets.specs.Read.{Read, got, stop}
 use Rattle.octets.specs.declared.Stop.the-variants.{Fault, Extension}
-use Rattle.identity.specs.declared.MmeId.{MmeId}
 use Rattle.identity.specs.declared.MceId.{MceId}
 use Rattle.identity.specs.declared.Mme.{Mme}
 use Rattle.identity.specs.declared.Mme.the-variants as mme
-use Rattle.identity.specs.declared.Mce.{Mce}
 use Rattle.identity.specs.declared.Mce.the-variants as mce
+use Rattle.rows.specs.declared.Row.{Row}
+use Rattle.envelopes.specs.Envelope.{headsAt}
+use Rattle.elements.specs.Judge.{Found, judgedOf}
 use Rattle.editions.specs.declared.Edition.{Edition}
+use Rattle.editions.specs.declared.Message.{Message}
+use Rattle.editions.specs.declared.Message.the-variants as message
 use Rattle.editions.specs.declared.Named.{Named}
 use Rattle.editions.specs.declared.Named.the-variants as named
-use Rattle.editions.specs.Editions.{namedBy}
+use Rattle.editions.specs.Editions.{tableOf, namedBy}
 use Rattle.frames.specs.declared.Frame.{Frame}
+use Rattle.frames.specs.Frame.{frameAt, countAt}
+use Rattle.meaning.specs.Reading.{valuesIn}
 use Rattle.verdicts.specs.declared.Outcome.{Outcome}
 use Rattle.verdicts.specs.declared.Outcome.the-variants as outcome
-use Rattle.verdicts.specs.declared.Refusal.{Refusal}
-use Rattle.verdicts.specs.declared.Refusal.the-variants as refusal
-use Rattle.verdicts.specs.Verdict.{Verdict, refused, understood}
-use Rattle.frames.specs.Frame.{frameAt}
-use Rattle.table.specs.Table.{State, full, holdsMme, holdsMce, holdsPair}
-use Rattle.lent.specs.Lent.{Lent, Held, NoTable, readTable}
-use Rattle.requests.specs.declared.Request.{Request}
-use Rattle.requests.specs.declared.Request.the-variants as request
-use Rattle.requests.specs.Requests.{asks, requestIn}
+use Rattle.verdicts.specs.Verdict.{Opening, openedAt, outcomeBy, Understood, understood, every, readOf}
+use Rattle.table.specs.Table.{State, full, heldBy, holdsMce}
+use Rattle.units.specs.Unit.{MaybeUnit, isUnit, noUnit, readUnit}
+use Rattle.requests.specs.declared.Ask.{Ask}
+use Rattle.requests.specs.declared.Ask.the-variants as ask
+use Rattle.requests.specs.declared.Seen.{Seen}
+use Rattle.requests.specs.Requests.{askOf, isAsked, seen}
 use Rattle.answers.specs.Answers.{numbered}
+use Rattle.calls.specs.Judged.{judged}
 use Rattle.calls.specs.Decided.{decided}
-use Rattle.calls.specs.Call.{Call, fits, call, judged}
+use Rattle.calls.specs.Call.{Call, fits, call}
+use Rattle.demands.specs.Answered.{Handed}
+
+-- which message the reply is
+pub data Reply : Type 0 where
+  none : Reply
+  sends : Message → Reply
 
 pub record Due : Type 0 where
   pub number : ℕ
   pub given : Bool
+  pub reply : Reply
 
-infix 80 _when_
-abbrev _when_ : ℕ → Bool → Due
-_when_ n b = record { number = n; given = b }
+infix 80 _when_reply_
+abbrev _when_reply_ : ℕ → Bool → Reply → Due
+_when_reply_ n b r = record { number = n; given = b; reply = r }
 
--- where none is due: carried out
-abbrev pub firstDue : List Due → ℕ
-firstDue [] = 0
-firstDue (x ∷ xs) = pick (x .given) (x .number) (firstDue xs)
+abbrev pub firstDue : Due → List Due → Due
+firstDue last [] = last
+firstDue last (x ∷ xs) = pick (x .given) x (firstDue last xs)
 
--- ---- the tests
+-- ---- what the tests look at
 
-abbrev isTable : Lent → Bool
-isTable (Held l) = true
-isTable NoTable = false
-
-abbrev holding : (State → Bool) → Lent → Bool
-holding p (Held l) = p l
-holding p NoTable = false
-
--- a fault, or an extension, in the frame
+-- a fault, or an extension
 abbrev faulty : {A : Type 0} → Read A → Bool
 faulty (got a) = false
 faulty (stop (Fault p)) = true
@@ -68,94 +71,141 @@ extended (got a) = false
 extended (stop (Fault p)) = false
 extended (stop (Extension p)) = true
 
--- the kind and the procedure are a request's
-abbrev requested : Named → Bool
-requested (named.Is m) = asks m
-requested named.Other = false
+-- inside the frame: which request the message is; the first fault or extension; and of the elements, as far as they can be read,
+-- what the judging comes to and which values are there
+pub record Inside : Type 0 where
+  pub ask : Ask
+  pub opened : Read Opening
+  pub outcome : Outcome
+  pub seen : Seen
 
-abbrev isRequest : Edition → Read Frame → Bool
-isRequest e (got f) = requested (namedBy e (f .kind) (f .code))
-isRequest e (stop x) = false
+abbrev pub countedBy : Read ℕ → ℕ
+countedBy (got n) = n
+countedBy (stop x) = 0
 
--- a fault, or an extension, inside the message; elements rejected
-abbrev faultyIn : Refusal → Bool
-faultyIn (refusal.Stopped (Fault p)) = true
-faultyIn (refusal.Stopped (Extension p)) = false
-faultyIn refusal.TooLong = false
-faultyIn refusal.NotAmong = false
+abbrev pub judgedIn : List Row → List ℕ → ℕ → ℕ → Ask → Inside
+judgedIn t s from n q =
+    let x : Found = judgedOf t n (headsAt s n (from + 3)) in
+    record { ask = q; opened = openedAt t s from; outcome = outcomeBy n x; seen = seen (valuesIn t s (x .spans)) }
 
-abbrev extendedIn : Refusal → Bool
-extendedIn (refusal.Stopped (Fault p)) = false
-extendedIn (refusal.Stopped (Extension p)) = true
-extendedIn refusal.TooLong = false
-extendedIn refusal.NotAmong = false
+pub data MaybeInside : Type 0 where
+  inside : Inside → MaybeInside
+  nowhere : MaybeInside
 
-abbrev isRefused : (Refusal → Bool) → Verdict → Bool
-isRefused p (refused x) = p x
-isRefused p (understood u) = false
+module _ (e : Edition) (s : List ℕ) where
+  -- of one of the messages, whether or not it asks
+  abbrev pub insideOf : Frame → Named → MaybeInside
+  insideOf f (named.Is m) = inside (judgedIn (tableOf e m) s (f .from) (countedBy (countAt s (f .from))) (askOf m))
+  insideOf f named.Other = nowhere
+
+  abbrev pub insideBy : Read Frame → MaybeInside
+  insideBy (got f) = insideOf f (namedBy e (f .kind) (f .code))
+  insideBy (stop x) = nowhere
+
+abbrev of : (Inside → Bool) → MaybeInside → Bool
+of p (inside x) = p x
+of p nowhere = false
+
+abbrev isThere : MaybeUnit → Bool
+isThere (isUnit u) = true
+isThere noUnit = false
+
+abbrev held : (State → Bool) → MaybeUnit → Bool
+held p (isUnit u) = p (u .held)
+held p noUnit = false
 
 abbrev notAccepted : Outcome → Bool
 notAccepted outcome.Accepted = false
 notAccepted (outcome.Misplaced k) = true
 notAccepted outcome.Rejected = true
 
-abbrev isRejected : Verdict → Bool
-isRejected (refused x) = false
-isRejected (understood u) = notAccepted (u .outcome)
+abbrev isStart : Ask → Bool
+isStart ask.Start = true
+isStart ask.Stop = false
+isStart ask.Reset = false
+isStart ask.Indication = false
+isStart ask.Nothing = false
 
--- what is asked for, where the message was read
-abbrev pub requestBy : Verdict → Request
-requestBy (refused x) = request.None
-requestBy (understood u) = requestIn (u .what)
+abbrev isStop : Ask → Bool
+isStop ask.Start = false
+isStop ask.Stop = true
+isStop ask.Reset = false
+isStop ask.Indication = false
+isStop ask.Nothing = false
 
--- a start of an MME identity, a stop of a pair
-abbrev ofMme : (MmeId → Bool) → Mme → Bool
-ofMme p (mme.Is m) = p m
-ofMme p mme.Absent = false
+-- ---- the replies of 0 and of 5
 
-abbrev ofPair : (MmeId → MceId → Bool) → Mme → Mce → Bool
-ofPair p (mme.Is m) (mce.Is c) = p m c
-ofPair p (mme.Is m) mce.Absent = false
-ofPair p mme.Absent c = false
+abbrev carriedReply : Ask → Reply
+carriedReply ask.Start = sends message.StartResponse
+carriedReply ask.Stop = sends message.StopResponse
+carriedReply ask.Reset = sends message.ResetAcknowledge
+carriedReply ask.Indication = none
+carriedReply ask.Nothing = none
 
-abbrev starts : (MmeId → Bool) → Request → Bool
-starts p (request.Start x g s) = ofMme p x
-starts p (request.Stop x y) = false
-starts p (request.Reset x) = false
-starts p request.Indication = false
-starts p request.None = false
+-- START FAILURE if a start's MME identity was read
+abbrev startReply : Mme → Reply
+startReply (mme.Is m) = sends message.StartFailure
+startReply mme.Absent = sends message.ErrorIndication
 
-abbrev stops : (MmeId → MceId → Bool) → Request → Bool
-stops p (request.Start x g s) = false
-stops p (request.Stop x y) = ofPair p x y
-stops p (request.Reset x) = false
-stops p request.Indication = false
-stops p request.None = false
+-- none for an ERROR INDICATION; else ERROR INDICATION
+abbrev pub rejectedReply : Ask → Seen → Reply
+rejectedReply ask.Start x = startReply (x .mme)
+rejectedReply ask.Stop x = sends message.ErrorIndication
+rejectedReply ask.Reset x = sends message.ErrorIndication
+rejectedReply ask.Indication x = none
+rejectedReply ask.Nothing x = none
 
--- ---- the table: a lent table, a message, its frame, what is judged of it, and the offered identity
+abbrev to : (Inside → Reply) → MaybeInside → Reply
+to r (inside x) = r x
+to r nowhere = none
+
+-- ---- the table: a lent unit, a message, its frame, what is inside it, and the offered identity
+
+abbrev pub refusals : MaybeUnit → List ℕ → Read Frame → MaybeInside → MceId → List Due
+refusals u s f i c =
+    21 when not (isThere u) reply none
+    ∷ 1 when ltb 8192 (length s) reply none
+    ∷ 2 when faulty f reply none
+    ∷ 3 when extended f reply none
+    ∷ 4 when not (of (λ x. isAsked (x .ask)) i) reply none
+    ∷ 2 when of (λ x. faulty (x .opened)) i reply none
+    ∷ 3 when of (λ x. extended (x .opened)) i reply none
+    ∷ 5 when of (λ x. notAccepted (x .outcome)) i reply to (λ x. rejectedReply (x .ask) (x .seen)) i
+    ∷ 6 when of (λ x. isStart (x .ask) && held (heldBy (x .seen .mme) mce.Absent) u) i reply sends message.StartFailure
+    ∷ 7 when of (λ x. isStart (x .ask) && held (holdsMce c) u) i reply none
+    ∷ 8 when of (λ x. isStop (x .ask) && held (λ l. not (heldBy (x .seen .mme) (x .seen .mce) l)) u) i reply sends message.ErrorIndication
+    ∷ 9 when of (λ x. isStart (x .ask) && held full u) i reply sends message.StartFailure ∷ []
+
+-- where none is due: carried out
+abbrev pub dueFor : MaybeUnit → List ℕ → Read Frame → MaybeInside → MceId → Due
+dueFor u s f i c = firstDue (0 when true reply to (λ x. carriedReply (x .ask)) i) (refusals u s f i c)
+
+abbrev pub noRoom : Due
+noRoom = 10 when true reply none
+
 module _ (e : Edition) where
-  abbrev pub dueFor : Lent → List ℕ → Read Frame → Verdict → MceId → List Due
-  dueFor t s f v c =
-      21 when not (isTable t)
-      ∷ 1 when ltb 8192 (length s)
-      ∷ 2 when faulty f
-      ∷ 3 when extended f
-      ∷ 4 when not (isRequest e f)
-      ∷ 2 when isRefused faultyIn v
-      ∷ 3 when isRefused extendedIn v
-      ∷ 5 when isRejected v
-      ∷ 6 when starts (λ m. holding (holdsMme m) t) (requestBy v)
-      ∷ 7 when starts (λ m. holding (holdsMce c) t) (requestBy v)
-      ∷ 8 when stops (λ m x. holding (λ l. not (holdsPair m x l)) t) (requestBy v)
-      ∷ 9 when starts (λ m. holding full t) (requestBy v) ∷ []
+  unfoldable pub due : MaybeUnit → Call → Due
+  due u c = dueFor u (c .message) (frameAt (c .message)) (insideBy e (c .message) (frameAt (c .message))) (c .offered)
 
-  unfoldable pub due : List ℕ → Call → List Due
-  due t c = dueFor (readTable t) (c .message) (frameAt (c .message)) (judged e (c .message)) (c .offered)
+  abbrev pub fitsIn : MaybeUnit → Call → Bool
+  fitsIn (isUnit u) c = fits e (c .room) (decided e u (c .offered) (judged e (c .message)))
+  fitsIn noUnit c = true
 
-  abbrev pub fitsIn : Lent → Call → Bool
-  fitsIn (Held l) c = fits e (c .room) (decided e l (c .offered) (judged e (c .message)))
-  fitsIn NoTable c = true
+  -- the first that is due, or 10 where its reply does not fit
+  abbrev pub dueOn : MaybeUnit → Call → Due
+  dueOn u c = pick (fitsIn u c) (due u c) noRoom
 
-  -- the call's answer is the first that is due, or 10 where its reply does not fit
+  abbrev pub dueIn : List ℕ → Call → Due
+  dueIn t c = dueOn (readUnit t) c
+
+  -- the call's answer is that,
   abbrev pub AnswersAs : Type 0
-  AnswersAs = (t : List ℕ) (c : Call) → numbered (call e t c .answer) .number ≡ pick (fitsIn (readTable t) c) (firstDue (due t c)) 10
+  AnswersAs = (t : List ℕ) (c : Call) → numbered (call e t c .answer) .number ≡ dueIn t c .number
+
+  -- and so is its reply, as it is read back
+  abbrev pub ReplyIs : List ℕ → Reply → Type 0
+  ReplyIs os none = os ≡ []
+  ReplyIs os (sends m) = (v : Understood) × (readOf e every os ≡ understood v) × (v .what .message ≡ m)
+
+  abbrev pub RepliesAs : Type 0
+  RepliesAs = (t : List ℕ) (c : Call) → Handed t c → ReplyIs (call e t c .reply) (dueIn t c .reply)

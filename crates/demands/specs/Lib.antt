@@ -1,5 +1,5 @@
+pub mod Answered
 pub mod Due
 pub mod Occur
-pub mod Answered
 pub mod Words
 pub mod Resets

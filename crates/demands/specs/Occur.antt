@@ -1,30 +1,34 @@
--- Each answer of the table call occurs: messages and tables that get it. And 01's bench examples of calls.
+-- Each answer of the table call occurs: messages and units that get it. And 01's bench examples of calls.
 use Prim.Native.Nat.{ℕ, zero, suc, _+_, _<_, _≤_}
 use mathlib.Core.Path.{_≡_}
 use mathlib.Core.Bool.{false}
 use mathlib.Core.List.{List, [], _∷_, _++_}
-use lib.ListN.{length, drop}
+use lib.ListN.{length, drop, replicate}
 use Rattle.identity.specs.declared.MceId.{MceId}
 use Rattle.identity.specs.declared.Session.the-variants as session
 use Rattle.table.specs.declared.Association.{Association}
 use Rattle.table.specs.Table.{State, holdsMme, holdsMce}
-use Rattle.lent.specs.Lent.{tableOctets, Held, NoTable, readTable, Good}
+use Rattle.lent.specs.Lent.{Good}
+use Rattle.units.specs.Unit.{Unit, unitOctets, isUnit, noUnit, readUnit}
 use Rattle.editions.specs.declared.Edition.{Edition}
 use Rattle.editions.specs.declared.Edition.the-variants.{Release18}
 use Rattle.round_trips.specs.Examples.{partialReset, acknowledgement}
 use Rattle.carry.specs.declared.Answer.the-variants as answer
 use Rattle.answers.specs.Answers.{numbered}
 use Rattle.calls.specs.Call.{call}
-use Rattle.demands.specs.Due.{AnswersAs}
+use Rattle.demands.specs.Due.{AnswersAs, RepliesAs}
 
--- ---- on a table in a state, with the MCE identity 9 offered
+-- ---- on a unit that holds these, with the MCE identity 9 offered
+
+abbrev pub holding : State → List ℕ
+holding l = unitOctets (record { held = l })
 
 abbrev pub offer : MceId
 offer = record { 0 = 9 }
 
 -- whatever the room, if it is large enough
 abbrev pub Gives : State → List ℕ → ℕ → Type 0
-Gives l s n = (d : List ℕ) → 3200 ≤ length d → numbered (call Release18 (tableOctets l) (record { message = s; offered = offer; room = d }) .answer) .number ≡ n
+Gives l s n = (d : List ℕ) → 3200 ≤ length d → numbered (call Release18 (holding l) (record { message = s; offered = offer; room = d }) .answer) .number ≡ n
 
 -- MME and MCE identity, and a TMGI of zeros
 abbrev pub pair : ℕ → ℕ → Association
@@ -67,10 +71,10 @@ abbrev pub numberOf : List ℕ → List ℕ → List ℕ → ℕ
 numberOf t s d = numbered (call Release18 t (record { message = s; offered = offer; room = d }) .answer) .number
 
 pub record EveryAnswer : Type 0 where
-  -- a start, on an empty table
+  -- a start, on a fresh unit
   pub carried-out : Gives [] start 0
-  -- any message of over 8,192 octets, on any table
-  pub too-long : (t s d : List ℕ) (l : State) → readTable t ≡ Held l → 8192 < length s → numberOf t s d ≡ 1
+  -- any message of over 8,192 octets, on any unit
+  pub too-long : (t s d : List ℕ) (u : Unit) → readUnit t ≡ isUnit u → 8192 < length s → numberOf t s d ≡ 1
   -- no octets; an octet with the extension bit
   pub fault : Gives [] [] 2
   pub extension : Gives [] (0x80 ∷ []) 3
@@ -87,10 +91,10 @@ pub record EveryAnswer : Type 0 where
   pub all-held : (l : State) → Good l → length l ≡ 256 → holdsMme (record { 0 = 5 }) l ≡ false → holdsMce offer l ≡ false → Gives l start 9
   pub so-many : Gives (many 256) start 9
   -- the whole reset, whose reply has seven octets
-  pub no-room : (d : List ℕ) → length d < 7 → numberOf (tableOctets []) whole d ≡ 10
-  -- any call on octets that are no table; no octets are none
-  pub no-table : (t s d : List ℕ) → readTable t ≡ NoTable → numberOf t s d ≡ 21
-  pub not-a-table : readTable [] ≡ NoTable
+  pub no-room : (d : List ℕ) → length d < 7 → numberOf (holding []) whole d ≡ 10
+  -- any call on octets that are no unit; no octets are none, nor is a table without its marks
+  pub no-unit : (t s d : List ℕ) → readUnit t ≡ noUnit → numberOf t s d ≡ 21
+  pub not-a-unit : (readUnit [] ≡ noUnit) × (readUnit (replicate 3074 0) ≡ noUnit)
 
 -- ---- 01's bench examples of calls
 
@@ -109,8 +113,8 @@ noList = 0x20 ∷ 0x04 ∷ 0x00 ∷ 0x03 ∷ 0x00 ∷ 0x00 ∷ 0x00 ∷ []
 abbrev pub Does : State → List ℕ → List ℕ → State → Type 0
 Does l s os l′ =
     (d : List ℕ) → length os ≤ length d
-    → call Release18 (tableOctets l) (record { message = s; offered = offer; room = d })
-    ≡ record { answer = answer.CarriedOut; reply = os; table = tableOctets l′; room = os ++ drop (length os) d }
+    → call Release18 (holding l) (record { message = s; offered = offer; room = d })
+    ≡ record { answer = answer.CarriedOut; reply = os; unit = holding l′; room = os ++ drop (length os) d }
 
 pub record BenchCalls : Type 0 where
   -- the RESET of the item 1 and 2: what it names is removed; where nothing is named, it is acknowledged all the same
@@ -122,10 +126,11 @@ pub record BenchCalls : Type 0 where
   pub whole : Does (pair 1 3 ∷ []) whole noList []
   pub empty : Does (pair 1 3 ∷ []) emptyReset noList (pair 1 3 ∷ [])
   -- a reply room of 20 for the 21 octets
-  pub no-room : (d : List ℕ) → length d ≡ 20 → numberOf (tableOctets []) partialReset d ≡ 10
+  pub no-room : (d : List ℕ) → length d ≡ 20 → numberOf (holding []) partialReset d ≡ 10
 
--- Demand 2: each answer is given exactly when 01's table says, and each is given.
+-- Demand 2: each answer is given exactly when 01's table says, with the reply that it says, and each is given.
 pub record Demand2 : Type 0 where
   pub exactly : (e : Edition) → AnswersAs e
+  pub replies : (e : Edition) → RepliesAs e
   pub each : EveryAnswer
   pub bench : BenchCalls

@@ -1,16 +1,11 @@
--- The words in which demands on resets are stated: what a message asks for, what a reply acknowledges, tables and their states, runs of calls.
+-- The words in which demands on resets are stated: what a message asks for, what a reply acknowledges, units, runs of calls.
 use Prim.Native.Nat.{ℕ}
 use mathlib.Core.Path.{_≡_}
 use mathlib.Core.Bool.{Bool}
 use mathlib.Core.List.{List, [], _∷_, _++_}
-use Rattle.lists.specs.Lists.{pick, keep, some}
+use Rattle.lists.specs.Lists.{some}
 use Rattle.octets.specs.Stands.{Octets}
-use Rattle.identity.specs.declared.MmeId.{MmeId}
 use Rattle.identity.specs.declared.MceId.{MceId}
-use Rattle.identity.specs.declared.Mme.the-variants as mme
-use Rattle.identity.specs.declared.Mce.the-variants as mce
-use Rattle.identity.specs.declared.Tmgi.{Tmgi}
-use Rattle.identity.specs.declared.Session.{Session}
 use Rattle.identity.specs.declared.Item.{Item}
 use Rattle.values.specs.declared.Cause.{Cause}
 use Rattle.items.specs.Items.{part}
@@ -18,26 +13,30 @@ use Rattle.editions.specs.declared.Edition.{Edition}
 use Rattle.editions.specs.declared.Message.the-variants as message
 use Rattle.editions.specs.Ids.{id-Cause, id-ResetType}
 use Rattle.meaning.specs.Value as value
-use Rattle.meaning.specs.Value.{Record}
 use Rattle.meaning.specs.Written.{messageOctets}
 use Rattle.verdicts.specs.declared.Outcome.the-variants as outcome
 use Rattle.verdicts.specs.Verdict.{Understood, Verdict, understood, every, readOf}
-use Rattle.requests.specs.declared.MaybeTmgi.the-variants as tmgi
-use Rattle.requests.specs.declared.MaybeReset.the-variants as reset
+use Rattle.requests.specs.declared.Request.{Request}
 use Rattle.requests.specs.declared.Request.the-variants as request
-use Rattle.requests.specs.Requests.{requestIn, itemsIn}
+use Rattle.requests.specs.Requests.{itemsIn}
 use Rattle.replies.specs.Replies.{saying, _is_}
-use Rattle.table.specs.Table.{State, hasPair, named}
-use Rattle.lent.specs.Lent.{Held, readTable}
-use Rattle.calls.specs.Call.{Call, call, judged}
+use Rattle.table.specs.Table.{State, named, without}
+use Rattle.units.specs.Unit as units
+use Rattle.units.specs.Unit.{isUnit, readUnit, withHeld}
+use Rattle.calls.specs.Judged.{Accepted, Judged, accepts, judged}
+use Rattle.calls.specs.Call.{Call, call}
 use Rattle.demands.specs.Answered.{numberOf}
 
--- ---- tables
+-- ---- units
 
--- the octets are a table in this state
-pub record Lent (t : List ℕ) (l : State) : Type 0 where
+-- the octets are this unit
+pub record Lends (t : List ℕ) (u : units.Unit) : Type 0 where
   pub octets : Octets t
-  pub held : readTable t ≡ Held l
+  pub read : readUnit t ≡ isUnit u
+
+-- a reset leaves the unit without what its items name, and changes nothing else
+abbrev pub resetBy : List Item → units.Unit → units.Unit
+resetBy items u = withHeld (without items) u
 
 -- some item names one of these associations
 abbrev pub someNamed : List Item → State → Bool
@@ -45,40 +44,36 @@ someNamed items l = some (named items) l
 
 -- ---- what a message asks for, as it is judged
 
--- accepted, and so of its record
-pub record Accepts (v : Verdict) (P : Record → Type 0) : Type 0 where
+-- it is accepted, with this request
+pub record Asks (j : Judged) (q : Request) : Type 0 where
+  pub what : Accepted
+  pub accepted : j ≡ accepts what
+  pub request : what .request ≡ q
+
+-- a partial reset with these items
+pub record PartialReset (j : Judged) (l : List Item) : Type 0 where
+  pub asks : Asks j request.Part
+  pub items : asks .what .items ≡ l
+
+-- a session's start, or its stop
+abbrev pub OfSession : Request → Type 0
+OfSession (request.Start m t s) = Unit
+OfSession (request.Stop m x) = Unit
+OfSession request.Whole = ⊥
+OfSession request.Part = ⊥
+OfSession request.Indication = ⊥
+
+-- what a reply acknowledges, as it is read: these items; a reply without a list, none
+pub record Acknowledgement (v : Verdict) (l : List Item) : Type 0 where
   pub what : Understood
   pub read : v ≡ understood what
   pub accepted : what .outcome ≡ outcome.Accepted
-  pub so : P (what .what)
+  pub named : what .what .message ≡ message.ResetAcknowledge
+  pub items : itemsIn (what .what) ≡ l
 
--- an accepted partial reset with these items, whatever its cause
-abbrev pub PartialReset : Verdict → List Item → Type 0
-PartialReset v items = Accepts v (λ (r : Record). (requestIn r ≡ request.Reset reset.Part) × (itemsIn r ≡ items))
-
--- a session's start, with its MME identity, TMGI and Session Identity; or its stop, with both identities
-pub data Asked : Type 0 where
-  start : MmeId → Tmgi → Session → Asked
-  stop : MmeId → MceId → Asked
-
-abbrev pub Starts : Verdict → MmeId → Tmgi → Session → Type 0
-Starts v m t s = Accepts v (λ (r : Record). requestIn r ≡ request.Start (mme.Is m) (tmgi.Is t) s)
-
-abbrev pub Stops : Verdict → MmeId → MceId → Type 0
-Stops v m x = Accepts v (λ (r : Record). requestIn r ≡ request.Stop (mme.Is m) (mce.Is x))
-
--- what a reply acknowledges, as it is read: these items; a reply without a list, none
-abbrev pub Acknowledgement : Verdict → List Item → Type 0
-Acknowledgement v items = Accepts v (λ (r : Record). (r .message ≡ message.ResetAcknowledge) × (itemsIn r ≡ items))
-
--- the MCE identity that a start is given in a state
-abbrev pub given : State → Call → MceId
-given l c = c .offered
-
--- the associations that a session message is about in a state: the one that it adds, the one that it removes
-abbrev pub about : State → Asked → MceId → State
-about l (start m t s) x = record { mme = m; mce = x; tmgi = t; session = s } ∷ []
-about l (stop m y) x = keep (hasPair m y) l
+-- the MCE identity that a start is given in a unit
+abbrev pub given : units.Unit → Call → MceId
+given u c = c .offered
 
 -- the same message handed over once more, with whatever room
 abbrev pub Again : Call → Call → Type 0
@@ -90,7 +85,7 @@ joined [] = []
 joined (l ∷ ls) = l ++ joined ls
 
 module _ (e : Edition) where
-  -- a call resets these items; asks so; a reply acknowledges these items
+  -- a call resets these items; a reply acknowledges these items
   abbrev pub Resets : Call → List Item → Type 0
   Resets c items = PartialReset (judged e (c .message)) items
 
@@ -98,25 +93,21 @@ module _ (e : Edition) where
   abbrev pub resetMessage : Cause → List Item → List ℕ
   resetMessage k items = messageOctets e (saying e message.Reset (id-Cause is value.cause k ∷ id-ResetType is value.reset (part items) ∷ []))
 
-  abbrev pub Asks : Call → Asked → Type 0
-  Asks c (start m t s) = Starts (judged e (c .message)) m t s
-  Asks c (stop m x) = Stops (judged e (c .message)) m x
-
   abbrev pub Acknowledges : List ℕ → List Item → Type 0
   Acknowledges r items = Acknowledgement (readOf e every r) items
 
-  -- ---- runs: calls one after the other, nothing between: the table at the end, the replies on the way, and that each is answered 0
+  -- ---- runs: calls one after the other, nothing between: the unit at the end, the replies on the way, and that each is answered 0
   unfoldable pub run : List ℕ → List Call → List ℕ
   run t [] = t
-  run t (c ∷ cs) = run (call e t c .table) cs
+  run t (c ∷ cs) = run (call e t c .unit) cs
 
   unfoldable pub replies : List ℕ → List Call → List (List ℕ)
   replies t [] = []
-  replies t (c ∷ cs) = call e t c .reply ∷ replies (call e t c .table) cs
+  replies t (c ∷ cs) = call e t c .reply ∷ replies (call e t c .unit) cs
 
-  abbrev pub Accepted : List ℕ → List Call → Type 0
-  Accepted t [] = Unit
-  Accepted t (c ∷ cs) = (numberOf e t c ≡ 0) × Accepted (call e t c .table) cs
+  abbrev pub AllAccepted : List ℕ → List Call → Type 0
+  AllAccepted t [] = Unit
+  AllAccepted t (c ∷ cs) = (numberOf e t c ≡ 0) × AllAccepted (call e t c .unit) cs
 
   -- a run of partial resets, and their items joined
   pub data PartialResets : List Call → List Item → Type 0 where

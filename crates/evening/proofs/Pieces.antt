@@ -33,39 +33,39 @@ module _ (s u : List ℕ) (w : whole s ≡ true) where
 -- the entries that are whole in the first piece, and then k more
 pub in-pieces : (j k : ℕ) (s u t d : List ℕ)
     → playedIn (length (playedIn j s t d .turns) + k) (s ++ u) t d
-    ≡ behind (playedIn j s t d .turns) (playedIn j s t d .octets) (playedIn k (drop (playedIn j s t d .octets) s ++ u) (playedIn j s t d .table) (playedIn j s t d .room))
+    ≡ behind (playedIn j s t d .turns) (playedIn j s t d .octets) (playedIn k (drop (playedIn j s t d .octets) s ++ u) (playedIn j s t d .unit) (playedIn j s t d .room))
 unfolding playedIn
 in-pieces zero k s u t d = rw (zero-add k) (behind-none (playedIn k (s ++ u) t d))
-in-pieces (suc j) k s u t d = by (whole s) refl (in-pieces j k (drop (sizeIn s) s) u (call Release18 t (callIn s d) .table) (call Release18 t (callIn s d) .room))
+in-pieces (suc j) k s u t d = by (whole s) refl (in-pieces j k (drop (sizeIn s) s) u (call Release18 t (callIn s d) .unit) (call Release18 t (callIn s d) .room))
   where
     b : Back
     b = call Release18 t (callIn s d)
 
     p : Played
-    p = playedIn j (drop (sizeIn s) s) (call Release18 t (callIn s d) .table) (call Release18 t (callIn s d) .room)
+    p = playedIn j (drop (sizeIn s) s) (call Release18 t (callIn s d) .unit) (call Release18 t (callIn s d) .room)
 
     then : Played → Played
-    then q = behind (q .turns) (q .octets) (playedIn k (drop (q .octets) s ++ u) (q .table) (q .room))
+    then q = behind (q .turns) (q .octets) (playedIn k (drop (q .octets) s ++ u) (q .unit) (q .room))
 
     by : (w : Bool) → whole s ≡ w
-        → playedIn (length (p .turns) + k) (drop (sizeIn s) s ++ u) (call Release18 t (callIn s d) .table) (call Release18 t (callIn s d) .room)
-        ≡ behind (p .turns) (p .octets) (playedIn k (drop (p .octets) (drop (sizeIn s) s) ++ u) (p .table) (p .room))
+        → playedIn (length (p .turns) + k) (drop (sizeIn s) s ++ u) (call Release18 t (callIn s d) .unit) (call Release18 t (callIn s d) .room)
+        ≡ behind (p .turns) (p .octets) (playedIn k (drop (p .octets) (drop (sizeIn s) s) ++ u) (p .unit) (p .room))
         → playedIn (length (playedIn (suc j) s t d .turns) + k) (s ++ u) t d ≡ then (playedIn (suc j) s t d)
     by false w r = rw (played-not (suc j) s t d w, zero-add k) (behind-none (playedIn k (s ++ u) t d))
     by true w r =
         rw (played-more j s t d w, suc-add (length (p .turns)) k)
         (played-more (length (p .turns) + k) (s ++ u) t d (whole-front s u w)
         ∙ (rw (call-front s u w d, size-front s u w, drop-append-le (sizeIn s) s u (within s w)) (ap (behind (turnOf b ∷ []) (sizeIn s)) r
-        ∙ (rw (drop-drop (p .octets) (sizeIn s) s) (behind-behind (turnOf b ∷ []) (p .turns) (sizeIn s) (p .octets) (playedIn k (drop (sizeIn s + p .octets) s ++ u) (p .table) (p .room)))))))
+        ∙ (rw (drop-drop (p .octets) (sizeIn s) s) (behind-behind (turnOf b ∷ []) (p .turns) (sizeIn s) (p .octets) (playedIn k (drop (sizeIn s + p .octets) s ++ u) (p .unit) (p .room)))))))
 
-behind-last : (p : Played) → behind (p .turns) (p .octets) (nothing (p .table) (p .room)) ≡ p
+behind-last : (p : Played) → behind (p .turns) (p .octets) (nothing (p .unit) (p .room)) ≡ p
 behind-last p = rw (append-nil (p .turns), add-zero (p .octets))
 
 -- more entries than there are octets are not found
 enough : (j k : ℕ) (s t d : List ℕ) → length s ≤ j → playedIn (j + k) s t d ≡ playedIn j s t d
 enough j k s t d h =
     let p : Played = playedIn j s t d in
-    in-parts j k s t d ∙ (ap (behind (p .turns) (p .octets)) (played-not k (drop (p .octets) s) (p .table) (p .room) (left-over j s t d h)) ∙ behind-last p)
+    in-parts j k s t d ∙ (ap (behind (p .turns) (p .octets)) (played-not k (drop (p .octets) s) (p .unit) (p .room) (left-over j s t d h)) ∙ behind-last p)
 
 pub all-of : (k : ℕ) (s t d : List ℕ) → length s ≤ k → playedIn k s t d ≡ playedIn (length s) s t d
 all-of k s t d h =
@@ -75,10 +75,10 @@ all-of k s t d h =
 -- all that is whole in s is played, and then all that is whole in what is left over with u behind it
 pub piece-by-piece : (s u t d : List ℕ) → let p : Played = playedIn (length s) s t d in
     let r : List ℕ = drop (p .octets) s ++ u in
-    playedIn (length (s ++ u)) (s ++ u) t d ≡ behind (p .turns) (p .octets) (playedIn (length r) r (p .table) (p .room))
+    playedIn (length (s ++ u)) (s ++ u) t d ≡ behind (p .turns) (p .octets) (playedIn (length r) r (p .unit) (p .room))
 piece-by-piece s u t d =
     let p : Played = playedIn (length s) s t d in
     let r : List ℕ = drop (p .octets) s ++ u in
     let n : ℕ = length (s ++ u) in
     sym (all-of (length (p .turns) + n) (s ++ u) t d (omega arith))
-    ∙ (in-pieces (length s) n s u t d ∙ ap (behind (p .turns) (p .octets)) (all-of n r (p .table) (p .room) (omega (arith, length-append s u, length-append (drop (p .octets) s) u, length-drop (p .octets) s))))
+    ∙ (in-pieces (length s) n s u t d ∙ ap (behind (p .turns) (p .octets)) (all-of n r (p .unit) (p .room) (omega (arith, length-append s u, length-append (drop (p .octets) s) u, length-drop (p .octets) s))))

@@ -88,8 +88,8 @@ turned s t d {n} {v} {b} {a} {h} {t′} {d′} e f q u w =
     let m : take (n - 4) (drop 4 s) ≡ slice 4 (sizeIn s) s = let r : 4 + (n - 4) ≡ sizeIn s = omega (arith, four s) in rw r at (take-drop (n - 4) 4 s) in
     let k : Called (call Release18 t (callIn s d)) b t′ d′ = rw (m, f) at q in
     record {
-      turn = λ i. record { answer = (u ∙ ap (λ (x : Answer). numbered x .number) (k .answer)) i; reply = k .octets i; held = (w ∙ ap heldIn (k .table)) i };
-      table = k .table;
+      turn = λ i. record { answer = (u ∙ ap (λ (x : Answer). numbered x .number) (k .answer)) i; reply = k .octets i; held = (w ∙ ap heldIn (k .unit)) i };
+      unit = k .unit;
       room = k .room;
     }
 
@@ -101,7 +101,7 @@ pub behind-none : (p : Played) → p ≡ behind [] 0 p
 behind-none p = rw (zero-add (p .octets))
 
 pub played-more : (k : ℕ) (s t d : List ℕ) → whole s ≡ true
-    → playedIn (suc k) s t d ≡ behind (turnOf (call Release18 t (callIn s d)) ∷ []) (sizeIn s) (playedIn k (drop (sizeIn s) s) (call Release18 t (callIn s d) .table) (call Release18 t (callIn s d) .room))
+    → playedIn (suc k) s t d ≡ behind (turnOf (call Release18 t (callIn s d)) ∷ []) (sizeIn s) (playedIn k (drop (sizeIn s) s) (call Release18 t (callIn s d) .unit) (call Release18 t (callIn s d) .room))
 unfolding playedIn
 played-more k s t d e = rw e
 
@@ -132,7 +132,7 @@ pub record Going (p : Played) (k : ℕ) (s t₀ d₀ o t d e : List ℕ) (at i :
   pub inside : at ≤ length s
   pub rest : p ≡ behind passed at (playedIn (k - i) (drop at s) t d)
   pub out : e ≡ sets o 0 (numbers passed)
-  pub table : length t ≡ length t₀
+  pub unit : length t ≡ length t₀
   pub room : length d ≡ length d₀
 
 pub going-none : (k : ℕ) (s t d o : List ℕ) → Going (playedIn k s t d) k s t d o t d o 0 0
@@ -144,7 +144,7 @@ going-none k s t d o = record {
   inside = omega arith;
   rest = rw (sub-zero k) (behind-none (playedIn k s t d));
   out = refl;
-  table = refl;
+  unit = refl;
   room = refl;
 }
 
@@ -162,11 +162,11 @@ module _ {p : Played} {k : ℕ} {s t₀ d₀ o t d e : List ℕ} {at i : ℕ} (g
     inside = going-on size w;
     rest =
         let u : k - i ≡ suc (k - (i + 1)) = omega arith in
-        g .rest ∙ (rw (u, played-more (k - (i + 1)) (drop at s) t d w, ← q .turn, ← q .table, ← q .room, ← size, drop-drop n at s) (behind-behind (g .passed) (x ∷ []) at n (playedIn (k - (i + 1)) (drop (at + n) s) t′ d′)));
+        g .rest ∙ (rw (u, played-more (k - (i + 1)) (drop at s) t d w, ← q .turn, ← q .unit, ← q .room, ← size, drop-drop n at s) (behind-behind (g .passed) (x ∷ []) at n (playedIn (k - (i + 1)) (drop (at + n) s) t′ d′)));
     out =
         let u : 3 * i ≡ 0 + length (numbers (g .passed)) = omega (arith, g .count, length-numbers (g .passed)) in
         f ∙ rw (u, g .out, numbers-append (g .passed) (x ∷ []), one x) (sym (sets-append o 0 (numbers (g .passed)) (x .answer ∷ x .reply ∷ x .held ∷ [])));
-    table = a ∙ g .table;
+    unit = a ∙ g .unit;
     room = b ∙ g .room;
   }
 
@@ -180,7 +180,7 @@ module _ {p : Played} {k : ℕ} {s t₀ d₀ o t d e : List ℕ} {at i : ℕ} (g
         rw (r, append-nil (g .passed), add-zero at) (record {
           entries = g .count;
           octets = refl;
-          table = refl;
+          unit = refl;
           room = refl;
           out =
               let u : length (numbers (g .passed)) ≡ 3 * length (g .passed) = length-numbers (g .passed) in

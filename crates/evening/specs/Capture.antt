@@ -9,7 +9,7 @@ use lib.ListN.{length, drop, replicate}
 use lib.Seq.{slice}
 use Rattle.lists.specs.Lists.{pick}
 use Rattle.octets.specs.Field.{valueAt}
-use Rattle.lent.specs.Lent.{tableOctets}
+use Rattle.units.specs.Unit.{fresh, unitOctets}
 use Rattle.answers.specs.Answers.{numbered}
 use Rattle.editions.specs.declared.Edition.the-variants.{Release18}
 use Rattle.calls.specs.Call.{Call, Back, call}
@@ -28,39 +28,39 @@ whole s = leb (sizeIn s) (length s)
 unfoldable pub callIn : List ℕ → List ℕ → Call
 callIn s d = record { message = slice 4 (sizeIn s) s; offered = record { 0 = valueAt 2 s 0 }; room = d }
 
--- the associations held, as the table's first two octets say; 0 where there are none
+-- the associations held, as the unit's first two octets say; 0 where there are none
 unfoldable pub heldIn : List ℕ → ℕ
 heldIn t = pick (ltb (length t) 2) 0 (valueAt 2 t 0)
 
 -- what an entry gives: 01's number of the answer, the reply's octets, and how many are held afterwards
 unfoldable pub turnOf : Back → Turn
-turnOf b = record { answer = numbered (b .answer) .number; reply = length (b .reply); held = heldIn (b .table) }
+turnOf b = record { answer = numbered (b .answer) .number; reply = length (b .reply); held = heldIn (b .unit) }
 
--- what was played: what each entry gave, the table and the room at the end, and the octets of the entries
+-- what was played: what each entry gave, the unit and the room at the end, and the octets of the entries
 pub record Played : Type 0 where
   pub turns : List Turn
-  pub table : List ℕ
+  pub unit : List ℕ
   pub room : List ℕ
   pub octets : ℕ
 
 -- some entries of n octets, and then the rest
 abbrev pub behind : List Turn → ℕ → Played → Played
-behind l n p = record { turns = l ++ p .turns; table = p .table; room = p .room; octets = n + p .octets }
+behind l n p = record { turns = l ++ p .turns; unit = p .unit; room = p .room; octets = n + p .octets }
 
 abbrev pub nothing : List ℕ → List ℕ → Played
-nothing t d = record { turns = []; table = t; room = d; octets = 0 }
+nothing t d = record { turns = []; unit = t; room = d; octets = 0 }
 
--- at most k entries at the front of s are played, from the table t, each with the room as the last one left it
+-- at most k entries at the front of s are played, from the unit t, each with the room as the last one left it
 unfoldable pub playedIn : ℕ → List ℕ → List ℕ → List ℕ → Played
 playedIn zero s t d = nothing t d
 playedIn (suc k) s t d =
     let b : Back = call Release18 t (callIn s d) in
-    pick (whole s) (behind (turnOf b ∷ []) (sizeIn s) (playedIn k (drop (sizeIn s) s) (b .table) (b .room))) (nothing t d)
+    pick (whole s) (behind (turnOf b ∷ []) (sizeIn s) (playedIn k (drop (sizeIn s) s) (b .unit) (b .room))) (nothing t d)
 
--- a capture whole, from the empty table: all entries that are whole, for each has four octets and more;
+-- a capture whole, from the fresh unit: all entries that are whole, for each has four octets and more;
 -- it is cut exactly if octets are left over behind the last of them
 abbrev pub captured : List ℕ → Played
-captured s = playedIn (length s) s (tableOctets []) (replicate 8192 0)
+captured s = playedIn (length s) s (unitOctets fresh) (replicate 8192 0)
 
 abbrev pub cut : List ℕ → Bool
 cut s = ltb (captured s .octets) (length s)
@@ -73,13 +73,13 @@ numbers (x ∷ l) = x .answer ∷ x .reply ∷ x .held ∷ numbers l
 -- one call, as the code hands it back
 pub record Turned (b : Back) (x : Turn) (t d : List ℕ) : Type 0 where
   pub turn : x ≡ turnOf b
-  pub table : t ≡ b .table
+  pub unit : t ≡ b .unit
   pub room : d ≡ b .room
 
 -- as the code hands it back: the numbers stand in the front of the array o, and what is behind them is kept
 pub record Plays (p : Played) (o : List ℕ) (r : own.Played) (t d e : List ℕ) : Type 0 where
   pub entries : r .entries ≡ length (p .turns)
   pub octets : r .octets ≡ p .octets
-  pub table : t ≡ p .table
+  pub unit : t ≡ p .unit
   pub room : d ≡ p .room
   pub out : e ≡ numbers (p .turns) ++ drop (3 * length (p .turns)) o

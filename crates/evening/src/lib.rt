@@ -1,4 +1,4 @@
-// The capture: whole entries played one after another on a lent table. Reading them in and writing lines is the program's.
+// The capture: whole entries played one after another on a lent unit. Reading them in and writing lines is the program's.
 ghost use mathlib.Core.Path.{_≡_};
 ghost use mathlib.Core.Bool.{true};
 ghost use mathlib.Core.List.{[], _∷_};
@@ -34,13 +34,13 @@ fn two(s: &[u8], at: usize) -> u16
     numbers::two(s[at], s[at + 1])
 }
 
-fn held(table: &[u8]) -> usize
-    ensures { λ r. ⌜ r ≡ heldIn (now (table .entry)) ⌝ }
+fn held(unit: &[u8]) -> usize
+    ensures { λ r. ⌜ r ≡ heldIn (now (unit .entry)) ⌝ }
 {
-    if table.len() < 2 {
+    if unit.len() < 2 {
         return 0;
     }
-    numbers::wide16(two(table, 0))
+    numbers::wide16(two(unit, 0))
 }
 
 // The octets of the entry at the front, and 0 where it is not whole.
@@ -58,15 +58,15 @@ fn size(s: &[u8]) -> usize
 }
 
 // The entry at the front, of n octets.
-fn take_turn(s: &[u8], n: usize, table: &mut [u8], room: &mut [u8]) -> Turn
+fn take_turn(s: &[u8], n: usize, unit: &mut [u8], room: &mut [u8]) -> Turn
     requires { ⌜ (n ≡ sizeIn (now s)) × (whole (now s) ≡ true) ⌝ }
-    ensures { λ r. ⌜ Turned (call Release18 (now (table .entry)) (callIn (now (s .entry)) (now (room .entry)))) r (now (table .exit)) (now (room .exit)) ⌝ }
+    ensures { λ r. ⌜ Turned (call Release18 (now (unit .entry)) (callIn (now (s .entry)) (now (room .entry)))) r (now (unit .exit)) (now (room .exit)) ⌝ }
 {
     let offered = two(s, 0);
-    let b = unit::call(Edition::Release18, table, &s[4..n], MceId(offered), room);
+    let b = unit::call(Edition::Release18, unit, &s[4..n], MceId(offered), room);
     let a = b.answer;
     let answer = answers::number_of(a) as usize;
-    let now_held = held(table);
+    let now_held = held(unit);
     Turn {
         answer: answer,
         reply: b.octets,
@@ -86,8 +86,8 @@ fn store(out: &mut [usize], i: usize, x: Turn)
 }
 
 // Plays whole entries at the front of s for as long as there is room for three numbers each: answer, reply, held.
-pub fn play(s: &[u8], table: &mut [u8], room: &mut [u8], out: &mut [usize]) -> Played
-    ensures { λ r. ⌜ Plays (playedIn (length (now (out .entry)) / 3) (now (s .entry)) (now (table .entry)) (now (room .entry))) (now (out .entry)) r (now (table .exit)) (now (room .exit)) (now (out .exit)) ⌝ }
+pub fn play(s: &[u8], unit: &mut [u8], room: &mut [u8], out: &mut [usize]) -> Played
+    ensures { λ r. ⌜ Plays (playedIn (length (now (out .entry)) / 3) (now (s .entry)) (now (unit .entry)) (now (room .entry))) (now (out .entry)) r (now (unit .exit)) (now (room .exit)) (now (out .exit)) ⌝ }
 {
     let most = out.len() / 3;
     let mut at: usize = 0;
@@ -100,7 +100,7 @@ pub fn play(s: &[u8], table: &mut [u8], room: &mut [u8], out: &mut [usize]) -> P
                 octets: at,
             };
         }
-        let x = take_turn(&s[at..], n, table, room);
+        let x = take_turn(&s[at..], n, unit, room);
         store(out, i, x);
         at += n;
         i += 1;

@@ -11,8 +11,8 @@ use Rattle.link.proofs.m3ap_write.Reads as m3ap-write
 
 pub m3ap-call-is : Determined m3ap-call'.ps m3ap-call'.r m3ap-call.Asked m3ap-call.Learnt
 m3ap-call-is κs a p x y e f =
-    (λ i. record { answer = (e .answer same f .answer) i; place = (e .place same f .place) i; octets = (e .octets same f .octets) i })
-    & (e .table same f .table) & refl & refl & (e .room same f .room) & refl
+    (λ i. record { answer = (e .answer same f .answer) i; place = (e .place same f .place) i; octets = (e .octets same f .octets) i; bit = (e .bit same f .bit) i; wait = (e .wait same f .wait) i })
+    & (e .unit same f .unit) & refl & refl & (e .room same f .room) & refl
 
 pub m3ap-read-is : Determined m3ap-read'.ps m3ap-read'.r m3ap-read.Asked m3ap-read.Learnt
 m3ap-read-is κs a p x y e f = (e .answer same f .answer) & refl & (e .room same f .room) & refl

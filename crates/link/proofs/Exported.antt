@@ -15,34 +15,34 @@ use Rattle.editions.specs.declared.Edition.the-variants.{Release18}
 use Rattle.calls.specs.Call.{Call, call}
 use Rattle.demands.specs.Answered.{Handed as HandedOver}
 use Rattle.demands.proofs.Demand.{demand-1}
+use Rattle.demands.proofs.Bench.{demand-2}
 use Rattle.link.specs.declared.Answer.{Answer}
 use Rattle.link.specs.Link.{Handed}
-use Rattle.link.specs.Promised.{Promised}
+use Rattle.link.specs.Promised.{lent, Promised}
 use Rattle.link.proofs.Sizes.{place-inside}
 use Rattle.link.proofs.m3ap_call.Kinds as m3ap-call'
 use Rattle.link.proofs.m3ap_call.Reads as m3ap-call
 
 module _ (t m : List ℕ) (o : ℕ) (d : List ℕ) where
-  abbrev handedOver : Call
-  handedOver = record { message = m; offered = record { 0 = o }; room = d }
-
   -- of what the statement says
-  promised : (r : Answer) (t′ d′ : List ℕ) → Handed (call Release18 t handedOver) r t′ d′ → Promised t m o d r t′ d′
+  promised : (r : Answer) (t′ d′ : List ℕ) → Handed (call Release18 t (lent t m o d)) r t′ d′ → Promised t m o d r t′ d′
   promised r t′ d′ e =
-      let c : Call = handedOver in
+      let c : Call = lent t m o d in
       let a = demand-1 Release18 .answered t c in
       let n = e .octets in
       let front : take (r .octets) d′ ≡ call Release18 t c .reply = rw (e .octets, e .room, a .room) (take-append-seam (call Release18 t c .reply) (drop (length (call Release18 t c .reply)) d)) in
-      let whole : Octets t → Octets m → o < 65536 → HandedOver t c = λ x y z. record { table = x; message = y; offered = z } in
+      let whole : Octets t → Octets m → o < 65536 → HandedOver t c = λ x y z. record { unit = x; message = y; offered = z } in
       record {
-        answer = rw (e .answer) (a .answer);
-        refused = λ h. e .table ∙ a .refused (λ z. h (e .answer ∙ z));
+        answer = e .answer ∙ demand-2 .exactly Release18 t c;
+        replies = λ x y z. rw front (demand-2 .replies Release18 t c (whole x y z));
+        ruled = (e .unit, front);
+        refused = λ h. e .unit ∙ a .refused (λ z. h (e .answer ∙ z));
         fits = let f = a .fits in omega arith;
         rest = rw (e .octets, e .room, a .room) (drop-append-seam (call Release18 t c .reply) (drop (length (call Release18 t c .reply)) d));
         silent = λ h. let s = a .silent (rw (e .answer) at h) in (e .octets ∙ ap length (s .0), e .room ∙ s .1);
         nowhere = λ h k. let p = e .place in let z = a .place (λ z. h (e .answer ∙ z)) (λ z. k (e .answer ∙ z)) in omega arith;
         place = let p = e .place in let i = place-inside Release18 t c in omega arith;
-        table = λ x y z l q. let s = demand-1 Release18 .table t c l (whole x y z) q in rw (e .table) (record { state = s .state; held = s .held; count = s .count });
+        unit = λ x y z u q. let s = demand-1 Release18 .unit t c u (whole x y z) q in rw (e .unit) (record { unit = s .unit; read = s .read; count = s .count });
         reply = λ x y z h. rw front (demand-1 Release18 .reply t c (whole x y z) (λ k. h (e .octets ∙ ap length k)));
       }
 

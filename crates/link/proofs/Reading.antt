@@ -29,9 +29,9 @@ use Rattle.link.proofs.Sizes.{PlacedBy, read-placed, encoded-small}
 -- ---- reading
 
 abbrev numbersOf : Reading → Answer
-numbersOf (reading.Refused x) = record { answer = refusalNumber x; place = refusalPlace x; octets = 0 }
-numbersOf reading.NoRoom = record { answer = 10; place = 0; octets = 0 }
-numbersOf (reading.Put o) = record { answer = outcomeNumber o; place = 0; octets = 2662 }
+numbersOf (reading.Refused x) = record { answer = refusalNumber x; place = refusalPlace x; octets = 0; bit = 0; wait = 0 }
+numbersOf reading.NoRoom = record { answer = 10; place = 0; octets = 0; bit = 0; wait = 0 }
+numbersOf (reading.Put o) = record { answer = outcomeNumber o; place = 0; octets = 2662; bit = 0; wait = 0 }
 
 abbrev Small : Reading → Type 0
 Small (reading.Refused x) = refusalPlace x ≤ 8192
@@ -82,8 +82,8 @@ module _ (s values d : List ℕ) {x : Written} {m : List ℕ} (h : Writes (writt
       omega arith
 
   -- as x says
-  pub put-written : {y : Written} → x ≡ y → {a : Answer} → a ≡ record { answer = answerOf y; place = 0; octets = putOf y } → Put (writeFor s values d) a m
+  pub put-written : {y : Written} → x ≡ y → {a : Answer} → a ≡ record { answer = answerOf y; place = 0; octets = putOf y; bit = 0; wait = 0 } → Put (writeFor s values d) a m
   unfolding writeFor
   put-written {y} e {a} q =
       let z : y ≡ writtenIn d (written Release18 s values) .answer = sym e ∙ h .answer in
-      record { answer = q ∙ ap (λ (w : Written). record { answer = answerOf w; place = 0; octets = putOf w }) z; room = h .room }
+      record { answer = q ∙ ap (λ (w : Written). record { answer = answerOf w; place = 0; octets = putOf w; bit = 0; wait = 0 }) z; room = h .room }

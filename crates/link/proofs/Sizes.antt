@@ -14,8 +14,6 @@ use Rattle.octets.specs.Read.{Read, got, stop}
 use Rattle.octets.specs.declared.Stop.the-variants.{Fault, Extension}
 use Rattle.identity.specs.declared.MmeId.{MmeId}
 use Rattle.identity.specs.declared.MceId.{MceId}
-use Rattle.identity.specs.declared.Mme.the-variants as mme
-use Rattle.identity.specs.declared.Mce.the-variants as mce
 use Rattle.identity.specs.declared.Session.{Session}
 use Rattle.identity.specs.declared.Tmgi.{Tmgi}
 use Rattle.identity.specs.declared.Item.{Item}
@@ -32,24 +30,24 @@ use Rattle.meaning.specs.Value.{Said}
 use Rattle.meaning.specs.Written.{messageOctets, elementsGood, Encoded, octets, none, encoded}
 use Rattle.round_trips.proofs.Back.{has-octets}
 use Rattle.table.specs.declared.Standing.{Standing}
-use Rattle.table.specs.Table.{State, standing}
-use Rattle.lent.specs.Lent.{Lent, Held, NoTable, readTable}
-use Rattle.verdicts.specs.declared.Outcome.{Outcome}
-use Rattle.verdicts.specs.declared.Outcome.the-variants as outcome
+use Rattle.table.specs.Table.{standing}
+use Rattle.units.specs.Unit as units
+use Rattle.units.specs.Unit.{MaybeUnit, isUnit, noUnit, readUnit}
 use Rattle.verdicts.specs.declared.Refusal.{Refusal}
 use Rattle.verdicts.specs.declared.Refusal.the-variants.{TooLong, Stopped, NotAmong}
-use Rattle.verdicts.specs.Verdict.{Opening, openedAt, Verdict, refused, understood, verdictOf, ofThose, framed, readOf}
-use Rattle.requests.specs.declared.MaybeTmgi.the-variants as tmgi
-use Rattle.requests.specs.declared.MaybeReset.the-variants as reset
+use Rattle.verdicts.specs.Verdict.{Opening, openedAt, Verdict, refused, understood, Understood, verdictOf, ofThose, framed, readOf}
 use Rattle.requests.specs.declared.Request.{Request}
 use Rattle.requests.specs.declared.Request.the-variants as request
-use Rattle.requests.specs.Requests.{asks, requestIn, itemsIn}
+use Rattle.requests.specs.Requests.{askOf, asks, seen, itemsIn}
 use Rattle.replies.specs.Replies.{Replied, silent, says, replyOctets}
 use Rattle.carry.specs.declared.Decision.{Decision}
-use Rattle.carry.specs.Carry.{started, stopped, carriedOut, decision, asked, refusal}
+use Rattle.carry.specs.declared.Ruling.{Ruling}
+use Rattle.carry.specs.declared.Ruling.the-variants.{Granted, Refused}
+use Rattle.carry.specs.Carry.{started, stopped, carriedOut, asked, ruling, refusal}
 use Rattle.answers.specs.Answers.{numbered}
 use Rattle.calls.specs.Decided.{Decided, keeps, changes, applied, decided}
-use Rattle.calls.specs.Call.{Call, answerOf, judged, settledIf, fits, settled, onTable, call}
+use Rattle.calls.specs.Judged.{ruled, judgedBy, verdict, judged}
+use Rattle.calls.specs.Call.{Call, answerOf, settledIf, fits, settled, onUnit, call}
 use Rattle.unit.specs.Unit.{Called}
 use Rattle.unit.specs.declared.Back as unit
 use Rattle.link.specs.Link.{Handed, refusalPlace}
@@ -100,9 +98,9 @@ module _ (n : ℕ) where
   nowhere : 0 ≤ n
   nowhere = omega arith
 
-  module _ (e : Edition) (l : State) (f : Frame) (items : List Item) (noted : List Entry) where
+  module _ (e : Edition) (u : units.Unit) (f : Frame) (items : List Item) (noted : List Entry) where
     abbrev PlacedFor : Decision → Type 0
-    PlacedFor d = Placed (applied e l f items noted d)
+    PlacedFor d = Placed (applied e u f items noted d)
 
     module _ (k : Standing) (c : MceId) where
       started-placed : (x : MmeId) (t : Tmgi) (s : Session) → PlacedFor (started k c x t s)
@@ -114,22 +112,16 @@ module _ (n : ℕ) where
       stopped-placed x y = on-pick PlacedFor (k .pair) nowhere nowhere
 
       carried-placed : (q : Request) → PlacedFor (carriedOut k c q)
-      carried-placed (request.Start (mme.Is x) (tmgi.Is t) s) = started-placed x t s
-      carried-placed (request.Start (mme.Is x) tmgi.Absent s) = nowhere
-      carried-placed (request.Start mme.Absent t s) = nowhere
-      carried-placed (request.Stop (mme.Is x) (mce.Is y)) = stopped-placed x y
-      carried-placed (request.Stop (mme.Is x) mce.Absent) = nowhere
-      carried-placed (request.Stop mme.Absent y) = nowhere
-      carried-placed (request.Reset reset.Whole) = nowhere
-      carried-placed (request.Reset reset.Part) = nowhere
-      carried-placed (request.Reset reset.Absent) = nowhere
+      carried-placed (request.Start x t s) = started-placed x t s
+      carried-placed (request.Stop x y) = stopped-placed x y
+      carried-placed request.Whole = nowhere
+      carried-placed request.Part = nowhere
       carried-placed request.Indication = nowhere
-      carried-placed request.None = nowhere
 
-      ruled-placed : (q : Request) (o : Outcome) → PlacedFor (decision k c q o)
-      ruled-placed q outcome.Accepted = carried-placed q
-      ruled-placed q (outcome.Misplaced p) = nowhere
-      ruled-placed q outcome.Rejected = nowhere
+  ruled-placed : (e : Edition) (u : units.Unit) (c : MceId) (w : Understood) (r : Ruling) → Placed (decided e u c (ruled e w r))
+  unfolding decided
+  ruled-placed e u c w (Granted q) = carried-placed e u (w .frame) (itemsIn (w .what)) (w .noted) (standing (asked c q) (u .held)) c q
+  ruled-placed e u c w (Refused r) = nowhere
 
   refusal-placed : (x : Refusal) → refusalPlace x ≤ n → numbered (refusal x) .place ≤ n
   refusal-placed TooLong h = h
@@ -137,12 +129,10 @@ module _ (n : ℕ) where
   refusal-placed (Stopped (Extension p)) h = h
   refusal-placed NotAmong h = h
 
-  decided-placed : (e : Edition) (l : State) (c : MceId) (v : Verdict) → PlacedBy n v → Placed (decided e l c v)
-  unfolding decided
-  decided-placed e l c (refused x) h = refusal-placed x h
-  decided-placed e l c (understood u) h =
-      let q : Request = requestIn (u .what) in
-      ruled-placed e l (u .frame) (itemsIn (u .what)) (u .noted) (standing (asked c q) l) c q (u .outcome)
+  decided-placed : (e : Edition) (u : units.Unit) (c : MceId) (v : Verdict) → PlacedBy n v → Placed (decided e u c (judgedBy e v))
+  unfolding decided judgedBy
+  decided-placed e u c (refused x) h = refusal-placed x h
+  decided-placed e u c (understood w) h = ruled-placed e u c w (ruling (askOf (w .what .message)) (seen (w .what .values)) (w .outcome))
 
 -- ---- octets that are written
 
@@ -169,19 +159,19 @@ module _ (e : Edition) where
 
   settled-size : (t d : List ℕ) (b : Bool) (x : Decided) → length (settledIf e b t d x .reply) ≤ 8192
   settled-size t d true (keeps a r) = reply-size e r
-  settled-size t d true (changes l r) = reply-size e r
+  settled-size t d true (changes u r) = reply-size e r
   settled-size t d false x = omega arith
 
   module _ (t : List ℕ) (c : Call) where
     placed : (n : ℕ) → (length (c .message) ≤ 8192 → length (c .message) ≤ n) → numbered (call e t c .answer) .place ≤ n
     unfolding call settled
-    placed n h = by (readTable t)
+    placed n h = by (readUnit t)
       where
-        by : (x : Lent) → numbered (onTable e t c x .answer) .place ≤ n
-        by (Held l) =
-            let x : Decided = decided e l (c .offered) (judged e (c .message)) in
-            settled-placed n t (c .room) (fits e (c .room) x) x (decided-placed n e l (c .offered) (judged e (c .message)) (read-placed e asks n (c .message) h))
-        by NoTable = nowhere n
+        by : (x : MaybeUnit) → numbered (onUnit e t c x .answer) .place ≤ n
+        by (isUnit u) =
+            let x : Decided = decided e u (c .offered) (judged e (c .message)) in
+            settled-placed n t (c .room) (fits e (c .room) x) x (decided-placed n e u (c .offered) (verdict e (c .message)) (read-placed e asks n (c .message) h))
+        by noUnit = nowhere n
 
     pub place-inside : numbered (call e t c .answer) .place ≤ length (c .message)
     place-inside = placed (length (c .message)) (λ h. omega arith)
@@ -191,11 +181,11 @@ module _ (e : Edition) where
 
     pub reply-small : length (call e t c .reply) ≤ 8192
     unfolding call settled
-    reply-small = by (readTable t)
+    reply-small = by (readUnit t)
       where
-        by : (x : Lent) → length (onTable e t c x .reply) ≤ 8192
-        by (Held l) = let x : Decided = decided e l (c .offered) (judged e (c .message)) in settled-size t (c .room) (fits e (c .room) x) x
-        by NoTable = omega arith
+        by : (x : MaybeUnit) → length (onUnit e t c x .reply) ≤ 8192
+        by (isUnit u) = let x : Decided = decided e u (c .offered) (judged e (c .message)) in settled-size t (c .room) (fits e (c .room) x) x
+        by noUnit = omega arith
 
 -- what the call handed back, as numbers
 module _ (e : Edition) (t : List ℕ) (c : Call) {r : unit.Back} {t′ d′ : List ℕ} (h : Called (call e t c) r t′ d′) where
@@ -206,5 +196,5 @@ module _ (e : Edition) (t : List ℕ) (c : Call) {r : unit.Back} {t′ d′ : Li
   octets-fit = let s = reply-small e t c in rw (h .octets) (omega arith)
 
   pub handed : (k p : ℕ) → k ≡ numbered (r .answer) .number → p ≡ numbered (r .answer) .place
-      → Handed (call e t c) (record { answer = k; place = p; octets = r .octets }) t′ d′
-  handed k p q f = record { answer = rw (q, h .answer); place = rw (f, h .answer) (omega arith); octets = h .octets; table = h .table; room = h .room }
+      → Handed (call e t c) (record { answer = k; place = p; octets = r .octets; bit = 0; wait = 0 }) t′ d′
+  handed k p q f = record { answer = rw (q, h .answer); place = rw (f, h .answer) (omega arith); octets = h .octets; bit = refl; wait = refl; unit = h .unit; room = h .room }

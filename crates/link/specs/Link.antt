@@ -20,12 +20,14 @@ use Rattle.answers.specs.Answers.{numbered}
 use Rattle.calls.specs.Call.{Back}
 use Rattle.link.specs.declared.Answer.{Answer}
 
--- what a call comes back with, in numbers: 01's number and place of the answer, the reply's length, and what is left in the table and the room
+-- what a call comes back with, in numbers: 01's number and place of the answer, the reply's length, and what is left in the unit and the room
 pub record Handed (b : Back) (r : Answer) (t d : List ℕ) : Type 0 where
   pub answer : r .answer ≡ numbered (b .answer) .number
   pub place : r .place ≡ numbered (b .answer) .place
   pub octets : r .octets ≡ length (b .reply)
-  pub table : t ≡ b .table
+  pub bit : r .bit ≡ 0
+  pub wait : r .wait ≡ 0
+  pub unit : t ≡ b .unit
   pub room : d ≡ b .room
 
 -- ---- reading and writing
@@ -36,7 +38,7 @@ pub record Given : Type 0 where
   pub room : List ℕ
 
 abbrev pub given : ℕ → ℕ → ℕ → List ℕ → Given
-given n place octets d = record { answer = record { answer = n; place = place; octets = octets }; room = d }
+given n place octets d = record { answer = record { answer = n; place = place; octets = octets; bit = 0; wait = 0 }; room = d }
 
 -- 01's number of a refusal, and the octet at fault
 abbrev pub refusalNumber : Refusal → ℕ

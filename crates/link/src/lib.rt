@@ -12,25 +12,27 @@ use reader::Reading;
 use verdicts::Outcome;
 use verdicts::Refusal;
 
-// 01's number of the answer; the octet at fault for 2 and 3, else 0; how many octets stand in front of the room.
+// 01's number of the answer; the octet at fault for 2 and 3, else 0; how many octets stand in front of the room. The last two are 0 yet.
 #[repr(C)]
 pub struct Answer {
     pub answer: u32,
     pub place: u32,
     pub octets: u32,
+    pub bit: u16,
+    pub wait: u16,
 }
 
 // What one message does.
 #[no_mangle]
 pub extern "C" fn m3ap_call(
-    table: &mut [u8],
+    unit: &mut [u8],
     message: &[u8],
     offered: u16,
     room: &mut [u8],
 ) -> Answer
-    ensures { λ r. ⌜ Handed (call Release18 (now (table .entry)) (record { message = now (message .entry); offered = record { 0 = offered }; room = now (room .entry) })) r (now (table .exit)) (now (room .exit)) ⌝ }
+    ensures { λ r. ⌜ Handed (call Release18 (now (unit .entry)) (record { message = now (message .entry); offered = record { 0 = offered }; room = now (room .entry) })) r (now (unit .exit)) (now (room .exit)) ⌝ }
 {
-    let b = unit::call(Edition::Release18, table, message, MceId(offered), room);
+    let b = unit::call(Edition::Release18, unit, message, MceId(offered), room);
     let a = b.answer;
     let number = answers::number_of(a);
     let place = answers::place_of(a);
@@ -38,25 +40,29 @@ pub extern "C" fn m3ap_call(
         answer: number,
         place: place as u32,
         octets: b.octets as u32,
+        bit: 0,
+        wait: 0,
     }
 }
 
 // Nothing is put; place is at most 8,192.
 fn plain(answer: u32, place: usize) -> Answer
     requires { ⌜ place ≤ 8192 ⌝ }
-    ensures { λ r. ⌜ r ≡ record { answer = answer; place = place; octets = 0 } ⌝ }
+    ensures { λ r. ⌜ r ≡ record { answer = answer; place = place; octets = 0; bit = 0; wait = 0 } ⌝ }
 {
     Answer {
         answer: answer,
         place: place as u32,
         octets: 0,
+        bit: 0,
+        wait: 0,
     }
 }
 
 // Answers 1 to 4.
 fn refused(x: Refusal) -> Answer
     requires { ⌜ refusalPlace x ≤ 8192 ⌝ }
-    ensures { λ r. ⌜ r ≡ record { answer = refusalNumber x; place = refusalPlace x; octets = 0 } ⌝ }
+    ensures { λ r. ⌜ r ≡ record { answer = refusalNumber x; place = refusalPlace x; octets = 0; bit = 0; wait = 0 } ⌝ }
 {
     match x {
         Refusal::TooLong => plain(1, 0),
@@ -70,12 +76,14 @@ fn refused(x: Refusal) -> Answer
 
 // The record of what was read stands in front of the room.
 fn recorded(answer: u32) -> Answer
-    ensures { λ r. ⌜ r ≡ record { answer = answer; place = 0; octets = 2662 } ⌝ }
+    ensures { λ r. ⌜ r ≡ record { answer = answer; place = 0; octets = 2662; bit = 0; wait = 0 } ⌝ }
 {
     Answer {
         answer: answer,
         place: 0,
         octets: 2662,
+        bit: 0,
+        wait: 0,
     }
 }
 
@@ -105,6 +113,8 @@ pub extern "C" fn m3ap_write(said: &[u8], values: &[u8], room: &mut [u8]) -> Ans
             answer: 0,
             place: 0,
             octets: n as u32,
+            bit: 0,
+            wait: 0,
         },
         Written::NoRoom => plain(10, 0),
         Written::NotWritten => plain(11, 0),

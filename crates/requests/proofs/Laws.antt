@@ -1,5 +1,4 @@
 -- What is seen of values, by how they are read.
---     asked-by      whether a message asks, by what is asked for where nothing is seen
 --     also-within   what a row gives, by its reading
 --     unseen        a value of which the rules see nothing
 --     reset-seen    what is seen of a Reset Type that can be read, by its second bit
@@ -29,18 +28,13 @@ use Rattle.rows.specs.declared.Kind.the-variants as kind
 use Rattle.rows.specs.declared.Rows.{Rows}
 use Rattle.rows.specs.Table.{noRow, rowsIn}
 use Rattle.octets.specs.declared.Span.{Span}
-use Rattle.editions.specs.declared.Message.{Message}
 use Rattle.meaning.specs.Value as value
 use Rattle.meaning.specs.Value.{Value, given, absent}
 use Rattle.meaning.specs.Reading.{within, orAbsent, readAs, valueIn, valuesIn}
 use Rattle.requests.specs.declared.Seen.{Seen}
-use Rattle.requests.specs.declared.Request.{Request}
 use Rattle.requests.specs.declared.MaybeReset.{MaybeReset}
 use Rattle.requests.specs.declared.MaybeReset.the-variants as reset
-use Rattle.requests.specs.Requests.{nothing, seeing, also, alsoRead, requestOf, isAsked, asks, resetSeen, seen}
-
-pub asked-by : (m : Message) {x : Seen} (q : Request) (p : Request) → x ≡ nothing → p ≡ requestOf m x → p ≡ q → isAsked q ≡ asks m
-asked-by m q p e f g = ap isAsked (sym g ∙ f ∙ ap (requestOf m) e)
+use Rattle.requests.specs.Requests.{nothing, seeing, also, alsoRead, resetSeen, seen}
 
 pub also-within : {A : Type 0} (reading : List ℕ → ℕ → Read A) (kind : A → Value Span) (s : List ℕ) (v : Span) (x : Seen)
     → also (orAbsent (within reading kind s v)) x ≡ alsoRead kind (reading (take (v .to) s) (v .from)) x

@@ -1,20 +1,26 @@
--- What a message asks for: its values by kind, and from them the request, which the rules read.
--- A message that asks for nothing is one whose request is none, whatever its values.
+-- What a message asks for: which request it is, by its name; and from its values the request, of which nothing is absent.
 use mathlib.Core.Bool.{Bool, true, false}
 use mathlib.Core.List.{List, [], _∷_}
 use Rattle.identity.specs.declared.Item.{Item}
+use Rattle.identity.specs.declared.Mme.{Mme}
 use Rattle.identity.specs.declared.Mme.the-variants as mme
+use Rattle.identity.specs.declared.Mce.{Mce}
 use Rattle.identity.specs.declared.Mce.the-variants as mce
+use Rattle.identity.specs.declared.Session.{Session}
 use Rattle.identity.specs.declared.Session.the-variants as session
 use Rattle.items.specs.Items.{ResetType, whole, part}
 use Rattle.editions.specs.declared.Message.{Message}
 use Rattle.editions.specs.declared.Message.the-variants as message
+use Rattle.requests.specs.declared.MaybeTmgi.{MaybeTmgi}
 use Rattle.requests.specs.declared.MaybeTmgi.the-variants as tmgi
 use Rattle.requests.specs.declared.MaybeReset.{MaybeReset}
 use Rattle.requests.specs.declared.MaybeReset.the-variants as reset
 use Rattle.requests.specs.declared.Seen.{Seen}
-use Rattle.requests.specs.declared.Request.{Request}
+use Rattle.requests.specs.declared.Ask.{Ask}
+use Rattle.requests.specs.declared.Ask.the-variants as ask
 use Rattle.requests.specs.declared.Request.the-variants as request
+use Rattle.requests.specs.declared.Wanted.{Wanted}
+use Rattle.requests.specs.declared.Wanted.the-variants.{Is, Lacking}
 use Rattle.octets.specs.declared.Span.{Span}
 use Rattle.octets.specs.Read.{Read, got, stop}
 use Rattle.layout.specs.Record.{listsOf}
@@ -46,30 +52,51 @@ unfoldable pub seen : {C : Type 0} → List (Given C) → Seen
 seen [] = nothing
 seen (g ∷ gs) = also g (seen gs)
 
-abbrev pub requestOf : Message → Seen → Request
-requestOf message.StartRequest x = request.Start (x .mme) (x .tmgi) (x .session)
-requestOf message.StopRequest x = request.Stop (x .mme) (x .mce)
-requestOf message.Reset x = request.Reset (x .reset)
-requestOf message.ErrorIndication x = request.Indication
-requestOf message.StartResponse x = request.None
-requestOf message.StartFailure x = request.None
-requestOf message.StopResponse x = request.None
-requestOf message.ResetAcknowledge x = request.None
+-- which request it is; a response, a failure and an acknowledgement ask for nothing
+abbrev pub askOf : Message → Ask
+askOf message.StartRequest = ask.Start
+askOf message.StopRequest = ask.Stop
+askOf message.Reset = ask.Reset
+askOf message.ErrorIndication = ask.Indication
+askOf message.StartResponse = ask.Nothing
+askOf message.StartFailure = ask.Nothing
+askOf message.StopResponse = ask.Nothing
+askOf message.ResetAcknowledge = ask.Nothing
 
-abbrev pub isAsked : Request → Bool
-isAsked (request.Start x t s) = true
-isAsked (request.Stop x y) = true
-isAsked (request.Reset x) = true
-isAsked request.Indication = true
-isAsked request.None = false
+abbrev pub isAsked : Ask → Bool
+isAsked ask.Start = true
+isAsked ask.Stop = true
+isAsked ask.Reset = true
+isAsked ask.Indication = true
+isAsked ask.Nothing = false
 
 abbrev pub asks : Message → Bool
-asks m = isAsked (requestOf m nothing)
+asks m = isAsked (askOf m)
 
--- of a record: what is asked for, and the items beside it
-abbrev pub requestIn : Record → Request
-requestIn r = requestOf (r .message) (seen (r .values))
+-- a request of which nothing is absent
+abbrev pub startOf : Mme → MaybeTmgi → Session → Wanted
+startOf (mme.Is m) (tmgi.Is t) s = Is (request.Start m t s)
+startOf (mme.Is m) tmgi.Absent s = Lacking
+startOf mme.Absent t s = Lacking
 
+abbrev pub stopOf : Mme → Mce → Wanted
+stopOf (mme.Is m) (mce.Is c) = Is (request.Stop m c)
+stopOf (mme.Is m) mce.Absent = Lacking
+stopOf mme.Absent y = Lacking
+
+abbrev pub resetOf : MaybeReset → Wanted
+resetOf reset.Whole = Is request.Whole
+resetOf reset.Part = Is request.Part
+resetOf reset.Absent = Lacking
+
+abbrev pub requestOf : Ask → Seen → Wanted
+requestOf ask.Start x = startOf (x .mme) (x .tmgi) (x .session)
+requestOf ask.Stop x = stopOf (x .mme) (x .mce)
+requestOf ask.Reset x = resetOf (x .reset)
+requestOf ask.Indication x = Is request.Indication
+requestOf ask.Nothing x = Lacking
+
+-- the items beside a request
 abbrev pub itemsIn : Record → List Item
 itemsIn r = listsOf (r .values) .items
 

@@ -6,10 +6,12 @@ ghost use Rattle.values.specs.Values.{mmeAt, mceAt, tmgiAt, sessionAt};
 ghost use Rattle.items.specs.Items.{resetAt};
 ghost use Rattle.meaning.specs.Value.{mme, mce, tmgi, session, reset};
 ghost use Rattle.meaning.specs.Reading.{valueIn, valuesIn};
-ghost use Rattle.requests.specs.Requests.{nothing, also, alsoRead, resetSeen, seen, requestOf, asks};
+ghost use Rattle.requests.specs.Requests.{nothing, also, alsoRead, resetSeen, seen, askOf, asks, startOf, stopOf, resetOf, requestOf};
 use editions::Message;
 use identity::Mce;
+use identity::MceId;
 use identity::Mme;
+use identity::MmeId;
 use identity::Session;
 use identity::Tmgi;
 use octets::Flag;
@@ -43,14 +45,32 @@ pub struct Seen {
     pub reset: MaybeReset,
 }
 
-pub enum Request {
-    Start(Mme, MaybeTmgi, Session),
-    Stop(Mme, Mce),
-    Reset(MaybeReset),
+// Which request a message is.
+pub enum Ask {
+    Start,
+    Stop,
+    Reset,
     // ERROR INDICATION
     Indication,
     // a response, failure or acknowledgement
-    None,
+    Nothing,
+}
+
+// A request of which nothing is absent.
+pub enum Request {
+    Start(MmeId, Tmgi, Session),
+    Stop(MmeId, MceId),
+    // a reset of the whole interface
+    Whole,
+    // a partial reset; its items stand beside it
+    Part,
+    Indication,
+}
+
+// A request, or a mandatory element is lacking.
+pub enum Wanted {
+    Is(Request),
+    Lacking,
 }
 
 fn nothing_seen() -> Seen
@@ -141,24 +161,19 @@ fn with_session(s: &[u8], at: usize, x: Seen) -> Seen
     }
 }
 
-// What a message asks for, by what is seen of it.
-pub fn request_of(m: Message, x: Seen) -> Request
-    ensures { λ r. ⌜ r ≡ requestOf m x ⌝ }
+// Which request a message is.
+pub fn ask_of(m: Message) -> Ask
+    ensures { λ r. ⌜ r ≡ askOf m ⌝ }
 {
-    let mme = x.mme;
-    let mce = x.mce;
-    let tmgi = x.tmgi;
-    let session = x.session;
-    let reset = x.reset;
     match m {
-        Message::StartRequest => Request::Start(mme, tmgi, session),
-        Message::StopRequest => Request::Stop(mme, mce),
-        Message::Reset => Request::Reset(reset),
-        Message::ErrorIndication => Request::Indication,
-        Message::StartResponse => Request::None,
-        Message::StartFailure => Request::None,
-        Message::StopResponse => Request::None,
-        Message::ResetAcknowledge => Request::None,
+        Message::StartRequest => Ask::Start,
+        Message::StopRequest => Ask::Stop,
+        Message::Reset => Ask::Reset,
+        Message::ErrorIndication => Ask::Indication,
+        Message::StartResponse => Ask::Nothing,
+        Message::StartFailure => Ask::Nothing,
+        Message::StopResponse => Ask::Nothing,
+        Message::ResetAcknowledge => Ask::Nothing,
     }
 }
 
@@ -166,12 +181,64 @@ pub fn request_of(m: Message, x: Seen) -> Request
 pub fn asks(m: Message) -> bool
     ensures { λ r. ⌜ r ≡ asks m ⌝ }
 {
-    match request_of(m, nothing_seen()) {
-        Request::None => false,
-        Request::Start(_, _, _) => true,
-        Request::Stop(_, _) => true,
-        Request::Reset(_) => true,
-        Request::Indication => true,
+    match ask_of(m) {
+        Ask::Nothing => false,
+        Ask::Start => true,
+        Ask::Stop => true,
+        Ask::Reset => true,
+        Ask::Indication => true,
+    }
+}
+
+fn start_of(x: Mme, g: MaybeTmgi, session: Session) -> Wanted
+    ensures { λ r. ⌜ r ≡ startOf x g session ⌝ }
+{
+    match x {
+        Mme::Is(m) => match g {
+            MaybeTmgi::Is(tmgi) => Wanted::Is(Request::Start(m, tmgi, session)),
+            MaybeTmgi::Absent => Wanted::Lacking,
+        },
+        Mme::Absent => Wanted::Lacking,
+    }
+}
+
+fn stop_of(x: Mme, y: Mce) -> Wanted
+    ensures { λ r. ⌜ r ≡ stopOf x y ⌝ }
+{
+    match x {
+        Mme::Is(m) => match y {
+            Mce::Is(c) => Wanted::Is(Request::Stop(m, c)),
+            Mce::Absent => Wanted::Lacking,
+        },
+        Mme::Absent => Wanted::Lacking,
+    }
+}
+
+fn reset_of(x: MaybeReset) -> Wanted
+    ensures { λ r. ⌜ r ≡ resetOf x ⌝ }
+{
+    match x {
+        MaybeReset::Whole => Wanted::Is(Request::Whole),
+        MaybeReset::Part => Wanted::Is(Request::Part),
+        MaybeReset::Absent => Wanted::Lacking,
+    }
+}
+
+// The request, by what is seen of the message.
+pub fn request_of(a: Ask, x: Seen) -> Wanted
+    ensures { λ r. ⌜ r ≡ requestOf a x ⌝ }
+{
+    let mme = x.mme;
+    let mce = x.mce;
+    let tmgi = x.tmgi;
+    let session = x.session;
+    let reset = x.reset;
+    match a {
+        Ask::Start => start_of(mme, tmgi, session),
+        Ask::Stop => stop_of(mme, mce),
+        Ask::Reset => reset_of(reset),
+        Ask::Indication => Wanted::Is(Request::Indication),
+        Ask::Nothing => Wanted::Lacking,
     }
 }
 

@@ -8,4 +8,4 @@ use Rattle.unit.proofs.call.Reads as call
 pub call-is : Determined call'.ps call'.r call.Asked call.Learnt
 call-is κs a p x y e f =
     (λ i. record { answer = (e .answer same f .answer) i; octets = (e .octets same f .octets) i })
-    & refl & (e .table same f .table) & refl & refl & (e .room same f .room) & refl
+    & refl & (e .unit same f .unit) & refl & refl & (e .room same f .room) & refl

@@ -1,9 +1,9 @@
--- What is sent of a reply and settled then, whatever the items where none are needed; the table that is written; and what was looked up.
+-- What is sent of a reply and settled then, whatever the items where none are needed; the unit that is written; and what was looked up.
 -- Assumes nothing.
 use Prim.Native.Nat.{ℕ}
 use mathlib.Core.Path.{_≡_, refl, sym, ap, subst, _∙_}
 use mathlib.Core.Bool.{Bool, true, false, _&&_, true≢false}
-use mathlib.Core.List.{List, _++_, map}
+use mathlib.Core.List.{List, [], _++_, map}
 use native.Mathlib.Omega.{arith}
 use borrow.Author.Tests.{eq-eqb, le-leb, leb-true}
 use lib.Dec.{leb}
@@ -13,8 +13,8 @@ use Rattle.lists.specs.Lists.{pick, keep}
 use Rattle.lists.proofs.Tests.{on-pick, and-left, and-right}
 use Rattle.identity.specs.declared.MmeId.{MmeId}
 use Rattle.identity.specs.declared.MceId.{MceId}
+use Rattle.identity.specs.declared.Mme.{Mme}
 use Rattle.identity.specs.declared.Mme.the-variants as mme
-use Rattle.identity.specs.declared.Mce.the-variants as mce
 use Rattle.identity.specs.declared.Session.{Session}
 use Rattle.identity.specs.declared.Tmgi.{Tmgi}
 use Rattle.identity.specs.declared.Item.{Item}
@@ -30,37 +30,47 @@ use Rattle.table.specs.Table as table
 use Rattle.table.proofs.Rows.{held-of}
 use Rattle.lent.specs.declared.Looked.{Looked}
 use Rattle.lent.specs.declared.Looked.the-variants as looked
-use Rattle.lent.specs.Lent.{Lent, Held, NoTable, readTable, lookedUp, firstRows, tableOctets, tableOut, rowOut}
+use Rattle.lent.specs.Lent.{Held, readTable, firstRows, tableOctets, tableOut, rowOut}
 use Rattle.lent.proofs.OneForm.{one-form}
+use Rattle.units.specs.Unit as units
+use Rattle.units.specs.Unit.{withHeld, markOctets, unitOctets, saidUnit, MaybeUnit, isUnit, noUnit, readUnit, lookedIn}
+use Rattle.units.proofs.Parts.{read-unit}
+use Rattle.units.proofs.OneForm.{one-unit, table-of, marks-of}
 use Rattle.put_table.proofs.Writing.{row-starts}
 use Rattle.item_words.specs.Words.{itemOf}
 use Rattle.reset.specs.Slots.{namesNone}
 use Rattle.reset.proofs.Untouched.{without-none}
-use Rattle.requests.specs.declared.MaybeTmgi.the-variants as tmgi
-use Rattle.requests.specs.declared.MaybeReset.the-variants as reset
+use Rattle.requests.specs.declared.Ask.{Ask}
+use Rattle.requests.specs.declared.Ask.the-variants as ask
+use Rattle.requests.specs.declared.Seen.{Seen}
+use Rattle.requests.specs.declared.Wanted.{Wanted}
+use Rattle.requests.specs.declared.Wanted.the-variants as wanted
 use Rattle.requests.specs.declared.Request.{Request}
 use Rattle.requests.specs.declared.Request.the-variants as request
-use Rattle.requests.specs.Requests.{asks}
+use Rattle.requests.specs.Requests.{asks, requestOf, itemsIn}
 use Rattle.replies.specs.declared.Reply.{Reply}
 use Rattle.replies.specs.declared.Reply.the-variants as reply
-use Rattle.replies.specs.Replies.{Replied, replied, replyOctets, hasIdentity}
+use Rattle.replies.specs.Replies.{Replied, replied, replyOctets, hasIdentity, abstractSyntax, falselyConstructed}
 use Rattle.verdicts.specs.declared.Outcome.{Outcome}
 use Rattle.verdicts.specs.declared.Outcome.the-variants as outcome
 use Rattle.verdicts.specs.declared.Refusal.{Refusal}
-use Rattle.verdicts.specs.Verdict.{Verdict, refused, readOf}
+use Rattle.verdicts.specs.Verdict.{Verdict, refused, Understood, readOf}
 use Rattle.carry.specs.declared.Answer.{Answer}
 use Rattle.carry.specs.declared.Answer.the-variants as answer
 use Rattle.carry.specs.declared.Change.{Change}
 use Rattle.carry.specs.declared.Change.the-variants as change
 use Rattle.carry.specs.declared.Decision.{Decision}
-use Rattle.carry.specs.Carry.{rejection, started, stopped, carriedOut, asked, decision, refusal}
+use Rattle.carry.specs.declared.Ruling.{Ruling}
+use Rattle.carry.specs.declared.Ruling.the-variants.{Granted, Refused}
+use Rattle.carry.specs.Carry.{startRejected, rejection, ruledBy, ruling, started, stopped, carriedOut, askedBy, decision, refusal}
 use Rattle.put_reply.specs.declared.Sent.{Sent}
 use Rattle.put_reply.specs.declared.Sent.the-variants.{Done, NoRoom}
 use Rattle.put_reply.specs.Parts.{Sending, sentIn, Sends}
-use Rattle.calls.specs.Decided.{Decided, changed, applied, decided}
-use Rattle.calls.specs.Call.{Call, Back, onTable, replyOf, answerOf, tableAfter, settled, call}
+use Rattle.calls.specs.Judged.{ruled, judgedBy}
+use Rattle.calls.specs.Decided.{Decided, keeps, changed, applied, decided}
+use Rattle.calls.specs.Call.{Call, Back, onUnit, replyOf, answerOf, unitAfter, settled, call}
 use Rattle.unit.specs.declared.Back as back
-use Rattle.unit.specs.Unit.{bareOn, listsItems, resets, carriedOn, settledOn, Called}
+use Rattle.unit.specs.Unit.{bareOn, unitIn, HasRows, listsItems, NoneListed, resets, carriedOn, settledOn, Called}
 use Rattle.unit.proofs.Items.{without-kept}
 
 -- ---- the reply
@@ -80,8 +90,8 @@ put-in d os = by (leb (length os) (length d)) refl
     by false e = not-put e
 
 module _ (e : Edition) where
-  -- the reply of a decision, whatever becomes of the table
-  pub reply-of : (l : State) (is : List Item) (r : Replied) (x : Change) → replyOctets e r ≡ replyOf e (changed l is r x)
+  -- the reply of a decision, whatever becomes of the unit
+  pub reply-of : (l : units.Unit) (is : List Item) (r : Replied) (x : Change) → replyOctets e r ≡ replyOf e (changed l is r x)
   reply-of l is r (change.Stays a) = refl
   reply-of l is r (change.Starts a) = refl
   reply-of l is r (change.Stops m c) = refl
@@ -89,17 +99,17 @@ module _ (e : Edition) where
   reply-of l is r change.Resets = refl
 
   -- by the arm of what was sent
-  pub sent-put : (d : List ℕ) (l : State) (is : List Item) (r : Replied) (y : Change) {x w : Sent} {m : List ℕ} → x ≡ w → Sends (sentIn d (replyOctets e r)) x m → Put d (replyOf e (changed l is r y)) w m
+  pub sent-put : (d : List ℕ) (l : units.Unit) (is : List Item) (r : Replied) (y : Change) {x w : Sent} {m : List ℕ} → x ≡ w → Sends (sentIn d (replyOctets e r)) x m → Put d (replyOf e (changed l is r y)) w m
   sent-put d l is r y {x} {w} {m} q h = subst (λ (os : List ℕ). Put d os w m) (reply-of l is r y) (subst (λ (z : Sent). Put d (replyOctets e r) z m) q (rw (h .answer, h .room) (put-in d (replyOctets e r))))
 
   module _ (t d : List ℕ) (x : Decided) where
     pub no-room : {m : List ℕ} → Put d (replyOf e x) NoRoom m → Called (settled e t d x) (record { answer = answer.NoRoom; octets = 0 }) t m
     unfolding settled
-    no-room (not-put q) = rw q (record { answer = refl; octets = refl; table = refl; room = refl })
+    no-room (not-put q) = rw q (record { answer = refl; octets = refl; unit = refl; room = refl })
 
-    pub done : {n : ℕ} {m s : List ℕ} {a : Answer} → Put d (replyOf e x) (Done n) m → a ≡ answerOf x → s ≡ tableAfter t x → Called (settled e t d x) (record { answer = a; octets = n }) s m
+    pub done : {n : ℕ} {m s : List ℕ} {a : Answer} → Put d (replyOf e x) (Done n) m → a ≡ answerOf x → s ≡ unitAfter t x → Called (settled e t d x) (record { answer = a; octets = n }) s m
     unfolding settled
-    done (put q) p r = rw q (record { answer = p; octets = refl; table = r; room = refl })
+    done (put q) p r = rw q (record { answer = p; octets = refl; unit = r; room = refl })
 
     -- another that is the same
     pub settled-as : {y : Decided} → y ≡ x → {r : back.Back} {t′ d′ : List ℕ} → Called (settled e t d y) r t′ d′ → Called (settled e t d x) r t′ d′
@@ -108,14 +118,29 @@ module _ (e : Edition) where
 -- ---- the items are needed in a partial reset alone
 
 -- what is rejected lists none
-none-rejected : (q : Request) (why : Cause) → listsItems (rejection q why) ≡ false
+none-rejected : (a : Ask) (x : Seen) (why : Cause) → listsItems (rejection a x why) ≡ false
 unfolding rejection
-none-rejected (request.Start (mme.Is m) t s) why = refl
-none-rejected (request.Start mme.Absent t s) why = refl
-none-rejected (request.Stop x y) why = refl
-none-rejected (request.Reset x) why = refl
-none-rejected request.Indication why = refl
-none-rejected request.None why = refl
+none-rejected ask.Start x why = by (x .mme)
+  where
+    by : (m : Mme) → listsItems (startRejected m why) ≡ false
+    by (mme.Is m) = refl
+    by mme.Absent = refl
+none-rejected ask.Stop x why = refl
+none-rejected ask.Reset x why = refl
+none-rejected ask.Indication x why = refl
+none-rejected ask.Nothing x why = refl
+
+none-refused : (a : Ask) (x : Seen) (o : Outcome) → NoneListed (ruling a x o)
+none-refused a x outcome.Accepted = by (requestOf a x)
+  where
+    by : (w : Wanted) → NoneListed (ruledBy (rejection a x abstractSyntax) w)
+    by (wanted.Is q) = tt
+    by wanted.Lacking = none-rejected a x abstractSyntax
+none-refused a x (outcome.Misplaced p) = none-rejected a x falselyConstructed
+none-refused a x outcome.Rejected = none-rejected a x abstractSyntax
+
+pub none-listed : (a : Ask) (x : Seen) (o : Outcome) {r : Ruling} → r ≡ ruling a x o → NoneListed r
+none-listed a x o q = subst NoneListed (sym q) (none-refused a x o)
 
 module _ (k : Standing) (c : MceId) where
   abbrev Agrees : Decision → Type 0
@@ -130,25 +155,18 @@ module _ (k : Standing) (c : MceId) where
   stopped-agrees m x = on-pick Agrees (k .pair) refl refl
 
   carried-agrees : (q : Request) → Agrees (carriedOut k c q)
-  carried-agrees (request.Start (mme.Is m) (tmgi.Is t) s) = started-agrees m t s
-  carried-agrees (request.Start (mme.Is m) tmgi.Absent s) = none-rejected _ _
-  carried-agrees (request.Start mme.Absent t s) = none-rejected _ _
-  carried-agrees (request.Stop (mme.Is m) (mce.Is x)) = stopped-agrees m x
-  carried-agrees (request.Stop (mme.Is m) mce.Absent) = none-rejected _ _
-  carried-agrees (request.Stop mme.Absent y) = none-rejected _ _
-  carried-agrees (request.Reset reset.Whole) = refl
-  carried-agrees (request.Reset reset.Part) = refl
-  carried-agrees (request.Reset reset.Absent) = none-rejected _ _
+  carried-agrees (request.Start m t s) = started-agrees m t s
+  carried-agrees (request.Stop m x) = stopped-agrees m x
+  carried-agrees request.Whole = refl
+  carried-agrees request.Part = refl
   carried-agrees request.Indication = refl
-  carried-agrees request.None = refl
 
-  agrees : (q : Request) (o : Outcome) → Agrees (decision k c q o)
-  agrees q outcome.Accepted = carried-agrees q
-  agrees q (outcome.Misplaced p) = none-rejected q _
-  agrees q outcome.Rejected = none-rejected q _
+  agrees : (r : Ruling) → NoneListed r → Agrees (decision k c r)
+  agrees (Granted q) n = carried-agrees q
+  agrees (Refused r) n = n
 
-  pub items-agree : (q : Request) (o : Outcome) {d : Decision} → d ≡ decision k c q o → Agrees d
-  items-agree q o h = subst Agrees (sym h) (agrees q o)
+  pub items-agree : (r : Ruling) → NoneListed r → {d : Decision} → d ≡ decision k c r → Agrees d
+  items-agree r n h = subst Agrees (sym h) (agrees r n)
 
 replied-any : (e : Edition) (f : Frame) (is js : List Item) (es : List Entry) (r : Reply) → listsItems r ≡ false → replied e f is es r ≡ replied e f js es r
 unfolding replied
@@ -161,21 +179,21 @@ replied-any e f is js es reply.AcknowledgeItems q = absurd (true≢false q)
 replied-any e f is js es (reply.Rejection x y why) q = refl
 replied-any e f is js es (reply.PairNotHeld m c) q = refl
 
-changed-any : (l : State) (is js : List Item) (r : Replied) (x : Change) → resets x ≡ false → changed l is r x ≡ changed l js r x
+changed-any : (l : units.Unit) (is js : List Item) (r : Replied) (x : Change) → resets x ≡ false → changed l is r x ≡ changed l js r x
 changed-any l is js r (change.Stays a) q = refl
 changed-any l is js r (change.Starts a) q = refl
 changed-any l is js r (change.Stops m c) q = refl
 changed-any l is js r change.Empties q = refl
 changed-any l is js r change.Resets q = absurd (true≢false q)
 
-changed-kept : (l : State) (is : List Item) (r : Replied) (x : Change) → changed l (keep hasIdentity is) r x ≡ changed l is r x
+changed-kept : (l : units.Unit) (is : List Item) (r : Replied) (x : Change) → changed l (keep hasIdentity is) r x ≡ changed l is r x
 changed-kept l is r (change.Stays a) = refl
 changed-kept l is r (change.Starts a) = refl
 changed-kept l is r (change.Stops m c) = refl
 changed-kept l is r change.Empties = refl
-changed-kept l is r change.Resets = rw (without-kept is l)
+changed-kept l is r change.Resets = rw (without-kept is (l .held))
 
-module _ (e : Edition) (l : State) (f : Frame) (is : List Item) (es : List Entry) (d : Decision) where
+module _ (e : Edition) (l : units.Unit) (f : Frame) (is : List Item) (es : List Entry) (d : Decision) where
   -- by the items that have an identity
   pub applied-kept : {js ks : List Item} → js ≡ keep hasIdentity is → ks ≡ keep hasIdentity is → changed l js (replied e f ks es (d .reply)) (d .change) ≡ applied e l f is es d
   applied-kept p q = rw (p, q) (changed-kept l is (replied e f (keep hasIdentity is) es (d .reply)) (d .change))
@@ -187,39 +205,63 @@ module _ (e : Edition) (l : State) (f : Frame) (is : List Item) (es : List Entry
       ap (λ (r : Replied). changed l js r (d .change)) (replied-any e f ks (keep hasIdentity is) es (d .reply) (p ∙ q))
       ∙ changed-any l js is (replied e f (keep hasIdentity is) es (d .reply)) (d .change) q
 
--- ---- the table
+-- what is ruled is decided: a refusal lists no items
+pub ruled-applied : (e : Edition) (u : units.Unit) (c : MceId) (w : Understood) (r : Ruling) → NoneListed r
+    → applied e u (w .frame) (itemsIn (w .what)) (w .noted) (decision (table.standing (askedBy c r) (u .held)) c r) ≡ decided e u c (ruled e w r)
+unfolding decided
+ruled-applied e u c w (Granted q) n = refl
+ruled-applied e u c w (Refused r) n = ap (keeps answer.Rejected) (replied-any e (w .frame) (keep hasIdentity (itemsIn (w .what))) [] (w .noted) r n)
 
--- one that is written over another, by its rows or by value; and one that gets one row more
-module _ (l : State) (t : List ℕ) {t′ : List ℕ} where
-  pub put-rows : length t ≡ 3074 → t′ ≡ tableOut l t → t′ ≡ tableOctets l
-  put-rows n q = q ∙ rw (eq-eqb (length t) 3074 n)
+-- ---- the unit
 
-  pub put-out : {u : Table} → length t ≡ 3074 → u ≡ tableOf l → t′ ≡ tableOut (held u) t → t′ ≡ tableOctets l
-  put-out n e q = put-rows n (q ∙ rw (e, held-of l))
+-- one row more
+row-more : (l : State) (t : List ℕ) (a : Association) {n : ℕ} → readTable t ≡ Held l → n ≡ length l → rowOut a n t ≡ tableOctets (starting a l)
+row-more l t a e k = rw (k, ← one-form .again t l e) (row-starts l a (one-form .table t l e .few))
 
-  pub put-more : (a : Association) {n : ℕ} → readTable t ≡ Held l → n ≡ length l → t′ ≡ rowOut a n t → t′ ≡ tableOctets (starting a l)
-  put-more a e k q = q ∙ rw (k, ← one-form .again t l e) (row-starts l a (one-form .table t l e .few))
+-- the table in front is written: what stood behind it stays
+module _ (n : ℕ) (t : List ℕ) (h : HasRows n t) where
+  abbrev l : State
+  l = unitIn n t .held
+
+  table-in : readTable (take 3074 t) ≡ Held l
+  table-in = table-of t (unitIn n t) (h .0)
+
+  front-long : length (take 3074 t) ≡ 3074
+  front-long = ap length (sym (one-form .again (take 3074 t) l table-in)) ∙ one-form .size l (one-form .table (take 3074 t) l table-in .few)
+
+  marks-stay : drop 3074 t ≡ markOctets (unitIn n t)
+  marks-stay = marks-of t (unitIn n t) (h .0)
+
+  -- by its rows, or by value
+  pub put-rows : (m : State) {t′ : List ℕ} → t′ ≡ tableOut m (take 3074 t) ++ drop 3074 t → t′ ≡ unitOctets (withHeld (λ x. m) (unitIn n t))
+  unfolding unitOctets
+  put-rows m q = q ∙ rw (eq-eqb (length (take 3074 t)) 3074 front-long, marks-stay)
+
+  pub put-out : (m : State) {x : Table} {t′ : List ℕ} → x ≡ tableOf m → t′ ≡ tableOut (held x) (take 3074 t) ++ drop 3074 t → t′ ≡ unitOctets (withHeld (λ y. m) (unitIn n t))
+  put-out m e q = put-rows m (q ∙ rw (e, held-of m))
+
+  pub put-more : (a : Association) {t′ : List ℕ} → t′ ≡ rowOut a n (take 3074 t) ++ drop 3074 t → t′ ≡ unitOctets (withHeld (starting a) (unitIn n t))
+  unfolding unitOctets
+  put-more a q = q ∙ (λ i. row-more l (take 3074 t) a table-in (h .1) i ++ marks-stay i)
 
 -- the rows by value, and what a reset leaves of them
 pub reset-rows : (l : State) (is : List Item) {t u : Table} → t ≡ tableOf l → u ≡ tableOf (table.without is (held t)) → u ≡ tableOf (table.without is l)
 reset-rows l is e q = q ∙ rw (e, held-of l)
 
--- where no item names a row, the table that a reset leaves is the one that is there
-pub not-touched : (s : List ℕ) (l : State) (ws : List ℕ) {b : Bool} → readTable s ≡ Held l → b ≡ (leb (length ws) 4 && namesNone (map itemOf ws) l) → b ≡ true →
-    s ≡ tableOctets (table.without (map itemOf (take 256 ws)) l)
-not-touched s l ws q e t =
-    let f = leb-true (length ws) 4 (and-left (leb (length ws) 4) (namesNone (map itemOf ws) l) (sym e ∙ t)) in
-    let n = and-right (leb (length ws) 4) (namesNone (map itemOf ws) l) (sym e ∙ t) in
-    rw (take-all 256 ws (omega arith), without-none (map itemOf ws) l n) (sym (one-form .again s l q))
+-- where no item names a row, the unit that a reset leaves is the one that is there
+pub not-touched : (n : ℕ) (t : List ℕ) (h : HasRows n t) (ws : List ℕ) {b : Bool} → b ≡ (leb (length ws) 4 && namesNone (map itemOf ws) (firstRows n (take 3074 t))) → b ≡ true →
+    t ≡ unitOctets (withHeld (table.without (map itemOf (take 256 ws))) (unitIn n t))
+not-touched n t h ws e q =
+    let l : State = unitIn n t .held in
+    let f = leb-true (length ws) 4 (and-left (leb (length ws) 4) (namesNone (map itemOf ws) l) (sym e ∙ q)) in
+    let k = and-right (leb (length ws) 4) (namesNone (map itemOf ws) l) (sym e ∙ q) in
+    let z : table.without (map itemOf (take 256 ws)) l ≡ l = rw (take-all 256 ws (omega arith)) (without-none (map itemOf ws) l k) in
+    sym (ap (λ (x : State). unitOctets (withHeld (λ y. x) (unitIn n t))) z ∙ one-unit .again t (unitIn n t) (h .0))
 
-pub table-size : (s : List ℕ) (l : State) → readTable s ≡ Held l → length s ≡ 3074
-table-size s l q = ap length (sym (one-form .again s l q)) ∙ one-form .size l (one-form .table s l q .few)
-
--- what was looked up: the rows are those of a table, and what is held of the identities stands in them
+-- what was looked up: the rows are those of a unit, and what is held of the identities stands in them
 pub record Found (s : List ℕ) (i : Item) (k : Standing) (n : ℕ) : Type 0 where
-  pub held : readTable s ≡ Held (firstRows n s)
-  pub count : n ≡ length (firstRows n s)
-  pub standing : k ≡ table.standing i (firstRows n s)
+  pub rows : HasRows n s
+  pub standing : k ≡ table.standing i (unitIn n s .held)
 
 abbrev rowsSaid : ℕ → Looked → ℕ
 rowsSaid n (looked.Is k m) = m
@@ -233,63 +275,70 @@ abbrev isTable : Looked → Bool
 isTable (looked.Is k m) = true
 isTable looked.NoTable = false
 
-module _ (s : List ℕ) (i : Item) where
-  pub found : {k : Standing} {n : ℕ} → looked.Is k n ≡ lookedUp i (readTable s) → Found s i k n
-  found {k} {n} e = by (readTable s) refl
-    where
-      by : (r : Lent) → readTable s ≡ r → Found s i k n
-      by (Held l) q =
-          let z : looked.Is k n ≡ looked.Is (table.standing i l) (length l) = e ∙ ap (lookedUp i) q in
-          let m : n ≡ length l = ap (rowsSaid n) z in
-          let f : firstRows n s ≡ l = ap (λ (x : ℕ). firstRows x s) m ∙ one-form .rows s l q in
-          record { held = q ∙ ap Held (sym f); count = m ∙ ap length (sym f); standing = ap (standingSaid k) z ∙ ap (table.standing i) (sym f) }
-      by NoTable q = absurd (true≢false (ap isTable (e ∙ ap (lookedUp i) q)))
+-- what is read is what is said
+unit-is : (s : List ℕ) (u : units.Unit) → readUnit s ≡ isUnit u → withHeld (λ y. u .held) (saidUnit s) ≡ u
+unit-is s u q = ap (withHeld (λ y. u .held)) (read-unit s q .1)
 
-  pub no-table : looked.NoTable ≡ lookedUp i (readTable s) → readTable s ≡ NoTable
-  no-table e = by (readTable s) refl
+module _ (s : List ℕ) (i : Item) where
+  pub found : {k : Standing} {n : ℕ} → looked.Is k n ≡ lookedIn i (readUnit s) → Found s i k n
+  found {k} {n} e = by (readUnit s) refl
     where
-      by : (r : Lent) → readTable s ≡ r → readTable s ≡ NoTable
-      by NoTable q = q
-      by (Held l) q = absurd (true≢false (sym (ap isTable (e ∙ ap (lookedUp i) q))))
+      by : (r : MaybeUnit) → readUnit s ≡ r → Found s i k n
+      by (isUnit u) q =
+          let z : looked.Is k n ≡ looked.Is (table.standing i (u .held)) (length (u .held)) = e ∙ ap (lookedIn i) q in
+          let m : n ≡ length (u .held) = ap (rowsSaid n) z in
+          let f : firstRows n (take 3074 s) ≡ u .held = ap (λ (x : ℕ). firstRows x (take 3074 s)) m ∙ one-form .rows (take 3074 s) (u .held) (table-of s u q) in
+          record {
+            rows = (q ∙ ap isUnit (sym (unit-is s u q) ∙ ap (λ (x : State). withHeld (λ y. x) (saidUnit s)) (sym f)), m ∙ ap length (sym f));
+            standing = ap (standingSaid k) z ∙ ap (table.standing i) (sym f);
+          }
+      by noUnit q = absurd (true≢false (ap isTable (e ∙ ap (lookedIn i) q)))
+
+  pub no-unit : looked.NoTable ≡ lookedIn i (readUnit s) → readUnit s ≡ noUnit
+  no-unit e = by (readUnit s) refl
+    where
+      by : (r : MaybeUnit) → readUnit s ≡ r → readUnit s ≡ noUnit
+      by noUnit q = q
+      by (isUnit u) q = absurd (true≢false (sym (ap isTable (e ∙ ap (lookedIn i) q))))
 
 -- ---- the call
 
 module _ (e : Edition) (t d : List ℕ) where
-  module _ (decide : State → Decided) where
-    pub on-table : {l : State} {x : Decided} → readTable t ≡ Held l → x ≡ decide l → {r : back.Back} {t′ d′ : List ℕ}
-        → Called (settled e t d x) r t′ d′ → Called (carriedOn e t d decide (readTable t)) r t′ d′
-    on-table q p {r} {t′} {d′} h = rw (q, ← p) h
+  module _ (decide : units.Unit → Decided) where
+    pub on-unit : {u : units.Unit} {x : Decided} → readUnit t ≡ isUnit u → x ≡ decide u → {r : back.Back} {t′ d′ : List ℕ}
+        → Called (settled e t d x) r t′ d′ → Called (carriedOn e t d decide (readUnit t)) r t′ d′
+    on-unit q p {r} {t′} {d′} h = rw (q, ← p) h
 
-    pub off-table : readTable t ≡ NoTable → Called (carriedOn e t d decide (readTable t)) (record { answer = answer.NoTable; octets = 0 }) t d
-    off-table q = rw q (record { answer = refl; octets = refl; table = refl; room = refl })
+    pub off-unit : readUnit t ≡ noUnit → Called (carriedOn e t d decide (readUnit t)) (record { answer = answer.NoUnit; octets = 0 }) t d
+    off-unit q = rw q (record { answer = refl; octets = refl; unit = refl; room = refl })
 
-  pub on-decision : (f : Frame) (is : List Item) (es : List Entry) (c : MceId) (q : Request) (o : Outcome) {l : State} {i : Item} {k : Standing} {x : Decision}
-      → readTable t ≡ Held l → i ≡ asked c q → k ≡ table.standing i l → x ≡ decision k c q o → {r : back.Back} {t′ d′ : List ℕ}
-      → Called (settled e t d (applied e l f is es x)) r t′ d′ → Called (carriedOn e t d (λ m. applied e m f is es (decision (table.standing (asked c q) m) c q o)) (readTable t)) r t′ d′
-  on-decision f is es c q o {l} {i} {k} {x} h a b g u =
-      let z : x ≡ decision (table.standing (asked c q) l) c q o = g ∙ ap (λ (y : Standing). decision y c q o) (b ∙ ap (λ (j : Item). table.standing j l) a) in
-      on-table (λ m. applied e m f is es (decision (table.standing (asked c q) m) c q o)) h (ap (λ (y : Decision). applied e l f is es y) z) u
+  pub on-decision : (f : Frame) (is : List Item) (es : List Entry) (c : MceId) (q : Ruling) {u : units.Unit} {i : Item} {k : Standing} {x : Decision}
+      → readUnit t ≡ isUnit u → i ≡ askedBy c q → k ≡ table.standing i (u .held) → x ≡ decision k c q → {r : back.Back} {t′ d′ : List ℕ}
+      → Called (settled e t d (applied e u f is es x)) r t′ d′ → Called (carriedOn e t d (λ m. applied e m f is es (decision (table.standing (askedBy c q) (m .held)) c q)) (readUnit t)) r t′ d′
+  on-decision f is es c q {u} {i} {k} {x} h a b g v =
+      let z : x ≡ decision (table.standing (askedBy c q) (u .held)) c q = g ∙ ap (λ (y : Standing). decision y c q) (b ∙ ap (λ (j : Item). table.standing j (u .held)) a) in
+      on-unit (λ m. applied e m f is es (decision (table.standing (askedBy c q) (m .held)) c q)) h (ap (λ (y : Decision). applied e u f is es y) z) v
 
   -- decided in another way, with the same outcome
-  pub on-same : (y : Lent) (decide choose : State → Decided) → ((l : State) → decide l ≡ choose l) → {r : back.Back} {t′ d′ : List ℕ}
+  pub on-same : (y : MaybeUnit) (decide choose : units.Unit → Decided) → ((u : units.Unit) → decide u ≡ choose u) → {r : back.Back} {t′ d′ : List ℕ}
       → Called (carriedOn e t d decide y) r t′ d′ → Called (carriedOn e t d choose y) r t′ d′
-  on-same y decide choose q {r} {t′} {d′} h = subst (λ (g : State → Decided). Called (carriedOn e t d g y) r t′ d′) (λ i l. q l i) h
+  on-same y decide choose q {r} {t′} {d′} h = subst (λ (g : units.Unit → Decided). Called (carriedOn e t d g y) r t′ d′) (λ i u. q u i) h
 
 module _ (e : Edition) (t : List ℕ) (c : Call) where
   -- of octets that are not read nothing is done
-  pub bare-called : (x : Refusal) {v : Verdict} {r : back.Back} → v ≡ refused x → r ≡ bareOn (readTable t) (refusal x) → Called (settledOn e t c v (readTable t)) r t (c .room)
-  unfolding settled decided replyOctets
-  bare-called x {v} {r} p q = rw (p, q) (by (readTable t))
+  pub bare-called : (x : Refusal) {v : Verdict} {r : back.Back} → v ≡ refused x → r ≡ bareOn (readUnit t) (refusal x) → Called (settledOn e t c v (readUnit t)) r t (c .room)
+  unfolding settled decided judgedBy replyOctets
+  bare-called x {v} {r} p q = rw (p, q) (by (readUnit t))
     where
-      by : (y : Lent) → Called (settledOn e t c (refused x) y) (bareOn y (refusal x)) t (c .room)
-      by (Held l) = rw (le-leb 0 (length (c .room)) (omega arith)) (record { answer = refl; octets = refl; table = refl; room = refl })
-      by NoTable = record { answer = refl; octets = refl; table = refl; room = refl }
+      by : (y : MaybeUnit) → Called (settledOn e t c (refused x) y) (bareOn y (refusal x)) t (c .room)
+      by (isUnit u) = rw (le-leb 0 (length (c .room)) (omega arith)) (record { answer = refl; octets = refl; unit = refl; room = refl })
+      by noUnit = record { answer = refl; octets = refl; unit = refl; room = refl }
 
-  pub called : {v : Verdict} → readOf e asks (c .message) ≡ v → {r : back.Back} {t′ d′ : List ℕ} → Called (settledOn e t c v (readTable t)) r t′ d′ → Called (call e t c) r t′ d′
+  pub called : {v : Verdict} → readOf e asks (c .message) ≡ v → {r : back.Back} {t′ d′ : List ℕ} → Called (settledOn e t c v (readUnit t)) r t′ d′ → Called (call e t c) r t′ d′
   unfolding call
   called {v} p {r} {t′} {d′} h =
-      subst (λ (b : Back). Called b r t′ d′) (same (readTable t)) (subst (λ (x : Verdict). Called (settledOn e t c x (readTable t)) r t′ d′) (sym p) h)
+      subst (λ (b : Back). Called b r t′ d′) (same (readUnit t)) (subst (λ (x : Verdict). Called (settledOn e t c x (readUnit t)) r t′ d′) (sym p) h)
     where
-      same : (y : Lent) → settledOn e t c (readOf e asks (c .message)) y ≡ onTable e t c y
-      same (Held l) = refl
-      same NoTable = refl
+      same : (y : MaybeUnit) → settledOn e t c (readOf e asks (c .message)) y ≡ onUnit e t c y
+      same (isUnit u) = refl
+      same noUnit = refl

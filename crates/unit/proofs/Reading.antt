@@ -32,17 +32,19 @@ use Rattle.meaning.specs.Value.{Given}
 use Rattle.meaning.specs.Reading.{valueIn, valuesIn}
 use Rattle.layout.specs.Record.{listsOf}
 use Rattle.verdicts.specs.declared.Refusal.the-variants as refusal
-use Rattle.verdicts.specs.Verdict.{Opening, openedAt, refused, verdictOf, ofThose, readOf}
+use Rattle.verdicts.specs.Verdict.{Opening, openedAt, refused, understoodBy, verdictOf, ofThose, readOf}
 use Rattle.judging.specs.declared.Opened.{Opened}
 use Rattle.judging.specs.Judging.{openedBy, spansBy, Opens, notedOf}
 use Rattle.judging.proofs.OpenedLaws.{opened-rows, spans-back}
 use Rattle.entries.specs.declared.Entry.{Entry}
-use Rattle.verdicts.specs.declared.Outcome.{Outcome}
-use Rattle.requests.specs.declared.Request.{Request}
-use Rattle.requests.specs.Requests.{seen, requestOf, asks}
-use Rattle.table.specs.Table.{State, standing}
-use Rattle.carry.specs.Carry.{asked, decision}
+use Rattle.requests.specs.Requests.{seen, askOf, asks}
+use Rattle.table.specs.Table.{standing}
+use Rattle.units.specs.Unit.{Unit}
+use Rattle.carry.specs.declared.Ruling.{Ruling}
+use Rattle.carry.specs.Carry.{ruling, askedBy, decision}
+use Rattle.calls.specs.Judged.{judgedBy}
 use Rattle.calls.specs.Decided.{applied, decided}
+use Rattle.unit.proofs.Laws.{none-listed, ruled-applied}
 use Rattle.unit.specs.Unit.{NumbersFit}
 
 -- ---- the steps of reading
@@ -117,16 +119,20 @@ values-front (r ∷ t) s (v ∷ l) k q = let n : length l ≡ length t = omega a
 
 -- ---- what the code has found, step by step, is what is decided
 
-decided-so : (e : Edition) (m : Message) (f : Frame) (s : List ℕ) (c : MceId) (l : State) (y : Opening) {x : Read Opening} {vs : List (Given Span)} {es : List Entry} {w : Outcome} {u : Request}
-    → x ≡ got y → vs ≡ valuesIn (tableOf e m) s (y .spans) → es ≡ y .noted → w ≡ y .outcome → u ≡ requestOf m (seen vs)
-    → applied e l f (listsOf vs .items) es (decision (standing (asked c u) l) c u w) ≡ decided e l c (verdictOf (tableOf e m) m f s x)
-unfolding decided
-decided-so e m f s c l y {x} {vs} {es} {w} {u} a b g h k =
-    (λ i. applied e l f (listsOf (b i) .items) (g i) (decision (standing (asked c (z i)) l) c (z i) (h i)))
-    ∙ sym (ap (λ (r : Read Opening). decided e l c (verdictOf (tableOf e m) m f s r)) a)
+decided-so : (e : Edition) (m : Message) (f : Frame) (s : List ℕ) (c : MceId) (l : Unit) (y : Opening) {x : Read Opening} {vs : List (Given Span)} {es : List Entry} {u : Ruling}
+    → x ≡ got y → vs ≡ valuesIn (tableOf e m) s (y .spans) → es ≡ y .noted → u ≡ ruling (askOf m) (seen vs) (y .outcome)
+    → applied e l f (listsOf vs .items) es (decision (standing (askedBy c u) (l .held)) c u) ≡ decided e l c (judgedBy e (verdictOf (tableOf e m) m f s x))
+unfolding judgedBy
+decided-so e m f s c l y {x} {vs} {es} {u} a b g k =
+    (λ i. applied e l f (listsOf (b i) .items) (g i) (decision (standing (askedBy c (z i)) (l .held)) c (z i)))
+    ∙ (ruled-applied e l c (understoodBy (tableOf e m) m f s y) r (none-listed (askOf m) (seen (valuesIn (tableOf e m) s (y .spans))) (y .outcome) refl)
+    ∙ sym (ap (λ (w : Read Opening). decided e l c (judgedBy e (verdictOf (tableOf e m) m f s w))) a))
   where
-    z : u ≡ requestOf m (seen (valuesIn (tableOf e m) s (y .spans)))
-    z = k ∙ ap (λ (v : List (Given Span)). requestOf m (seen v)) b
+    r : Ruling
+    r = ruling (askOf m) (seen (valuesIn (tableOf e m) s (y .spans))) (y .outcome)
+
+    z : u ≡ r
+    z = k ∙ ap (λ (v : List (Given Span)). ruling (askOf m) (seen v) (y .outcome)) b
 
 module _ (e : Edition) (m : Message) (f : Frame) (s : List ℕ) {t : Rows} {o : Opened} {ps : List ℕ} (rows : t ≡ rowsOf e m) (q : Opens (openedAt (rowsIn t) s (f .from)) o ps) where
   opens-so : Opens (openedAt (tableOf e m) s (f .from)) o ps
@@ -155,10 +161,10 @@ module _ (e : Edition) (m : Message) (f : Frame) (s : List ℕ) {t : Rows} {o : 
         ap (λ (x : List Row). valuesIn x s (spansIn ps)) (rows-of e m rows)
         ∙ (ap (λ (x : List Span). valuesIn (tableOf e m) s x) a ∙ values-front (tableOf e m) s (opening .spans) _ (opened-rows (tableOf e m) s (f .from) (sym opening-is)))
 
-    pub decided-by : {u : Request} → u ≡ requestOf m (seen (valuesIn (rowsIn t) s (spansIn ps))) → (c : MceId) (l : State)
-        → applied e l f (listsOf (valuesIn (rowsIn t) s (spansIn ps)) .items) (notedOf (openedAt (rowsIn t) s (f .from))) (decision (standing (asked c u) l) c u (o .outcome))
-        ≡ decided e l c (verdictOf (tableOf e m) m f s (openedAt (tableOf e m) s (f .from)))
+    pub decided-by : {u : Ruling} → u ≡ ruling (askOf m) (seen (valuesIn (rowsIn t) s (spansIn ps))) (o .outcome) → (c : MceId) (l : Unit)
+        → applied e l f (listsOf (valuesIn (rowsIn t) s (spansIn ps)) .items) (notedOf (openedAt (rowsIn t) s (f .from))) (decision (standing (askedBy c u) (l .held)) c u)
+        ≡ decided e l c (judgedBy e (verdictOf (tableOf e m) m f s (openedAt (tableOf e m) s (f .from))))
     decided-by a c l =
         let w : o .outcome ≡ opening .outcome = ap (λ (z : Opened). z .outcome) (opened-so ∙ ap openedBy opening-is) in
         let n : notedOf (openedAt (rowsIn t) s (f .from)) ≡ opening .noted = ap (λ (x : List Row). notedOf (openedAt x s (f .from))) (rows-of e m rows) ∙ ap notedOf opening-is in
-        decided-so e m f s c l opening opening-is values-by n w a
+        decided-so e m f s c l opening opening-is values-by n (a ∙ ap (ruling (askOf m) (seen (valuesIn (rowsIn t) s (spansIn ps)))) w)

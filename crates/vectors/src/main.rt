@@ -4,8 +4,8 @@
 //         record= has those in front of the lists, items= and entries= the number of rows and as many rows, since the rows behind are zeros
 //     1   a message to be read and written again, into as many octets of room as the second number says
 //     2   a call: the first number is the offered identity, the second the room
-//     3   the table is empty again
-//     4   the octet of the table at the first number is the second one; nothing is written
+//     3   the unit is fresh again
+//     4   the octet of the unit at the first number is the second one; nothing is written
 use carry::Answer;
 use editions::Edition;
 use editions::Named;
@@ -171,13 +171,13 @@ fn answer(a: Answer) {
     text(b"-");
 }
 
-fn show_back(b: Back, table: &[u8], room: &[u8]) {
+fn show_back(b: Back, unit: &[u8], room: &[u8]) {
     let a = b.answer;
     answer(a);
     text(b" reply=");
     part(room, 0, b.octets);
     text(b" held=");
-    number(two(table, 0) as usize);
+    number(two(unit, 0) as usize);
     text(b"\n");
 }
 
@@ -209,12 +209,12 @@ fn written_again(m: &[u8], room: &mut [u8]) {
     show_written(w, room);
 }
 
-fn called(table: &mut [u8], m: &[u8], offered: u16, room: &mut [u8]) {
-    let b = unit::call(Edition::Release18, table, m, MceId(offered), room);
-    show_back(b, table, room);
+fn called(unit: &mut [u8], m: &[u8], offered: u16, room: &mut [u8]) {
+    let b = unit::call(Edition::Release18, unit, m, MceId(offered), room);
+    show_back(b, unit, room);
 }
 
-fn played(f: Front, table: &mut [u8], m: &[u8]) {
+fn played(f: Front, unit: &mut [u8], m: &[u8]) {
     if f.what == 0 {
         read(m);
         return;
@@ -225,57 +225,57 @@ fn played(f: Front, table: &mut [u8], m: &[u8]) {
         written_again(m, &mut room[..n]);
         return;
     }
-    called(table, m, f.first, &mut room[..n]);
+    called(unit, m, f.first, &mut room[..n]);
 }
 
 // One message of as many octets as there is space for; false where the input ends before.
-fn taken(f: Front, table: &mut [u8], m: &mut [u8]) -> bool {
+fn taken(f: Front, unit: &mut [u8], m: &mut [u8]) -> bool {
     let got = io::read_full(STDIN_FILENO, m);
     if got < m.len() {
         return false;
     }
-    played(f, table, m);
+    played(f, unit, m);
     true
 }
 
-fn emptied(table: &mut [u8]) {
+fn emptied(unit: &mut [u8]) {
     let mut i: usize = 0;
-    while i < table.len() {
-        table[i] = 0;
+    while i < unit.len() {
+        unit[i] = 0;
         i += 1;
     }
 }
 
-fn spoiled(table: &mut [u8], at: usize, v: u16) {
-    if at < table.len() {
-        table[at] = (v % 256) as u8;
+fn spoiled(unit: &mut [u8], at: usize, v: u16) {
+    if at < unit.len() {
+        unit[at] = (v % 256) as u8;
     }
 }
 
 // The next entry; false where the input ends.
-fn turn(table: &mut [u8]) -> bool {
+fn turn(unit: &mut [u8]) -> bool {
     let f = next_front();
     if !f.whole {
         return false;
     }
     if f.what == 3 {
-        emptied(table);
+        emptied(unit);
         return true;
     }
     if f.what == 4 {
-        spoiled(table, f.first as usize, f.second);
+        spoiled(unit, f.first as usize, f.second);
         return true;
     }
     let n = f.length as usize;
     let mut space = io::large_buffer();
-    taken(f, table, &mut space[..n])
+    taken(f, unit, &mut space[..n])
 }
 
 fn main() {
-    let mut table = [0u8; 3074];
+    let mut unit = [0u8; 3088];
     let mut turns: u64 = 10000000;
     while 0 < turns {
-        if !turn(&mut table) {
+        if !turn(&mut unit) {
             return;
         }
         turns -= 1;

@@ -6,10 +6,10 @@ use Rattle.capture.proofs.main.Statement.{statement}
 use Rattle.capture.proofs.main.Tie as tie
 
 abbrev Inv-loop : tie.InvT-loop
-Inv-loop space₀ room₀ table₀ out₀ r₀ turns₀ space room table out r turns = (131072 ≡ length space) × (8192 ≡ length room) × (3074 ≡ length table) × (3072 ≡ length out)
+Inv-loop space₀ room₀ unit₀ out₀ r₀ turns₀ space room unit out r turns = (131072 ≡ length space) × (8192 ≡ length room) × (3088 ≡ length unit) × (3072 ≡ length out)
 
 abbrev μ-loop : tie.MeasureT-loop
-μ-loop space₀ room₀ table₀ out₀ r₀ turns₀ space room table out r turns = turns
+μ-loop space₀ room₀ unit₀ out₀ r₀ turns₀ space room unit out r turns = turns
 
 space-for-two-requires : tie.Need-space-for-two-requires Inv-loop μ-loop
 space-for-two-requires c κs = search needs

@@ -9,10 +9,10 @@ use Rattle.capture.proofs.play_whole.Statement.{statement}
 use Rattle.capture.proofs.play_whole.Tie as tie
 
 abbrev Inv-loop : tie.InvT-loop
-Inv-loop s table₀ room₀ out₀ before messages₀ at₀ table room out messages at = (at ≤ length s) × (length table ≡ length table₀) × (length room ≡ length room₀) × (length out ≡ length out₀)
+Inv-loop s unit₀ room₀ out₀ before messages₀ at₀ unit room out messages at = (at ≤ length s) × (length unit ≡ length unit₀) × (length room ≡ length room₀) × (length out ≡ length out₀)
 
 abbrev μ-loop : tie.MeasureT-loop
-μ-loop s table₀ room₀ out₀ before messages₀ at₀ table room out messages at = length s - at
+μ-loop s unit₀ room₀ out₀ before messages₀ at₀ unit room out messages at = length s - at
 
 loop-holds : tie.Need-loop-holds Inv-loop μ-loop
 loop-holds c = search needs

@@ -1,49 +1,23 @@
--- `carry::asked` meets its contract. By the case. Assumes nothing.
+-- `carry::asked` meets its contract, by the case. Assumes nothing.
 use borrow.Author.Needs.{needs}
 use Rattle.carry.proofs.asked.Statement.{statement}
 use Rattle.carry.proofs.asked.Tie as tie
 
-enum-known-q : tie.Need-enum-known-q
-enum-known-q c = search needs
+enum-known-r : tie.Need-enum-known-r
+enum-known-r c = search needs
 
-enum-known-q-2 : tie.Need-enum-known-q-2
-enum-known-q-2 c = search needs
+asked-by-request-requires : tie.Need-asked-by-request-requires
+asked-by-request-requires c κs = search needs
 
 enum-told : tie.Need-enum-told
 enum-told c = search needs
 
-enum-told-2 : tie.Need-enum-told-2
-enum-told-2 c = search needs
-
-enum-told-3 : tie.Need-enum-told-3
-enum-told-3 c = search needs
-
 returns : tie.Need-returns
-returns c = rw (c .before .q .given .1)
+returns c = rw (c .before .before .r .given .1) (c .asked-by-request .ensures)
 
 returns-2 : tie.Need-returns-2
-returns-2 c = rw (c .before .q2 .given .1)
-
-returns-3 : tie.Need-returns-3
-returns-3 c = rw (c .enum-told .given .1)
-
-returns-4 : tie.Need-returns-4
-returns-4 c = rw (c .enum-told2 .given .1)
-
-returns-5 : tie.Need-returns-5
-returns-5 c = rw (c .enum-told3 .given .1)
+returns-2 c = rw (c .enum-told .given .1)
 
 pub asked-spec : {M : Type 1} → statement M
 asked-spec =
-    tie.close
-    (tie.spec
-    enum-known-q
-    enum-known-q-2
-    enum-told
-    enum-told-2
-    enum-told-3
-    returns
-    returns-2
-    returns-3
-    returns-4
-    returns-5)
+    tie.close (tie.spec enum-known-r asked-by-request-requires enum-told returns returns-2)

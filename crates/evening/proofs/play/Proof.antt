@@ -9,10 +9,10 @@ use Rattle.evening.proofs.play.Statement.{statement}
 use Rattle.evening.proofs.play.Tie as tie
 
 abbrev Inv-loop : tie.InvT-loop
-Inv-loop s table₀ room₀ out₀ most at₀ i₀ table room out at i = Going (playedIn most s table₀ room₀) most s table₀ room₀ out₀ table room out at i
+Inv-loop s unit₀ room₀ out₀ most at₀ i₀ unit room out at i = Going (playedIn most s unit₀ room₀) most s unit₀ room₀ out₀ unit room out at i
 
 abbrev μ-loop : tie.MeasureT-loop
-μ-loop s table₀ room₀ out₀ most at₀ i₀ table room out at i = most - i
+μ-loop s unit₀ room₀ out₀ most at₀ i₀ unit room out at i = most - i
 
 loop-holds : tie.Need-loop-holds Inv-loop μ-loop
 loop-holds c = going-none _ _ _ _ _
@@ -30,7 +30,7 @@ size-requires : tie.Need-size-requires Inv-loop μ-loop
 size-requires c κs = search needs
 
 same-length : tie.Need-same-length Inv-loop μ-loop
-same-length c = c .before .before .before .before .loop .inv .table
+same-length c = c .before .before .before .before .loop .inv .unit
 
 same-length-2 : tie.Need-same-length-2 Inv-loop μ-loop
 same-length-2 c = c .before .before .before .before .loop .inv .room
@@ -71,7 +71,7 @@ loop-again c =
     going-more (c .before .before .before .before .before .before .before .before .before .before .before .before .before .before .before .before .loop .inv) (c .before .before .before .before .before .before .before .before .before .before .before .before .before .before .before .loop-test .taken) (h .0) (h .1) (rw tail-part at (c .before .before .before .before .before .before .before .before .take-turn .ensures)) (c .before .before .before .before .before .before .before .before .take-turn .kept .1 .1 .0) (c .before .before .before .before .before .before .before .before .take-turn .kept .1 .1 .1 .0) (c .before .before .store .ensures)
 
 same-length-4 : tie.Need-same-length-4 Inv-loop μ-loop
-same-length-4 c = c .before .loop .inv .table
+same-length-4 c = c .before .loop .inv .unit
 
 same-length-5 : tie.Need-same-length-5 Inv-loop μ-loop
 same-length-5 c = c .before .loop .inv .room

@@ -1,10 +1,10 @@
--- `unit::bare` meets its contract. Octets of no table are 21, whatever the answer. Assumes nothing.
+-- `unit::bare` meets its contract. Octets of no unit are 21, whatever the answer. Assumes nothing.
 use denote.Ref.{now}
 use mathlib.Core.Path.{sym, ap, _∙_}
 use Rattle.identity.specs.Items.{emptyItem}
-use Rattle.lent.specs.Lent.{Lent}
+use Rattle.units.specs.Unit.{MaybeUnit}
 use Rattle.unit.specs.Unit.{bareOn}
-use Rattle.unit.proofs.Laws.{found, no-table}
+use Rattle.unit.proofs.Laws.{found, no-unit}
 use borrow.Author.Needs.{needs}
 use Rattle.unit.proofs.bare.Statement.{statement}
 use Rattle.unit.proofs.bare.Tie as tie
@@ -25,10 +25,10 @@ hand-back-requires-2 : tie.Need-hand-back-requires-2
 hand-back-requires-2 c κs = search needs
 
 returns : tie.Need-returns
-returns c = c .hand-back .ensures ∙ sym (ap (λ (y : Lent). bareOn y (c .before .before .before .before .before .args .answer)) (no-table (now (c .before .before .before .before .before .args .table)) emptyItem (sym (c .before .enum-told .given .1) ∙ c .before .before .before .look-up .ensures)))
+returns c = c .hand-back .ensures ∙ sym (ap (λ (y : MaybeUnit). bareOn y (c .before .before .before .before .before .args .answer)) (no-unit (now (c .before .before .before .before .before .args .unit)) emptyItem (sym (c .before .enum-told .given .1) ∙ c .before .before .before .look-up .ensures)))
 
 returns-2 : tie.Need-returns-2
-returns-2 c = c .hand-back2 .ensures ∙ sym (ap (λ (y : Lent). bareOn y (c .before .before .before .before .before .args .answer)) (found (now (c .before .before .before .before .before .args .table)) emptyItem (sym (c .before .enum-told2 .given .1) ∙ c .before .before .before .look-up .ensures) .held))
+returns-2 c = c .hand-back2 .ensures ∙ sym (ap (λ (y : MaybeUnit). bareOn y (c .before .before .before .before .before .args .answer)) (found (now (c .before .before .before .before .before .args .unit)) emptyItem (sym (c .before .enum-told2 .given .1) ∙ c .before .before .before .look-up .ensures) .rows .0))
 
 pub bare-spec : {M : Type 1} → statement M
 bare-spec =

@@ -18,7 +18,7 @@ same-length : tie.Need-same-length
 same-length c = search needs
 
 returns : tie.Need-returns
-returns c = let a = c .before .before .before .before .before .before .args in let x : Call = (record { message = now (a .message); offered = a .offered; room = now (a .room) }) in called (a .e) (now (a .table)) x (too-long (a .e) (now (a .message)) (c .before .before .if1 .taken)) (bare-called (a .e) (now (a .table)) x refusal.TooLong refl (c .bare .ensures))
+returns c = let a = c .before .before .before .before .before .before .args in let x : Call = (record { message = now (a .message); offered = a .offered; room = now (a .room) }) in called (a .e) (now (a .unit)) x (too-long (a .e) (now (a .message)) (c .before .before .if1 .taken)) (bare-called (a .e) (now (a .unit)) x refusal.TooLong refl (c .bare .ensures))
 
 frame-at-requires : tie.Need-frame-at-requires
 frame-at-requires c κs = search needs
@@ -45,7 +45,7 @@ same-length-3 : tie.Need-same-length-3
 same-length-3 c = search needs
 
 returns-2 : tie.Need-returns-2
-returns-2 c = let a = c .before .before .before .before .before .before .before .before .before .before .before .before .before .before .before .before .before .before .before .before .before .args in let x : Call = (record { message = now (a .message); offered = a .offered; room = now (a .room) }) in called (a .e) (now (a .table)) x (asking (a .e) (now (a .message)) (c .before .before .before .before .before .before .before .before .before .before .before .before .before .before .before .before .before .if1 .left) (c .before .before .before .before .before .before .before .before .before .before .before .before .before .before .f .given .0 .0) (told foundFrame (c .before .before .before .before .before .before .before .before .before .before .before .before .before .before .f .given .1) (c .before .before .before .before .before .before .before .before .before .before .before .before .before .before .before .before .frame-at .ensures)) (c .before .before .before .before .before .before .before .before .before .before .m .given .0 .0) (sym (c .before .before .before .before .before .before .before .before .before .before .m .given .1) ∙ c .before .before .before .before .before .before .before .before .before .before .before .before .message-of .ensures) (sym (c .before .before .before .before .before .before .before .before .asks .ensures) ∙ c .before .before .before .before .before .before .before .if2 .taken)) (c .before .before .before .before .asked .ensures)
+returns-2 c = let a = c .before .before .before .before .before .before .before .before .before .before .before .before .before .before .before .before .before .before .before .before .before .args in let x : Call = (record { message = now (a .message); offered = a .offered; room = now (a .room) }) in called (a .e) (now (a .unit)) x (asking (a .e) (now (a .message)) (c .before .before .before .before .before .before .before .before .before .before .before .before .before .before .before .before .before .if1 .left) (c .before .before .before .before .before .before .before .before .before .before .before .before .before .before .f .given .0 .0) (told foundFrame (c .before .before .before .before .before .before .before .before .before .before .before .before .before .before .f .given .1) (c .before .before .before .before .before .before .before .before .before .before .before .before .before .before .before .before .frame-at .ensures)) (c .before .before .before .before .before .before .before .before .before .before .m .given .0 .0) (sym (c .before .before .before .before .before .before .before .before .before .before .m .given .1) ∙ c .before .before .before .before .before .before .before .before .before .before .before .before .message-of .ensures) (sym (c .before .before .before .before .before .before .before .before .asks .ensures) ∙ c .before .before .before .before .before .before .before .if2 .taken)) (c .before .before .before .before .asked .ensures)
 
 bare-requires-2 : tie.Need-bare-requires-2
 bare-requires-2 c κs = search needs
@@ -66,19 +66,19 @@ same-length-4 : tie.Need-same-length-4
 same-length-4 c = search needs
 
 returns-3 : tie.Need-returns-3
-returns-3 c = let a = c .before .before .before .before .before .before .before .before .before .before .before .before .before .before .before .before .args in let x : Call = (record { message = now (a .message); offered = a .offered; room = now (a .room) }) in called (a .e) (now (a .table)) x (not-asking (a .e) (now (a .message)) (c .before .before .before .before .before .before .before .before .before .before .before .before .if1 .left) (c .before .before .before .before .before .before .before .before .before .f .given .0 .0) (told foundFrame (c .before .before .before .before .before .before .before .before .before .f .given .1) (c .before .before .before .before .before .before .before .before .before .before .before .frame-at .ensures)) (c .before .before .before .before .before .m .given .0 .0) (sym (c .before .before .before .before .before .m .given .1) ∙ c .before .before .before .before .before .before .before .message-of .ensures) (sym (c .before .before .before .asks .ensures) ∙ c .before .before .if2 .left)) (bare-called (a .e) (now (a .table)) x refusal.NotAmong refl (c .bare2 .ensures))
+returns-3 c = let a = c .before .before .before .before .before .before .before .before .before .before .before .before .before .before .before .before .args in let x : Call = (record { message = now (a .message); offered = a .offered; room = now (a .room) }) in called (a .e) (now (a .unit)) x (not-asking (a .e) (now (a .message)) (c .before .before .before .before .before .before .before .before .before .before .before .before .if1 .left) (c .before .before .before .before .before .before .before .before .before .f .given .0 .0) (told foundFrame (c .before .before .before .before .before .before .before .before .before .f .given .1) (c .before .before .before .before .before .before .before .before .before .before .before .frame-at .ensures)) (c .before .before .before .before .before .m .given .0 .0) (sym (c .before .before .before .before .before .m .given .1) ∙ c .before .before .before .before .before .before .before .message-of .ensures) (sym (c .before .before .before .asks .ensures) ∙ c .before .before .if2 .left)) (bare-called (a .e) (now (a .unit)) x refusal.NotAmong refl (c .bare2 .ensures))
 
 same-length-5 : tie.Need-same-length-5
 same-length-5 c = search needs
 
 returns-4 : tie.Need-returns-4
-returns-4 c = let a = c .before .before .before .before .before .before .before .before .before .before .before .before .before .args in let x : Call = (record { message = now (a .message); offered = a .offered; room = now (a .room) }) in called (a .e) (now (a .table)) x (not-named (a .e) (now (a .message)) (c .before .before .before .before .before .before .before .before .before .if1 .left) (c .before .before .before .before .before .before .f .given .0 .0) (told foundFrame (c .before .before .before .before .before .before .f .given .1) (c .before .before .before .before .before .before .before .before .frame-at .ensures)) (sym (c .before .before .enum-told .given .1) ∙ c .before .before .before .before .message-of .ensures)) (bare-called (a .e) (now (a .table)) x refusal.NotAmong refl (c .bare3 .ensures))
+returns-4 c = let a = c .before .before .before .before .before .before .before .before .before .before .before .before .before .args in let x : Call = (record { message = now (a .message); offered = a .offered; room = now (a .room) }) in called (a .e) (now (a .unit)) x (not-named (a .e) (now (a .message)) (c .before .before .before .before .before .before .before .before .before .if1 .left) (c .before .before .before .before .before .before .f .given .0 .0) (told foundFrame (c .before .before .before .before .before .before .f .given .1) (c .before .before .before .before .before .before .before .before .frame-at .ensures)) (sym (c .before .before .enum-told .given .1) ∙ c .before .before .before .before .message-of .ensures)) (bare-called (a .e) (now (a .unit)) x refusal.NotAmong refl (c .bare3 .ensures))
 
 same-length-6 : tie.Need-same-length-6
 same-length-6 c = search needs
 
 returns-5 : tie.Need-returns-5
-returns-5 c = let a = c .before .before .before .before .before .before .before .before .before .before .args in let x : Call = (record { message = now (a .message); offered = a .offered; room = now (a .room) }) in called (a .e) (now (a .table)) x (frame-stops (a .e) (now (a .message)) (c .before .before .before .before .before .before .if1 .left) (told foundFrame (c .before .before .before .x .given .1) (c .before .before .before .before .before .frame-at .ensures))) (bare-called (a .e) (now (a .table)) x (refusal.Stopped (c .before .before .before .x .given .0 .0)) refl (c .bare4 .ensures))
+returns-5 c = let a = c .before .before .before .before .before .before .before .before .before .before .args in let x : Call = (record { message = now (a .message); offered = a .offered; room = now (a .room) }) in called (a .e) (now (a .unit)) x (frame-stops (a .e) (now (a .message)) (c .before .before .before .before .before .before .if1 .left) (told foundFrame (c .before .before .before .x .given .1) (c .before .before .before .before .before .frame-at .ensures))) (bare-called (a .e) (now (a .unit)) x (refusal.Stopped (c .before .before .before .x .given .0 .0)) refl (c .bare4 .ensures))
 
 pub call-spec : {M : Type 1} → statement M
 call-spec =

@@ -3,8 +3,7 @@ use denote.Ref.{now}
 use mathlib.Core.Path.{refl}
 use mathlib.Core.List.{[]}
 use Rattle.table.specs.Table.{without, stopping}
-use Rattle.lent.specs.Lent.{firstRows}
-use Rattle.unit.proofs.Laws.{put-rows, put-out, put-more, reset-rows, not-touched, table-size}
+use Rattle.unit.proofs.Laws.{put-rows, put-out, put-more, reset-rows, not-touched}
 use borrow.Author.Needs.{needs}
 use Rattle.unit.proofs.finish.Statement.{statement}
 use Rattle.unit.proofs.finish.Tie as tie
@@ -58,7 +57,7 @@ same-length : tie.Need-same-length
 same-length c = search needs
 
 returns : tie.Need-returns
-returns c = let s = c .before .before .before .before .before .before .before .before in λ w. rw (c .before .before .before .before .enum-told2 .given .1) (record { back = c .hand-back5 .ensures; table = not-touched (now (s .args .table)) (firstRows (s .args .n) (now (s .args .table))) (now (s .args .kept)) (s .pre .0) (c .before .before .names-none .ensures) (c .before .if1 .taken) })
+returns c = let s = c .before .before .before .before .before .before .before .before in λ w. rw (c .before .before .before .before .enum-told2 .given .1) (record { back = c .hand-back5 .ensures; unit = not-touched (s .args .n) (now (s .args .unit)) (s .pre) (now (s .args .kept)) (c .before .before .names-none .ensures) (c .before .if1 .taken) })
 
 rows-in-requires : tie.Need-rows-in-requires
 rows-in-requires c κs = search needs
@@ -73,31 +72,31 @@ hand-back-requires-6 : tie.Need-hand-back-requires-6
 hand-back-requires-6 c κs = search needs
 
 returns-2 : tie.Need-returns-2
-returns-2 c = λ w. rw (c .before .before .change .given .1) (record { back = c .hand-back .ensures; table = refl })
+returns-2 c = λ w. rw (c .before .before .change .given .1) (record { back = c .hand-back .ensures; unit = refl })
 
 same-length-2 : tie.Need-same-length-2
 same-length-2 c = search needs
 
 returns-3 : tie.Need-returns-3
-returns-3 c = let s = c .before .before .before .before .before .before .before .before .before .before in λ w. rw (c .before .before .before .before .before .before .change2 .given .1) (record { back = c .hand-back2 .ensures; table = put-more (firstRows (s .args .n) (now (s .args .table))) (now (s .args .table)) _ (s .pre .0) (s .pre .1) (c .before .before .before .row-out .ensures) })
+returns-3 c = let s = c .before .before .before .before .before .before .before .before .before .before in λ w. rw (c .before .before .before .before .before .before .change2 .given .1) (record { back = c .hand-back2 .ensures; unit = put-more (s .args .n) (now (s .args .unit)) (s .pre) _ (c .before .before .before .row-out .ensures) })
 
 same-length-3 : tie.Need-same-length-3
 same-length-3 c = search needs
 
 returns-4 : tie.Need-returns-4
-returns-4 c = let s = c .before .before .before .before .before .before .before .before .before .before in λ w. rw (c .before .before .before .before .before .before .change3 .given .1) (record { back = c .hand-back3 .ensures; table = put-rows (stopping _ _ _) (now (s .args .table)) (table-size (now (s .args .table)) _ (s .pre .0)) (c .before .before .before .stop-out .ensures) })
+returns-4 c = let s = c .before .before .before .before .before .before .before .before .before .before in λ w. rw (c .before .before .before .before .before .before .change3 .given .1) (record { back = c .hand-back3 .ensures; unit = put-rows (s .args .n) (now (s .args .unit)) (s .pre) (stopping _ _ _) (c .before .before .before .stop-out .ensures) })
 
 same-length-4 : tie.Need-same-length-4
 same-length-4 c = search needs
 
 returns-5 : tie.Need-returns-5
-returns-5 c = let s = c .before .before .before .before .before .before .before .before .before .before in λ w. rw (c .before .before .before .before .before .before .enum-told .given .1) (record { back = c .hand-back4 .ensures; table = put-out [] (now (s .args .table)) (table-size (now (s .args .table)) _ (s .pre .0)) (c .before .before .before .before .before .empty .ensures) (c .before .before .before .table-out .ensures .1) })
+returns-5 c = let s = c .before .before .before .before .before .before .before .before .before .before in λ w. rw (c .before .before .before .before .before .before .enum-told .given .1) (record { back = c .hand-back4 .ensures; unit = put-out (s .args .n) (now (s .args .unit)) (s .pre) [] (c .before .before .before .before .before .empty .ensures) (c .before .before .before .table-out .ensures) })
 
 same-length-5 : tie.Need-same-length-5
 same-length-5 c = search needs
 
 returns-6 : tie.Need-returns-6
-returns-6 c = let s = c .before .before .before .before .before .before .before .before .before .before .before .before .before .before .before in λ w. rw (c .before .before .before .before .before .before .before .before .before .before .before .enum-told2 .given .1) (record { back = c .hand-back6 .ensures; table = put-out (without _ _) (now (s .args .table)) (table-size (now (s .args .table)) _ (s .pre .0)) (reset-rows _ _ (c .before .before .before .before .before .before .rows-in .ensures) (c .before .before .before .before .before .reset .ensures)) (c .before .before .before .table-out2 .ensures .1) })
+returns-6 c = let s = c .before .before .before .before .before .before .before .before .before .before .before .before .before .before .before in λ w. rw (c .before .before .before .before .before .before .before .before .before .before .before .enum-told2 .given .1) (record { back = c .hand-back6 .ensures; unit = put-out (s .args .n) (now (s .args .unit)) (s .pre) (without _ _) (reset-rows _ _ (c .before .before .before .before .before .before .rows-in .ensures) (c .before .before .before .before .before .reset .ensures)) (c .before .before .before .table-out2 .ensures) })
 
 pub finish-spec : {M : Type 1} → statement M
 finish-spec =

@@ -5,7 +5,7 @@ use mathlib.Core.List.{map}
 use lib.ListN.{take}
 use Rattle.item_words.specs.Words.{itemOf}
 use Rattle.entry_words.specs.EntryWords.{entryBy}
-use Rattle.lent.specs.Lent.{firstRows}
+use Rattle.unit.specs.Unit.{unitIn}
 use Rattle.replies.specs.Replies.{Replied, replied}
 use Rattle.calls.specs.Decided.{Decided, changed}
 use Rattle.unit.proofs.Laws.{sent-put, no-room, done}
@@ -17,7 +17,7 @@ abbrev reply : tie.Start → Replied
 reply s = let a = s .args in replied (a .e) (a .f) (map itemOf (now (a .kept))) (map entryBy (now (a .noted))) (a .d .reply)
 
 abbrev made : tie.Start → Decided
-made s = let a = s .args in changed (firstRows (a .n) (now (a .table))) (map itemOf (take 256 (now (a .kept)))) (reply s) (a .d .change)
+made s = let a = s .args in changed (unitIn (a .n) (now (a .unit))) (map itemOf (take 256 (now (a .kept)))) (reply s) (a .d .change)
 
 put-reply-requires : tie.Need-put-reply-requires
 put-reply-requires c κs = search needs
@@ -41,13 +41,13 @@ same-length-2 : tie.Need-same-length-2
 same-length-2 c = search needs
 
 returns : tie.Need-returns
-returns c = let s = c .before .before .before .before .before .before .before .before .before .before .before .before .before .before .before in let g = c .before .before .finish .ensures (reply s) in rw (g .back) (done (s .args .e) (now (s .args .table)) (now (s .args .room)) (made s) (sent-put (s .args .e) (now (s .args .room)) (firstRows (s .args .n) (now (s .args .table))) (map itemOf (take 256 (now (s .args .kept)))) (reply s) (s .args .d .change) (c .before .before .before .before .before .octets .given .1) (c .before .before .before .before .before .before .before .before .before .put-reply .ensures)) refl (g .table))
+returns c = let s = c .before .before .before .before .before .before .before .before .before .before .before .before .before .before .before in let g = c .before .before .finish .ensures (reply s) in rw (g .back) (done (s .args .e) (now (s .args .unit)) (now (s .args .room)) (made s) (sent-put (s .args .e) (now (s .args .room)) (unitIn (s .args .n) (now (s .args .unit))) (map itemOf (take 256 (now (s .args .kept)))) (reply s) (s .args .d .change) (c .before .before .before .before .before .octets .given .1) (c .before .before .before .before .before .before .before .before .before .put-reply .ensures)) refl (g .unit))
 
 same-length-3 : tie.Need-same-length-3
 same-length-3 c = search needs
 
 returns-2 : tie.Need-returns-2
-returns-2 c = let s = c .before .before .before .before .before .before .before .before .before .before .before in rw (c .hand-back .ensures) (no-room (s .args .e) (now (s .args .table)) (now (s .args .room)) (made s) (sent-put (s .args .e) (now (s .args .room)) (firstRows (s .args .n) (now (s .args .table))) (map itemOf (take 256 (now (s .args .kept)))) (reply s) (s .args .d .change) (c .before .enum-told .given .1) (c .before .before .before .before .before .put-reply .ensures)))
+returns-2 c = let s = c .before .before .before .before .before .before .before .before .before .before .before in rw (c .hand-back .ensures) (no-room (s .args .e) (now (s .args .unit)) (now (s .args .room)) (made s) (sent-put (s .args .e) (now (s .args .room)) (unitIn (s .args .n) (now (s .args .unit))) (map itemOf (take 256 (now (s .args .kept)))) (reply s) (s .args .d .change) (c .before .enum-told .given .1) (c .before .before .before .before .before .put-reply .ensures)))
 
 pub settle-spec : {M : Type 1} → statement M
 settle-spec =

@@ -10,7 +10,7 @@ use Rattle.identity.specs.declared.Item.{Item}
 use Rattle.places.specs.Places.{spansIn}
 use Rattle.rows.specs.Table.{rowsIn}
 use Rattle.entry_words.specs.EntryWords.{entryBy}
-use Rattle.lent.specs.Lent.{firstRows}
+use Rattle.unit.specs.Unit.{unitIn}
 use Rattle.meaning.specs.Reading.{valuesIn}
 use Rattle.layout.specs.Record.{listsOf}
 use Rattle.calls.specs.Decided.{Decided, applied}
@@ -24,7 +24,7 @@ abbrev items : tie.Start → List Item
 items s = listsOf (valuesIn (rowsIn (s .args .t)) (now (s .args .message)) (spansIn (now (s .args .places)))) .items
 
 abbrev made : tie.Start → Decided
-made s = applied (s .args .e) (firstRows (s .args .n) (now (s .args .table))) (s .args .f) (items s) (map entryBy (now (s .args .noted))) (s .args .d)
+made s = applied (s .args .e) (unitIn (s .args .n) (now (s .args .unit))) (s .args .f) (items s) (map entryBy (now (s .args .noted))) (s .args .d)
 
 kept : (w : tie.After-keep-identified) → Kept (items (w .before .before .before .before .before .before .before .before .before .before .before)) (w .keep-identified .result) (w .keep-identified .last .0)
 kept w =
@@ -63,7 +63,7 @@ same-length-2 : tie.Need-same-length-2
 same-length-2 c = search needs
 
 returns : tie.Need-returns
-returns c = let s = c .before .before .before .before .before .before .before .before .before .before .before .before .before .before .before .before .before .before .before .before in let k = kept (c .before .before .before .before .before .before .before .before .before) in settled-as (s .args .e) (now (s .args .table)) (now (s .args .room)) (made s) (applied-kept (s .args .e) (firstRows (s .args .n) (now (s .args .table))) (s .args .f) (items s) (map entryBy (now (s .args .noted))) (s .args .d) (k .reset) (k .items)) (c .before .before .before .before .settle .ensures)
+returns c = let s = c .before .before .before .before .before .before .before .before .before .before .before .before .before .before .before .before .before .before .before .before in let k = kept (c .before .before .before .before .before .before .before .before .before) in settled-as (s .args .e) (now (s .args .unit)) (now (s .args .room)) (made s) (applied-kept (s .args .e) (unitIn (s .args .n) (now (s .args .unit))) (s .args .f) (items s) (map entryBy (now (s .args .noted))) (s .args .d) (k .reset) (k .items)) (c .before .before .before .before .settle .ensures)
 
 slice-aggregate-settle-2 : tie.Need-slice-aggregate-settle-2
 slice-aggregate-settle-2 c = search needs
@@ -78,7 +78,7 @@ same-length-4 : tie.Need-same-length-4
 same-length-4 c = search needs
 
 returns-2 : tie.Need-returns-2
-returns-2 c = let s = c .before .before .before .before .before .before .before .before .before .before .before .before .before .before in settled-as (s .args .e) (now (s .args .table)) (now (s .args .room)) (made s) (applied-any (s .args .e) (firstRows (s .args .n) (now (s .args .table))) (s .args .f) (items s) (map entryBy (now (s .args .noted))) (s .args .d) [] [] (s .pre .1) (sym (c .before .before .before .before .before .before .before .before .before .is-reset .ensures) ∙ c .before .before .before .before .before .before .before .before .if1 .left)) (c .before .before .before .before .settle2 .ensures)
+returns-2 c = let s = c .before .before .before .before .before .before .before .before .before .before .before .before .before .before in settled-as (s .args .e) (now (s .args .unit)) (now (s .args .room)) (made s) (applied-any (s .args .e) (unitIn (s .args .n) (now (s .args .unit))) (s .args .f) (items s) (map entryBy (now (s .args .noted))) (s .args .d) [] [] (s .pre .1) (sym (c .before .before .before .before .before .before .before .before .before .is-reset .ensures) ∙ c .before .before .before .before .before .before .before .before .if1 .left)) (c .before .before .before .before .settle2 .ensures)
 
 pub settle-items-spec : {M : Type 1} → statement M
 settle-items-spec =

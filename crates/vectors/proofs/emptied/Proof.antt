@@ -1,4 +1,4 @@
--- `vectors::emptied` is safe and ends. The table keeps its length. Assumes nothing.
+-- `vectors::emptied` is safe and ends. The unit keeps its length. Assumes nothing.
 use lib.ListN.{length}
 use mathlib.Core.Path.{_≡_}
 use Prim.Native.Nat.{_-_}
@@ -7,16 +7,16 @@ use Rattle.vectors.proofs.emptied.Statement.{statement}
 use Rattle.vectors.proofs.emptied.Tie as tie
 
 abbrev Inv-loop : tie.InvT-loop
-Inv-loop table₀ i₀ table i = length table ≡ length table₀
+Inv-loop unit₀ i₀ unit i = length unit ≡ length unit₀
 
 abbrev μ-loop : tie.MeasureT-loop
-μ-loop table₀ i₀ table i = length table₀ - i
+μ-loop unit₀ i₀ unit i = length unit₀ - i
 
 loop-holds : tie.Need-loop-holds Inv-loop μ-loop
 loop-holds c = search needs
 
-slice-write-table : tie.Need-slice-write-table Inv-loop μ-loop
-slice-write-table c = search needs
+slice-write-unit : tie.Need-slice-write-unit Inv-loop μ-loop
+slice-write-unit c = search needs
 
 add-i : tie.Need-add-i Inv-loop μ-loop
 add-i c = search needs
@@ -40,7 +40,7 @@ emptied-spec =
     Inv-loop
     μ-loop
     loop-holds
-    slice-write-table
+    slice-write-unit
     add-i
     loop-less
     loop-again

@@ -1,4 +1,4 @@
--- `vectors::main` is safe and ends. The table is as long as it is said to be. Assumes nothing.
+-- `vectors::main` is safe and ends. The unit is as long as it is said to be. Assumes nothing.
 use lib.ListN.{length}
 use mathlib.Core.Path.{_≡_}
 use borrow.Author.Needs.{needs}
@@ -6,10 +6,10 @@ use Rattle.vectors.proofs.main.Statement.{statement}
 use Rattle.vectors.proofs.main.Tie as tie
 
 abbrev Inv-loop : tie.InvT-loop
-Inv-loop table₀ turns₀ table turns = 3074 ≡ length table
+Inv-loop unit₀ turns₀ unit turns = 3088 ≡ length unit
 
 abbrev μ-loop : tie.MeasureT-loop
-μ-loop table₀ turns₀ table turns = turns
+μ-loop unit₀ turns₀ unit turns = turns
 
 loop-holds : tie.Need-loop-holds Inv-loop μ-loop
 loop-holds c = search needs

@@ -1,0 +1,123 @@
+-- Octets are a unit exactly if those in front are a table and those behind are the marks.
+-- Assumes nothing.
+use Prim.Native.Nat.{ℕ, _≤_, _<_}
+use mathlib.Core.Path.{_≡_, refl, ap, sym, _∙_}
+use mathlib.Core.Bool.{Bool, true, false, _&&_}
+use mathlib.Core.List.{List, _++_, append-nil}
+use native.Mathlib.Omega.{arith}
+use borrow.Author.Tests.{leb-true, le-leb}
+use lib.Dec.{leb}
+use lib.ListN.{length, take, drop, replicate, length-append, length-drop, take-append-drop, drop-of-length-le}
+use lib.Seq.{take-at, drop-at, take-all}
+use Rattle.lists.specs.Lists.{pick}
+use Rattle.lists.proofs.Tests.{and-left, and-right}
+use Rattle.table.specs.Table.{State, distinctHeld}
+use Rattle.lent.specs.Lent.{tableOctets, said, same, Held, NoTable, Lent, readTable}
+use Rattle.lent.specs.Tests.{zeros}
+use Rattle.lent.proofs.Zeros.{zeros-are, are-zeros}
+use Rattle.lent.proofs.Reading as table
+use Rattle.lent.proofs.Reading.{same-self, same-is, length-table, held-table, is-table}
+use Rattle.units.specs.Unit.{Unit, unitOctets, markOctets, saidUnit, goodUnit, MaybeUnit, isUnit, noUnit, readUnit, onFront}
+
+-- the parts of a unit's octets
+module _ (u : Unit) (few : length (u .held) ≤ 256) where
+  pub front-part : take 3074 (unitOctets u) ≡ tableOctets (u .held)
+  unfolding unitOctets
+  front-part = take-at (tableOctets (u .held)) (markOctets u) 3074 (length-table (u .held) few)
+
+  pub mark-part : drop 3074 (unitOctets u) ≡ markOctets u
+  unfolding unitOctets
+  mark-part = drop-at (tableOctets (u .held)) (markOctets u) 3074 (length-table (u .held) few)
+
+  pub unit-size : length (unitOctets u) ≡ 3088
+  unfolding unitOctets
+  unit-size = rw (length-append, length-table (u .held) few)
+
+-- the unit of a table, with no mark
+abbrev pub unitBy : Lent → MaybeUnit
+unitBy (Held l) = isUnit (record { held = l })
+unitBy NoTable = noUnit
+
+pub record Formed (s : List ℕ) : Type 0 where
+  pub few : length (saidUnit s .held) ≤ 256
+  pub apart : distinctHeld (saidUnit s .held) ≡ true
+  pub octets : unitOctets (saidUnit s) ≡ s
+
+module _ (s : List ℕ) where
+  abbrev test : Bool
+  test = goodUnit (saidUnit s) && same (unitOctets (saidUnit s)) s
+
+  passed : test ≡ true → Formed s
+  passed e =
+      let f = and-left (goodUnit (saidUnit s)) (same (unitOctets (saidUnit s)) s) e in
+      record {
+        few = leb-true (length (saidUnit s .held)) 256 (and-left (leb (length (saidUnit s .held)) 256) (distinctHeld (saidUnit s .held)) f);
+        apart = and-right (leb (length (saidUnit s .held)) 256) (distinctHeld (saidUnit s .held)) f;
+        octets = same-is (unitOctets (saidUnit s)) s (and-right (goodUnit (saidUnit s)) (same (unitOctets (saidUnit s)) s) e);
+      }
+
+  pub is-unit : Formed s → readUnit s ≡ isUnit (saidUnit s)
+  unfolding readUnit
+  is-unit t =
+      let o : same (unitOctets (saidUnit s)) s ≡ true = ap (λ (x : List ℕ). same x s) (t .octets) ∙ same-self s in
+      rw (le-leb (length (saidUnit s .held)) 256 (t .few), t .apart, o)
+
+  pub no-unit : (Formed s → ⊥) → readUnit s ≡ noUnit
+  unfolding readUnit
+  no-unit n = by test refl
+    where
+      by : (b : Bool) → test ≡ b → pick b (isUnit (saidUnit s)) noUnit ≡ noUnit
+      by true e = absurd (n (passed e))
+      by false e = refl
+
+  pub read-unit : {u : Unit} → readUnit s ≡ isUnit u → Formed s × (saidUnit s ≡ u)
+  unfolding readUnit
+  read-unit {u} q = by test refl q
+    where
+      by : (b : Bool) → test ≡ b → pick b (isUnit (saidUnit s)) noUnit ≡ isUnit u → Formed s × (saidUnit s ≡ u)
+      by true e q = (passed e, cc)
+      by false e q = absurd (let z : _≡_ {A = ℕ} 0 1 = cc in omega arith)
+
+  module _ (t : Formed s) where
+    front-is : tableOctets (saidUnit s .held) ≡ take 3074 s
+    front-is = sym (front-part (saidUnit s) (t .few)) ∙ ap (take 3074) (t .octets)
+
+    pub marks-are : drop 3074 s ≡ markOctets (saidUnit s)
+    marks-are = sym (ap (drop 3074) (t .octets)) ∙ mark-part (saidUnit s) (t .few)
+
+    is-long : length s ≡ 3088
+    is-long = sym (ap length (t .octets)) ∙ unit-size (saidUnit s) (t .few)
+
+    pub table-in : table.Formed (take 3074 s)
+    table-in = record { few = t .few; apart = t .apart; octets = front-is }
+
+    none-set : zeros (drop 3074 s) ≡ true
+    none-set = rw marks-are (are-zeros 14)
+
+  -- ---- by the parts
+
+  pub not-long : (length s ≡ 3088 → ⊥) → readUnit s ≡ noUnit
+  not-long h = no-unit (λ t. h (is-long t))
+
+  pub marked : zeros (drop 3074 s) ≡ false → readUnit s ≡ noUnit
+  marked h = no-unit (λ t. let z : true ≡ false = sym (none-set t) ∙ h in let o : _≡_ {A = ℕ} 0 1 = cc in omega arith)
+
+  -- the table in front decides, where no mark is set
+  pub by-table : length s ≡ 3088 → zeros (drop 3074 s) ≡ true → readUnit s ≡ unitBy (readTable (take 3074 s))
+  unfolding unitOctets
+  by-table n z = by (readTable (take 3074 s)) refl
+    where
+      marks : drop 3074 s ≡ replicate 14 0
+      marks = zeros-are (drop 3074 s) z ∙ rw (length-drop, n)
+
+      whole : table.Formed (take 3074 s) → Formed s
+      whole t = record { few = t .few; apart = t .apart; octets = ap (λ (x : List ℕ). x ++ replicate 14 0) (t .octets) ∙ (ap (λ (x : List ℕ). take 3074 s ++ x) (sym marks) ∙ take-append-drop 3074 s) }
+
+      by : (x : Lent) → readTable (take 3074 s) ≡ x → readUnit s ≡ unitBy x
+      by (Held l) q = let t = held-table (take 3074 s) q in is-unit (whole (t .0)) ∙ ap (λ (x : State). isUnit (record { held = x })) (t .1)
+      by NoTable q = no-unit (λ t. let y : Held (said (take 3074 s)) ≡ NoTable = sym (is-table (take 3074 s) (table-in t)) ∙ q in let o : _≡_ {A = ℕ} 0 1 = cc in omega arith)
+
+-- ---- what is done to the table in front of too few octets leaves them
+pub short-front : (f : List ℕ → List ℕ) (s : List ℕ) → length s < 3074 → f s ≡ s → s ≡ onFront f s
+short-front f s h k =
+    sym (ap (λ (x : List ℕ). f x ++ drop 3074 s) (take-all 3074 s (omega arith)) ∙ (ap (λ (x : List ℕ). f s ++ x) (drop-of-length-le s {i = 3074} (omega arith)) ∙ (append-nil (f s) ∙ k)))

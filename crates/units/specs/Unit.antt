@@ -1,0 +1,69 @@
+-- The unit: all that is remembered between calls, and the octets that the host lends for it. The table stands in front, the marks behind it.
+-- Octets are a unit exactly if they are the octets of what they say. The fresh unit is all zero octets.
+use Prim.Native.Nat.{ℕ}
+use mathlib.Core.Bool.{Bool, _&&_}
+use mathlib.Core.List.{List, [], _++_}
+use lib.Dec.{leb}
+use lib.ListN.{length, take, drop, replicate}
+use Rattle.lists.specs.Lists.{pick}
+use Rattle.identity.specs.declared.MmeId.{MmeId}
+use Rattle.identity.specs.declared.MceId.{MceId}
+use Rattle.identity.specs.declared.Item.{Item}
+use Rattle.table.specs.Table.{State, standing, stopping, distinctHeld}
+use Rattle.lent.specs.Lent.{tableOctets, said, same, firstRows, tableOut, Good}
+use Rattle.lent.specs.declared.Looked.{Looked}
+use Rattle.lent.specs.declared.Looked.the-variants as looked
+
+pub record Unit : Type 0 where
+  -- the associations, in order of starting
+  pub held : State
+
+abbrev pub fresh : Unit
+fresh = record { held = [] }
+
+-- something else is held, and nothing else changes
+abbrev pub withHeld : (State → State) → Unit → Unit
+withHeld f u = record { held = f (u .held) }
+
+-- ---- octets
+
+-- of 14 marks none may be set yet
+abbrev pub markOctets : Unit → List ℕ
+markOctets u = replicate 14 0
+
+unfoldable pub unitOctets : Unit → List ℕ
+unitOctets u = tableOctets (u .held) ++ markOctets u
+
+-- what octets say
+abbrev pub saidUnit : List ℕ → Unit
+saidUnit s = record { held = said (take 3074 s) }
+
+-- at most 256 associations, no two of which share an identity of one series
+abbrev pub goodUnit : Unit → Bool
+goodUnit u = leb (length (u .held)) 256 && distinctHeld (u .held)
+
+pub data MaybeUnit : Type 0 where
+  isUnit : Unit → MaybeUnit
+  noUnit : MaybeUnit
+
+unfoldable pub readUnit : List ℕ → MaybeUnit
+readUnit s = pick (goodUnit (saidUnit s) && same (unitOctets (saidUnit s)) s) (isUnit (saidUnit s)) noUnit
+
+-- what a unit can remember, in numbers that octets hold
+pub record GoodUnit (u : Unit) : Type 0 where
+  pub held : Good (u .held)
+
+-- ---- as values of the code
+
+-- what is held of an item's identities, and how many are held
+abbrev pub lookedIn : Item → MaybeUnit → Looked
+lookedIn i (isUnit u) = looked.Is (standing i (u .held)) (length (u .held))
+lookedIn i noUnit = looked.NoTable
+
+-- something done to the table in front
+abbrev pub onFront : (List ℕ → List ℕ) → List ℕ → List ℕ
+onFront f s = f (take 3074 s) ++ drop 3074 s
+
+-- a table's octets, when the first n rows were to be written there without what has both identities
+abbrev pub stoppedIn : MmeId → MceId → ℕ → List ℕ → List ℕ
+stoppedIn m c n d = tableOut (stopping m c (firstRows n d)) d
