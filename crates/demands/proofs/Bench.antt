@@ -44,6 +44,9 @@ use Rattle.demands.proofs.Decisions.{none-good}
 use Rattle.demands.proofs.UnitOut.{call-on}
 use Rattle.demands.proofs.Answers.{answers-as, replies-as}
 use Rattle.demands.proofs.Occur.{one-good, room-number, every-answer}
+use Rattle.demands.proofs.WhatIsDone.{what-is-done}
+use Rattle.round_trips.proofs.Back.{read-back}
+use Rattle.round_trips.proofs.Again.{rewritten}
 
 abbrev made : State → List ℕ → Decided
 made l s = decided Release18 (record { held = l }) offer (judged Release18 s)
@@ -67,4 +70,4 @@ bench-calls = record {
 }
 
 pub demand-2 : Demand2
-demand-2 = record { exactly = answers-as; replies = replies-as; each = every-answer; bench = bench-calls }
+demand-2 = record { exactly = answers-as; replies = replies-as; each = every-answer; done = what-is-done; back = read-back; again = rewritten; bench = bench-calls }

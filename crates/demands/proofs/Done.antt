@@ -101,6 +101,7 @@ module _ (e : Edition) where
     pub mme : holdsMme (a .mme) (u .held) ≡ false
     pub mce : holdsMce (a .mce) (u .held) ≡ false
     pub few : length (u .held) < 256
+    pub full : full (u .held) ≡ false
     pub decision : startedOn u w (a .mce) (a .mme) (a .tmgi) (a .session) ≡ changes (withHeld (starting a) u) (replyTo w (reply.StartResponse (a .mme) (a .mce)))
 
   pub start-accepted : (u : Unit) (w : Accepted) (a : Association) → number (startedOn u w (a .mce) (a .mme) (a .tmgi) (a .session)) ≡ 0 → Started u w a
@@ -111,7 +112,7 @@ module _ (e : Edition) where
       by true q r i f g h = absurd (omega (arith, rw i at h))
       by false true r i f g h = absurd (omega (arith, rw (i, f) at h))
       by false false true i f g h = absurd (omega (arith, rw (i, f, g) at h))
-      by false false false i f g h = record { mme = i; mce = f; few = few (u .held) g; decision = rw (i, f, g) }
+      by false false false i f g h = record { mme = i; mce = f; few = few (u .held) g; full = g; decision = rw (i, f, g) }
 
   pub stop-accepted : (u : Unit) (w : Accepted) (m : MmeId) (y : MceId) → number (stoppedOn u w m y) ≡ 0 → stoppedOn u w m y ≡ changes (withHeld (stopping m y) u) (replyTo w (reply.StopResponse m y))
   unfolding stopped

@@ -12,8 +12,9 @@ pub mod Demand
 pub mod Accepted
 pub mod Answers
 pub mod Occur
-pub mod Bench
 pub mod Done
+pub mod WhatIsDone
+pub mod Bench
 pub mod Granted
 pub mod States
 pub mod Runs

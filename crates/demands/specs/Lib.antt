@@ -1,5 +1,6 @@
 pub mod Answered
 pub mod Due
-pub mod Occur
 pub mod Words
+pub mod WhatIsDone
+pub mod Occur
 pub mod Resets

@@ -13,10 +13,12 @@ use Rattle.units.specs.Unit.{Unit, unitOctets, isUnit, noUnit, readUnit}
 use Rattle.editions.specs.declared.Edition.{Edition}
 use Rattle.editions.specs.declared.Edition.the-variants.{Release18}
 use Rattle.round_trips.specs.Examples.{partialReset, acknowledgement}
+use Rattle.round_trips.specs.Ties.{ReadBack, Rewritten}
 use Rattle.carry.specs.declared.Answer.the-variants as answer
 use Rattle.answers.specs.Answers.{numbered}
 use Rattle.calls.specs.Call.{call}
 use Rattle.demands.specs.Due.{AnswersAs, RepliesAs}
+use Rattle.demands.specs.WhatIsDone.{WhatIsDone}
 
 -- ---- on a unit that holds these, with the MCE identity 9 offered
 
@@ -128,9 +130,18 @@ pub record BenchCalls : Type 0 where
   -- a reply room of 20 for the 21 octets
   pub no-room : (d : List ℕ) → length d ≡ 20 → numberOf (holding []) partialReset d ≡ 10
 
--- Demand 2: each answer is given exactly when 01's table says, with the reply that it says, and each is given.
+-- Demand 2: each answer is given exactly when 01's table says, with the reply that it says, and each is given; what is done to the unit;
+-- and both round trips.
 pub record Demand2 : Type 0 where
+  -- "given exactly when", "reply"
   pub exactly : (e : Edition) → AnswersAs e
   pub replies : (e : Edition) → RepliesAs e
   pub each : EveryAnswer
+  -- "What is done"
+  pub done : (e : Edition) → WhatIsDone e
+  -- "Reading what the writer wrote gives the record."
+  pub back : (e : Edition) → ReadBack e
+  -- "Rewriting what was read gives the same octets if the message holds only elements of its table, with the criticalities the tables give (the items' and
+  -- the frame's included), lacks no mandatory one, and was read with answer 0."
+  pub again : (e : Edition) → Rewritten e
   pub bench : BenchCalls

@@ -13,20 +13,21 @@ use lib.Seq.{take-append-seam}
 use Rattle.lists.specs.Lists.{pick}
 use Rattle.octets.specs.Stands.{Octets}
 use Rattle.editions.specs.declared.Edition.the-variants.{Release18}
-use Rattle.meaning.specs.Value.{Record}
-use Rattle.meaning.specs.Written.{Encoded, octets, none}
+use Rattle.meaning.specs.Value.{Record, saidBy}
+use Rattle.meaning.specs.Written.{Encoded, octets, none, encoded}
 use Rattle.verdicts.specs.Verdict.{Understood, understood, every, readOf}
-use Rattle.layout.specs.Record.{recordOctets, recordOut, isRecord, readRecord, written}
+use Rattle.layout.specs.Record.{recordOctets, recordOut, LentRecord, isRecord, readRecord, written}
 use Rattle.layout.proofs.RecordBack.{held-size, record-back}
 use Rattle.plan.specs.declared.Written.the-variants as plan
 use Rattle.plan.specs.Written.{Writing, kept, front, writtenIn}
-use Rattle.round_trips.specs.Ties.{Rewritable}
+use Rattle.round_trips.specs.Ties.{InTypes, ReadAs, Rewritable}
 use Rattle.round_trips.proofs.Accepted.{opened}
 use Rattle.round_trips.proofs.Again.{rewritten}
-use Rattle.round_trips.proofs.LentDiffer.{lent-differ}
+use Rattle.round_trips.proofs.Back.{read-back}
+use Rattle.round_trips.proofs.LentDiffer.{Lent, lent-record, in-types, said-shown, lent-differ}
 use Rattle.demands.proofs.Sound.{read-sound}
 use Rattle.link.specs.Link.{Given, given, recorded, readFor, writtenAs, writeFor}
-use Rattle.link.specs.Again.{recordAt, Again}
+use Rattle.link.specs.Again.{recordAt, GivesBack, Again}
 use Rattle.reader.proofs.Record.{read-held}
 
 -- ---- what was read
@@ -87,9 +88,38 @@ wrote : (s values d message : List ℕ) → writeFor s values d ≡ given 0 0 (l
 unfolding writeFor
 wrote s values d message q = was-written d message (written Release18 s values) q
 
+-- ---- what was written is read back
+
+same-record : {r t : Record} {x : LentRecord} → x ≡ isRecord r → x ≡ isRecord t → r ≡ t
+same-record p q = cc
+
+module _ (s values message e : List ℕ) (r : Lent Release18 s values message) (g : InTypes Release18 (saidBy values (r .what))) (m : Octets message) (h : 2662 ≤ length e) where
+  read : ReadAs Release18 message (saidBy values (r .what))
+  read = read-back Release18 (saidBy values (r .what)) message g (r .message)
+
+  answer-back : readFor message e .answer ≡ given 0 0 2662 e .answer
+  unfolding readFor recorded
+  answer-back = rw (read .read, read .accepted, le-leb 2662 (length e) h)
+
+  record-back-is : readRecord Release18 (recordAt message e) ≡ isRecord (read .what .what)
+  record-back-is = whole message e (read .what) m h (read .read)
+
+  written-back : written Release18 (recordAt message e) message ≡ octets message
+  unfolding written
+  written-back =
+      rw (record-back-is, lt-ltb (read .what .what .crit) 3 (root message e (read .what) m h (read .read))) (ap (encoded Release18) (read .said) ∙ r .message)
+
+  back-again : GivesBack s values message e
+  back-again =
+      let q : Lent Release18 (recordAt message e) message message = lent-record Release18 (recordAt message e) message message written-back in
+      let w : saidBy values (r .what) ≡ saidBy message (q .what) = sym (read .said) ∙ ap (saidBy message) (same-record record-back-is (q .read)) in
+      let x = said-shown Release18 s (recordAt message e) values message message r q g w in
+      record { answer = answer-back; fields = sym (x .0); carried = sym (x .1) }
+
 pub over-records : Again
 over-records = record {
   whole = λ s d u o h q. whole s d u o h q;
   rewritten = λ s d e o g h k. again s d e o g h k;
+  back = λ s values d message e o v m w h. let r = lent-record Release18 s values message (wrote s values d message (w .given)) in back-again s values message e r (in-types Release18 s values message o v r) m h;
   different = λ s z values others d e message o p v w x y. lent-differ Release18 s z values others message o p v w (wrote s values d message (x .given)) (wrote z others e message (y .given));
 }

@@ -39,6 +39,7 @@ use Rattle.round_trips.proofs.LentSlots.{atZero, slots-shown, as-long, 
 
 pub record Lent (e : Edition) (s values os : List ℕ) : Type 0 where
   pub what : Record
+  pub read : readRecord e s ≡ isRecord what
   pub named : numberedBy e (getD s 0 0) ≡ named.Is (what .message)
   pub form : recordOctets e what ≡ s
   pub says : saidRecord e (what .message) s ≡ what
@@ -48,14 +49,14 @@ pub lent-record : (e : Edition) (s values os : List ℕ) → written e s values 
 unfolding written readRecord saidRecord
 lent-record e s values os q = by (numberedBy e (getD s 0 0)) refl q
   where
-    small : (m : Message) (b : Bool) → numberedBy e (getD s 0 0) ≡ named.Is m → recordOctets e (saidRecord e m s) ≡ s → pick b (encoded e (saidBy values (saidRecord e m s))) none ≡ octets os
-        → Lent e s values os
-    small m true n x q = record { what = saidRecord e m s; named = n; form = x; says = refl; message = q }
+    small : (m : Message) (b : Bool) → numberedBy e (getD s 0 0) ≡ named.Is m → same (recordOctets e (saidRecord e m s)) s ≡ true
+        → pick b (encoded e (saidBy values (saidRecord e m s))) none ≡ octets os → Lent e s values os
+    small m true n x q = record { what = saidRecord e m s; read = rw (n, x); named = n; form = same-is _ s x; says = refl; message = q }
     small m false n x q = no-octets q
 
     formed : (m : Message) (b : Bool) → same (recordOctets e (saidRecord e m s)) s ≡ b → numberedBy e (getD s 0 0) ≡ named.Is m
         → writtenBy e values (pick b (isRecord (saidRecord e m s)) noRecord) ≡ octets os → Lent e s values os
-    formed m true x n q = small m (ltb (saidRecord e m s .crit) 3) n (same-is _ s x) q
+    formed m true x n q = small m (ltb (saidRecord e m s .crit) 3) n x q
     formed m false x n q = no-octets q
 
     by : (n : Named) → numberedBy e (getD s 0 0) ≡ n → writtenBy e values (lentAs e s n) ≡ octets os → Lent e s values os
@@ -127,16 +128,16 @@ shown-bare e r f g =
 abbrev bareOf : Said → Record
 bareOf w = record { message = w .message; crit = 0; values = map (onGiven ofLength) (w .values) }
 
-module _ (e : Edition) (s values os : List ℕ) (o : Octets s) (h : Octets values) (r : Lent e s values os) where
-  in-types : InTypes e (saidBy values (r .what))
-  in-types = subst (λ (x : Record). InTypes e (saidBy values x)) (r .says) (said-types e (r .what .message) s values o h)
+pub in-types : (e : Edition) (s values os : List ℕ) → Octets s → Octets values → (r : Lent e s values os) → InTypes e (saidBy values (r .what))
+in-types e s values os o h r = subst (λ (x : Record). InTypes e (saidBy values x)) (r .says) (said-types e (r .what .message) s values o h)
 
+module _ (e : Edition) (s values os : List ℕ) (r : Lent e s values os) (g : InTypes e (saidBy values (r .what))) where
   shown-said : shown e s ≡ recordOctets e (bareOf (saidBy values (r .what)))
   unfolding shown bare saidBy recordOctets
   shown-said =
       let t : List Row = tableOf e (r .what .message) in
       let a : shown e s ≡ getD s 0 0 ∷ 0 ∷ slotsShown t (drop 2 s) = ap (λ (n : Named). getD s 0 0 ∷ 0 ∷ slotsShown (tableBy e n) (drop 2 s)) (r .named) in
-      let b = subst (λ (x : List ℕ). getD x 0 0 ∷ 0 ∷ slotsShown t (drop 2 x) ≡ recordOctets e (bare (r .what))) (r .form) (shown-bare e (r .what) (octetsIn values) in-types) in
+      let b = subst (λ (x : List ℕ). getD x 0 0 ∷ 0 ∷ slotsShown t (drop 2 x) ≡ recordOctets e (bare (r .what))) (r .form) (shown-bare e (r .what) (octetsIn values) g) in
       let c : bare (r .what) ≡ bareOf (saidBy values (r .what)) =
       ap (λ (vs : List (Given Span)). record { message = r .what .message; crit = 0; values = vs }) (bare-values values (r .what .values) (written-has e (saidBy values (r .what)) os (r .message))) in
       a ∙ (b ∙ ap (recordOctets e) c)
@@ -148,12 +149,18 @@ module _ (e : Edition) (s values os : List ℕ) (o : Octets s) (h : Octets value
       ∙ (slots-carry values (listsIn s) (tableOf e (r .what .message)) (drop 2 s)
       ∙ ap (λ (x : Record). allCarried (map (onGiven (octetsIn values)) (x .values))) (r .says))
 
+-- two that say the same
+module _ (e : Edition) (s z values others os : List ℕ) (r : Lent e s values os) (q : Lent e z others os) (g : InTypes e (saidBy values (r .what))) where
+  pub said-shown : saidBy values (r .what) ≡ saidBy others (q .what) → (shown e s ≡ shown e z) × (carriedIn e s values ≡ carriedIn e z others)
+  said-shown x =
+      let k = subst (InTypes e) x g in (
+        shown-said e s values os r g ∙ (ap (λ (w : Said). recordOctets e (bareOf w)) x ∙ sym (shown-said e z others os q k)),
+        carried-said e s values os r g ∙ (ap (λ (w : Said). allCarried (w .values)) x ∙ sym (carried-said e z others os q k)),
+      )
+
 pub lent-differ : (e : Edition) → LentDiffer e
 lent-differ e s z values others os o p h k a b =
     let r = lent-record e s values os a in
     let q = lent-record e z others os b in
-    let x : saidBy values (r .what) ≡ saidBy others (q .what) =
-    said-differ e _ _ os (in-types e s values os o h r) (in-types e z others os p k q) (r .message) (q .message) in (
-      shown-said e s values os o h r ∙ (ap (λ (w : Said). recordOctets e (bareOf w)) x ∙ sym (shown-said e z others os p k q)),
-      carried-said e s values os o h r ∙ (ap (λ (w : Said). allCarried (w .values)) x ∙ sym (carried-said e z others os p k q)),
-    )
+    let g = in-types e s values os o h r in
+    said-shown e s z values others os r q g (said-differ e _ _ os g (in-types e z others os p k q) (r .message) (q .message))

@@ -1,0 +1,41 @@
+-- 01's "What is done", line by line: what a call that is answered 0 leaves in the unit. Nothing else of it changes.
+use Prim.Native.Nat.{ℕ}
+use mathlib.Core.Path.{_≡_}
+use mathlib.Core.Bool.{not}
+use mathlib.Core.List.{List, [], _∷_, _++_}
+use Rattle.lists.specs.Lists.{keep}
+use Rattle.identity.specs.declared.MmeId.{MmeId}
+use Rattle.identity.specs.declared.MceId.{MceId}
+use Rattle.identity.specs.declared.Tmgi.{Tmgi}
+use Rattle.identity.specs.declared.Session.{Session}
+use Rattle.identity.specs.declared.Item.{Item}
+use Rattle.editions.specs.declared.Edition.{Edition}
+use Rattle.table.specs.declared.Association.{Association}
+use Rattle.table.specs.Table.{State, hasPair, named}
+use Rattle.units.specs.Unit.{Unit, isUnit, readUnit, unitOctets, withHeld}
+use Rattle.requests.specs.declared.Request.{Request}
+use Rattle.requests.specs.declared.Request.the-variants as request
+use Rattle.calls.specs.Judged.{judged}
+use Rattle.calls.specs.Call.{Call, call}
+use Rattle.demands.specs.Answered.{numberOf}
+use Rattle.demands.specs.Words.{Asks, PartialReset}
+
+module _ (e : Edition) where
+  -- a message that asks for this, answered 0, leaves what is held so
+  abbrev pub Leaves : Request → (MceId → State → State) → Type 0
+  Leaves q f =
+      (t : List ℕ) (c : Call) (u : Unit) → readUnit t ≡ isUnit u → Asks (judged e (c .message)) q → numberOf e t c ≡ 0
+      → call e t c .unit ≡ unitOctets (withHeld (f (c .offered)) u)
+
+  pub record WhatIsDone : Type 0 where
+    -- "Start appends one with the offered MCE identity"
+    pub start : (m : MmeId) (g : Tmgi) (s : Session) → Leaves (request.Start m g s) (λ c l. l ++ (record { mme = m; mce = c; tmgi = g; session = s } ∷ []))
+    -- "Stop removes the association that has both identities"
+    pub stop : (m : MmeId) (x : MceId) → Leaves (request.Stop m x) (λ c l. keep (λ (a : Association). not (hasPair m x a)) l)
+    -- "Whole reset empties the table"
+    pub whole : Leaves request.Whole (λ c l. [])
+    -- "All named are removed, the others keep their order."
+    pub part : (t : List ℕ) (c : Call) (u : Unit) (items : List Item) → readUnit t ≡ isUnit u → PartialReset (judged e (c .message)) items → numberOf e t c ≡ 0
+        → call e t c .unit ≡ unitOctets (withHeld (keep (λ (a : Association). not (named items a))) u)
+    -- "ERROR INDICATION changes nothing and gets no reply."
+    pub indication : (t : List ℕ) (c : Call) (u : Unit) → readUnit t ≡ isUnit u → Asks (judged e (c .message)) request.Indication → (call e t c .unit ≡ t) × (call e t c .reply ≡ [])
