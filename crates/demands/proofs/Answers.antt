@@ -74,6 +74,17 @@ given x = record { number = numbered (answerOf x) .number; reply = replyBy (repl
 abbrev dueAs : Due → Given
 dueAs d = record { number = d .number; reply = d .reply }
 
+-- ---- what is inside, where it can be read to the end
+module _ (e : Edition) (s : List ℕ) (f : Frame) (m : Message) (name : namedBy e (f .kind) (f .code) ≡ named.Is m) where
+  pub inside-is : (o : Opening) → openedAt (tableOf e m) s (f .from) ≡ got o
+      → insideBy e s (got f) ≡ inside (record { ask = askOf m; opened = got o; outcome = o .outcome; seen = seen (valuesIn (tableOf e m) s (o .spans)) })
+  inside-is o q =
+      let t : List Row = tableOf e m in
+      let j = judging t s (f .from) (sym q) in
+      ap (insideOf e s f) name
+      ∙ (ap (λ (r : Read ℕ). inside (judgedIn t s (f .from) (countedBy r) (askOf m))) (sym (j .counted))
+      ∙ (λ i. inside (record { ask = askOf m; opened = q i; outcome = ap (λ (y : Opening). y .outcome) (j .is) i; seen = seen (valuesIn t s (ap (λ (y : Opening). y .spans) (j .is) i)) })))
+
 -- ---- the rules, on a unit u; of a message of at most 8,192 octets with a frame
 module _ (e : Edition) (u : Unit) (c : MceId) (s : List ℕ) (f : Frame) where
   module _ (w : Understood) (o : Opening) where
@@ -147,21 +158,11 @@ module _ (e : Edition) (u : Unit) (c : MceId) (s : List ℕ) (f : Frame) where
       abbrev rows : List Row
       rows = tableOf e m
 
-      -- what is inside, where it can be read to the end
-      inside-is : (o : Opening) → openedAt rows s (f .from) ≡ got o
-          → insideBy e s (got f) ≡ inside (record { ask = askOf m; opened = got o; outcome = o .outcome; seen = seen (valuesIn rows s (o .spans)) })
-      inside-is o q =
-          let j = judging rows s (f .from) (sym q) in
-          let n : ℕ = j .count in
-          ap (insideOf e s f) name
-          ∙ (ap (λ (r : Read ℕ). inside (judgedIn rows s (f .from) (countedBy r) (askOf m))) (sym (j .counted))
-          ∙ (λ i. inside (record { ask = askOf m; opened = q i; outcome = ap (λ (y : Opening). y .outcome) (j .is) i; seen = seen (valuesIn rows s (ap (λ (y : Opening). y .spans) (j .is) i)) })))
-
       opened-due : (o : Read Opening) → openedAt rows s (f .from) ≡ o → verdict e s ≡ verdictOf rows m f s o → given-by (verdictOf rows m f s o) ≡ due-of (insideBy e s (got f))
       unfolding decided judgedBy
       opened-due (got o) q v =
           let w : Understood = understoodBy rows m f s o in
-          rules-due w o small (askOf m) (o .outcome) (seen (valuesIn rows s (o .spans))) asking (accepted-complete e s w v) ∙ sym (ap due-of (inside-is o q))
+          rules-due w o small (askOf m) (o .outcome) (seen (valuesIn rows s (o .spans))) asking (accepted-complete e s w v) ∙ sym (ap due-of (inside-is e s f m name o q))
       opened-due (stop (Fault p)) q v = rw (name, small, asking, q)
       opened-due (stop (Extension p)) q v = rw (name, small, asking, q)
 

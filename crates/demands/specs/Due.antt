@@ -51,7 +51,7 @@ pub record Due : Type 0 where
   pub reply : Reply
 
 infix 80 _when_reply_
-abbrev _when_reply_ : ℕ → Bool → Reply → Due
+abbrev pub _when_reply_ : ℕ → Bool → Reply → Due
 _when_reply_ n b r = record { number = n; given = b; reply = r }
 
 abbrev pub firstDue : Due → List Due → Due
@@ -61,12 +61,12 @@ firstDue last (x ∷ xs) = pick (x .given) x (firstDue last xs)
 -- ---- what the tests look at
 
 -- a fault, or an extension
-abbrev faulty : {A : Type 0} → Read A → Bool
+abbrev pub faulty : {A : Type 0} → Read A → Bool
 faulty (got a) = false
 faulty (stop (Fault p)) = true
 faulty (stop (Extension p)) = false
 
-abbrev extended : {A : Type 0} → Read A → Bool
+abbrev pub extended : {A : Type 0} → Read A → Bool
 extended (got a) = false
 extended (stop (Fault p)) = false
 extended (stop (Extension p)) = true
@@ -102,7 +102,7 @@ module _ (e : Edition) (s : List ℕ) where
   insideBy (got f) = insideOf f (namedBy e (f .kind) (f .code))
   insideBy (stop x) = nowhere
 
-abbrev of : (Inside → Bool) → MaybeInside → Bool
+abbrev pub of : (Inside → Bool) → MaybeInside → Bool
 of p (inside x) = p x
 of p nowhere = false
 
@@ -114,7 +114,7 @@ abbrev held : (State → Bool) → MaybeUnit → Bool
 held p (isUnit u) = p (u .held)
 held p noUnit = false
 
-abbrev notAccepted : Outcome → Bool
+abbrev pub notAccepted : Outcome → Bool
 notAccepted outcome.Accepted = false
 notAccepted (outcome.Misplaced k) = true
 notAccepted outcome.Rejected = true

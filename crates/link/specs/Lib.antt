@@ -1,3 +1,4 @@
 pub mod Link
 pub mod Promised
+pub mod ReadsAs
 pub mod Again
