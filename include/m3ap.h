@@ -40,7 +40,7 @@ uint32_t m3ap_version(void);
 
 /*
  * A call needs at most this many octets of stack on x86-64, as built with the kit of docs/CHECKING.md, the C library's memcpy and memset included.
- * sample/stack.c measures it: 40,200 for m3ap_call, 1,408 for m3ap_read, 2,712 for m3ap_write, 17,448 for m3ap_count, 8,888 for each of
+ * sample/stack.c measures it: 44,360 for m3ap_call, 1,408 for m3ap_read, 2,712 for m3ap_write, 13,944 for m3ap_count, 8,888 for each of
  * m3ap_row, m3ap_count_in and m3ap_marks.
  */
 #define M3AP_STACK_OCTETS 49152
@@ -204,17 +204,18 @@ struct m3ap_tmgi {
     uint8_t service[3];
 };
 
-/* An association. Without has_session, session says nothing. */
+/* An association. Without has_session, session says nothing. There is one link today, 0. */
 struct m3ap_association {
     uint16_t mme;
     uint16_t mce;
     struct m3ap_tmgi tmgi;
     bool has_session;
     uint8_t session;
+    uint8_t link;
 };
 
 struct m3ap_counted {
-    uint16_t answer; /* 0, or 21: for m3ap_count, a run of over 256, or in which two share an identity of one series */
+    uint16_t answer; /* 0, or 21: for m3ap_count, a run of over 256, in which two share an identity of one series, or with a link other than 0 */
     size_t count;    /* 0 beside 21 */
 };
 

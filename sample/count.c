@@ -52,7 +52,7 @@ int main(void)
 
     /* The two series run against each other, so equal figures meet in them, which means nothing. */
     for (unsigned i = 0; i < 257; i++)
-        run[i] = (struct m3ap_association){(uint16_t)i, (uint16_t)(300 - i), i % 3 == 0 ? one : other, i % 2 == 0, (uint8_t)i};
+        run[i] = (struct m3ap_association){(uint16_t)i, (uint16_t)(300 - i), i % 3 == 0 ? one : other, i % 2 == 0, (uint8_t)i, 0};
     expect("no association", 0, one, 0, 0);
     expect("one", 1, one, 0, 1);
     expect("255", 255, one, 0, 85);
@@ -65,6 +65,10 @@ int main(void)
     run[255].mme = 255;
     run[0].mce = 299;
     expect("an MCE identity twice", 256, one, M3AP_NO_UNIT, 0);
+    run[0].mce = 300;
+    run[255].link = 1;
+    expect("a link that there is not", 256, one, M3AP_NO_UNIT, 0);
+    expect("behind the run", 255, one, 0, 85);
 
     /* The same associations on a unit, by calls. */
     expect_in("no unit", 0, zero, M3AP_NO_UNIT, 0);

@@ -201,17 +201,18 @@ static void record_edges(void)
 static void count_edges(void)
 {
     for (unsigned i = 0; i < 257; i++)
-        run[i] = (struct m3ap_association){(uint16_t)i, (uint16_t)(i * 257), {{0, 0, 0}, {0, 0, 0}}, false, 0};
+        run[i] = (struct m3ap_association){(uint16_t)i, (uint16_t)(i * 257), {{0, 0, 0}, {0, 0, 0}}, false, 0, 0};
     if (counted(256).count != 256 || counted(257).answer != M3AP_NO_UNIT) {
         printf("count: another answer\n");
         wrong = 1;
     }
 }
 
+/* All of it but the pad, which says nothing. */
 static bool is_zero(const struct m3ap_association *a)
 {
-    static const struct m3ap_association zero;
-    return memcmp(a, &zero, sizeof zero) == 0;
+    static const struct m3ap_tmgi zero;
+    return a->mme == 0 && a->mce == 0 && memcmp(&a->tmgi, &zero, sizeof zero) == 0 && !a->has_session && a->session == 0 && a->link == 0;
 }
 
 /* What is said of a unit with the associations 1 to held, of which view_edges has the starts, or of octets that are none. */
@@ -226,7 +227,7 @@ static void expect_view(const char *what, const uint8_t *u, size_t u_len, uint32
     for (size_t i = 0; i < sizeof ks / sizeof *ks; i++) {
         struct m3ap_row r = row(u, u_len, ks[i]);
         const struct m3ap_association *a = &r.association;
-        bool as_due = ks[i] < held ? a->mme == held && a->mce == 1000 + held && a->has_session && a->session == 7 : is_zero(a);
+        bool as_due = ks[i] < held ? a->mme == held && a->mce == 1000 + held && a->has_session && a->session == 7 && a->link == 0 : is_zero(a);
         if (r.answer == answer && r.held == held && as_due)
             continue;
         printf("%s: another row %u\n", what, (unsigned)ks[i]);
@@ -299,7 +300,7 @@ int main(void)
     pthread_attr_t how;
 
     if (m3ap_version() != M3AP_VERSION || sizeof(struct m3ap_answer) != 16 || sizeof(struct m3ap_record) != M3AP_RECORD_OCTETS ||
-        sizeof(struct m3ap_association) != 12 || sizeof(struct m3ap_row) != 20 || sizeof(struct m3ap_marks) != 36 || pthread_attr_init(&how) != 0 ||
+        sizeof(struct m3ap_association) != 14 || sizeof(struct m3ap_row) != 24 || sizeof(struct m3ap_marks) != 36 || pthread_attr_init(&how) != 0 ||
         pthread_attr_setstack(&how, stack, sizeof stack) != 0 || pthread_create(&thread, &how, play, NULL) != 0 || pthread_join(thread, NULL) != 0)
         return 2;
     printf("stack: call=%zu read=%zu write=%zu count=%zu row=%zu count_in=%zu marks=%zu\n", deepest_call, deepest_read, deepest_write, deepest_count,

@@ -109,6 +109,7 @@ pub fn row_by_second(unit: &[u8], k: u32) -> Row {
         tmgi: Tmgi { plmn: a.tmgi.plmn, service: a.tmgi.service },
         has_session: a.session.is_some().into(),
         session: a.session.unwrap_or(0),
+        link: 0,
     });
     Row { answer: 0, held: held as u32, association }
 }

@@ -26,6 +26,7 @@ pub struct Association {
     pub tmgi: Tmgi,
     pub has_session: u8,
     pub session: u8,
+    pub link: u8,
 }
 
 #[repr(C)]

@@ -1,6 +1,6 @@
 -- The answer over the numbers that were gathered is the answer for the associations that the records stand for.
 use mathlib.Core.Path.{_≡_, refl, ap, sym, _∙_}
-use mathlib.Core.Bool.{Bool, true, false, _&&_}
+use mathlib.Core.Bool.{Bool, true, false, not, _&&_, _||_, or-false}
 use mathlib.Core.List.{List, [], _∷_, _++_, map}
 use Prim.Native.Nat.{ℕ, suc, min, _+_, _*_, _≤_, _<_}
 use native.Mathlib.Omega.{arith}
@@ -8,29 +8,35 @@ use borrow.Author.Tests.{eqb-true, eq-eqb, leb-true}
 use lib.Dec.{eqb, leb}
 use lib.ListN.{length, length-map, getD, set, take}
 use lib.Seq.{take-all}
-use Rattle.lists.specs.Lists.{pick, keep, apart, fill}
+use Rattle.lists.specs.Lists.{pick, keep, some, apart, fill}
 use Rattle.lists.proofs.Apart.{apart-map}
 use Rattle.lists.proofs.Copy.{Copied, copied-more}
 use Rattle.lists.proofs.Fill.{take-fill}
 use Rattle.lists.proofs.Slices.{take-next}
+use Rattle.lists.proofs.Some.{some-append}
 use Rattle.lists.proofs.Tests.{both-ways, and-left, and-right}
+use Rattle.distinct.specs.Series.{sameMme, sameMce}
 use Rattle.table.specs.Table.{State, distinctHeld}
 use Rattle.table.specs.declared.Association.{Association}
-use Rattle.console.specs.Console.{tmgiOf, standsFor, sameTmgi, hasTmgi, isTable, counted}
-use Rattle.console.specs.Numbers.{Octets, Octets3, numberOf, threeOf, tmgiNumber, mmeOf, mceOf, gathered, putIn, countedIn}
+use Rattle.console.specs.Console.{tmgiOf, standsFor, sameTmgi, hasTmgi, noTable, isTable, counted, elsewhere, countedRun}
+use Rattle.console.specs.Numbers.{Octets, Octets3, numberOf, threeOf, tmgiNumber, mmeOf, mceOf, noMme, noMce, gathered, putIn, countedIn}
 use Rattle.console.specs.declared.Three.{Three}
 use Rattle.console.specs.declared.TmgiOctets.{TmgiOctets}
 use Rattle.console.specs.declared.Record.{Record}
+use Rattle.console.specs.declared.Counted.{Counted}
 
 -- one record more
 pub gathered-more : (ys : List Record) (i : ℕ) (d : Record) → i < length ys → i < 256 → putIn (gathered (take i ys)) i (getD ys i d) ≡ gathered (take (i + 1) ys)
 unfolding gathered putIn
-gathered-more ys i d h k = λ j. record { mmes = field mmeOf j; mces = field mceOf j; tmgis = field tmgiNumber j }
+gathered-more ys i d h k = λ j. record { mmes = field noMme mmeOf j; mces = field noMce mceOf j; tmgis = field 0 tmgiNumber j; elsewhere = far j }
   where
-    field : (f : Record → ℕ) → set (fill 0 256 (map f (take i ys))) i (f (getD ys i d)) ≡ fill 0 256 (map f (take (i + 1) ys))
-    field f =
-        let s : Copied f 0 256 ys (i + 1) (fill 0 256 (map f (take i ys))) i = record { within = omega arith; array = refl } in
+    field : {B : Type 0} (z : B) (f : Record → B) → set (fill z 256 (map f (take i ys))) i (f (getD ys i d)) ≡ fill z 256 (map f (take (i + 1) ys))
+    field z f =
+        let s : Copied f z 256 ys (i + 1) (fill z 256 (map f (take i ys))) i = record { within = omega arith; array = refl } in
         copied-more s d (omega arith) (omega arith) (omega arith) .array
+
+    far : (some elsewhere (take i ys) || elsewhere (getD ys i d)) ≡ some elsewhere (take (i + 1) ys)
+    far = sym (ap (some elsewhere) (take-next ys i d h) ∙ some-append elsewhere (take i ys) (getD ys i d ∷ []) ∙ rw (or-false (elsewhere (getD ys i d))))
 
 -- of each record the TMGI is octets
 abbrev pub Each : List Record → Type 0
@@ -107,31 +113,42 @@ same-count t o (r ∷ ys) e = rw (same-number (r .tmgi) t (e .0) o) (one (sameTm
     one true l m h = ap suc h
     one false l m h = h
 
-front : (f : Record → ℕ) (ys : List Record) → take (length ys) (fill 0 256 (map f ys)) ≡ map f ys
-front f ys = ap (λ (k : ℕ). take k (fill 0 256 (map f ys))) (sym (length-map ys f)) ∙ take-fill 0 256 (map f ys)
+module _ {B : Type 0} (z : B) (f : Record → B) where
+  front : (ys : List Record) → take (length ys) (fill z 256 (map f ys)) ≡ map f ys
+  front ys = ap (λ (k : ℕ). take k (fill z 256 (map f ys))) (sym (length-map ys f)) ∙ take-fill z 256 (map f ys)
 
--- no number stands twice where no identity is shared
-series : (f : Record → ℕ) (g : Association → ℕ) → ((r : Record) → f r ≡ g (standsFor r)) → (ys : List Record) →
-    apart eqb (take (length ys) (fill 0 256 (map f ys))) ≡ apart (λ (a b : Association). eqb (g a) (g b)) (map standsFor ys)
-series f g e ys =
-    ap (apart eqb) (front f ys) ∙ apart-map eqb f ys ∙ ap (λ (h : Record → ℕ). apart (λ (a b : Record). eqb (h a) (h b)) ys) (λ i r. e r i)
-    ∙ sym (apart-map (λ (a b : Association). eqb (g a) (g b)) standsFor ys)
+  -- no identity stands twice where none is shared
+  series : (alike : B → B → Bool) (g : Association → B) → ((r : Record) → f r ≡ g (standsFor r)) → (ys : List Record) →
+      apart alike (take (length ys) (fill z 256 (map f ys))) ≡ apart (λ (a b : Association). alike (g a) (g b)) (map standsFor ys)
+  series alike g e ys =
+      ap (apart alike) (front ys) ∙ apart-map alike f ys ∙ ap (λ (h : Record → B). apart (λ (a b : Record). alike (h a) (h b)) ys) (λ i r. e r i)
+      ∙ sym (apart-map (λ (a b : Association). alike (g a) (g b)) standsFor ys)
 
 -- a run of at most 256, all of it gathered
-small : (t : TmgiOctets) → Octets t → (ys : List Record) → Each ys → countedIn (gathered ys) (length ys) (numberOf t) ≡ counted (tmgiOf t) (map standsFor ys)
-unfolding countedIn gathered counted isTable distinctHeld
+small : (t : TmgiOctets) → Octets t → (ys : List Record) → Each ys → countedIn (gathered ys) (length ys) (numberOf t) ≡ countedRun (tmgiOf t) ys
+unfolding countedIn gathered countedRun counted isTable distinctHeld
 small t o ys e =
-    rw (series mmeOf (λ (a : Association). a .mme .0) (λ r. refl) ys, series mceOf (λ (a : Association). a .mce .0) (λ r. refl) ys, front tmgiNumber ys, length-map ys standsFor, same-count t o ys e)
+    rw (series noMme mmeOf sameMme (λ (a : Association). a .mme) (λ r. refl) ys, series noMce mceOf sameMce (λ (a : Association). a .mce) (λ r. refl) ys, front 0 tmgiNumber ys, length-map ys standsFor, same-count t o ys e)
+    (by (some elsewhere ys) (leb (length ys) 256) _ _)
+  where
+    by : (far few alone : Bool) (c : Counted) → pick (few && (not far && alone)) c noTable ≡ pick far noTable (pick (few && alone) c noTable)
+    by true true alone c = refl
+    by true false alone c = refl
+    by false few alone c = refl
 
 -- a longer run is no table, whatever was gathered
-long : (t : TmgiOctets) (ys zs : List Record) → leb (length ys) 256 ≡ false → countedIn (gathered zs) (length ys) (numberOf t) ≡ counted (tmgiOf t) (map standsFor ys)
-unfolding countedIn counted isTable
-long t ys zs h = rw (length-map ys standsFor, h)
+long : (t : TmgiOctets) (ys zs : List Record) → leb (length ys) 256 ≡ false → countedIn (gathered zs) (length ys) (numberOf t) ≡ countedRun (tmgiOf t) ys
+unfolding countedIn countedRun counted isTable
+long t ys zs h = rw (length-map ys standsFor, h) (by (some elsewhere ys))
+  where
+    by : (far : Bool) → noTable ≡ pick far noTable noTable
+    by true = refl
+    by false = refl
 
 pub answered : (t : TmgiOctets) → Octets t → (ys : List Record) (i : ℕ) → min (length ys) 256 ≤ i → i ≤ min (length ys) 256 → Each (take i ys) →
-    countedIn (gathered (take i ys)) (length ys) (numberOf t) ≡ counted (tmgiOf t) (map standsFor ys)
+    countedIn (gathered (take i ys)) (length ys) (numberOf t) ≡ countedRun (tmgiOf t) ys
 answered t o ys i g h e = by (leb (length ys) 256) refl
   where
-    by : (b : Bool) → leb (length ys) 256 ≡ b → countedIn (gathered (take i ys)) (length ys) (numberOf t) ≡ counted (tmgiOf t) (map standsFor ys)
+    by : (b : Bool) → leb (length ys) 256 ≡ b → countedIn (gathered (take i ys)) (length ys) (numberOf t) ≡ countedRun (tmgiOf t) ys
     by true w = let k : length ys ≤ 256 = leb-true _ _ w in let q : take i ys ≡ ys = take-all i ys (omega arith) in rw q (small t o ys (rw q at e))
     by false w = long t ys (take i ys) w

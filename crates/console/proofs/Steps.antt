@@ -12,6 +12,6 @@ either false = inr tt
 pub below-or-not : (i n : ℕ) → (i < n) ⊎ (n ≤ i)
 below-or-not i n = elim (either (ltb i n)) [ inl a ↦ inl (ltb→lt i n a) | inr a ↦ inr (nltb→le i n a) ]
 
--- the offset of a record of 12 octets fits
-pub offset-fits : (i n : ℕ) → i < n → n * 12 < 2 ^ 63 → i * 12 < 2 ^ 64
+-- the offset of a record of 14 octets fits
+pub offset-fits : (i n : ℕ) → i < n → n * 14 < 2 ^ 63 → i * 14 < 2 ^ 64
 offset-fits i n l g = omega (arith, l, g)

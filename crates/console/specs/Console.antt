@@ -1,9 +1,10 @@
 -- What the console answers for a run of associations: 01's numbers 0 and 21.
-use mathlib.Core.Bool.{Bool, true, false, _&&_}
+use mathlib.Core.Bool.{Bool, true, false, not, _&&_}
+use mathlib.Core.List.{List, map}
 use Prim.Native.Nat.{ℕ}
 use lib.Dec.{eqb, leb}
 use lib.ListN.{length}
-use Rattle.lists.specs.Lists.{pick, keep}
+use Rattle.lists.specs.Lists.{pick, keep, some}
 use Rattle.identity.specs.declared.Tmgi.{Tmgi}
 use Rattle.identity.specs.declared.Session.{Session}
 use Rattle.identity.specs.declared.Session.the-variants as session
@@ -26,8 +27,8 @@ sessionOf false s = session.Absent
 
 abbrev pub standsFor : Record → Association
 standsFor r = record {
-  mme = record { 0 = r .mme };
-  mce = record { 0 = r .mce };
+  mme = r .mme;
+  mce = r .mce;
   tmgi = tmgiOf (r .tmgi);
   session = sessionOf (r .flag) (r .session);
 }
@@ -54,3 +55,11 @@ isTable l = leb (length l) 256 && distinctHeld l
 
 unfoldable pub counted : Tmgi → State → Counted
 counted t l = pick (isTable l) (carriedOut (length (keep (hasTmgi t) l))) noTable
+
+-- of a link that there is not
+abbrev pub elsewhere : Record → Bool
+elsewhere r = not (eqb (r .link) 0)
+
+-- a run with such a record is no table; any other is what its records stand for
+unfoldable pub countedRun : Tmgi → List Record → Counted
+countedRun t rs = pick (some elsewhere rs) noTable (counted t (map standsFor rs))

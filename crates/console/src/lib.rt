@@ -1,12 +1,14 @@
 // How many associations of a run that the host lends have a TMGI: over plain numbers, then over the run.
 ghost use mathlib.Core.Path.{_≡_};
-ghost use mathlib.Core.List.{[], map};
+ghost use mathlib.Core.List.{[]};
 ghost use Prim.Native.Nat.{ℕ, min, _<_};
 ghost use lib.Dec.{eqb};
 ghost use lib.ListN.{length};
 ghost use Rattle.lists.specs.Lists.{keep};
-ghost use Rattle.console.specs.Console.{tmgiOf, standsFor, counted};
+ghost use Rattle.console.specs.Console.{tmgiOf, countedRun};
 ghost use Rattle.console.specs.Numbers.{Octets, numberOf, gathered, putIn, countedIn};
+use identity::MceId;
+use identity::MmeId;
 
 // Three octets, as the host lays them out.
 #[repr(C)]
@@ -18,14 +20,15 @@ pub struct TmgiOctets {
     pub service: Three,
 }
 
-// An association record of the host's: 12 octets. Without the flag its last octet says nothing.
+// An association record of the host's: 13 octets, and one of pad. Without the flag the Session Identity says nothing. There is one link, 0.
 #[repr(C)]
 pub struct Record {
-    pub mme: u16,
-    pub mce: u16,
+    pub mme: MmeId,
+    pub mce: MceId,
     pub tmgi: TmgiOctets,
     pub flag: bool,
     pub session: u8,
+    pub link: u8,
 }
 
 // The number of 01's answer, and the count, which is 0 beside any answer but 0.
@@ -40,11 +43,12 @@ const NO_TABLE: Counted = Counted {
     count: 0,
 };
 
-// The numbers of up to 256 records; 0 in the places behind them.
+// What of up to 256 records is judged and counted, with 0 in the places behind them: their identities, the TMGIs as numbers, whether any is of a link that there is not.
 pub struct Numbers {
-    pub mmes: [u16; 256],
-    pub mces: [u16; 256],
+    pub mmes: [MmeId; 256],
+    pub mces: [MceId; 256],
     pub tmgis: [u64; 256],
+    pub elsewhere: bool,
 }
 
 // How many of the numbers are the given one.
@@ -69,12 +73,15 @@ pub fn count_numbers(g: Numbers, n: usize, tmgi: u64) -> Counted
     if 256 < n {
         return NO_TABLE;
     }
+    if g.elsewhere {
+        return NO_TABLE;
+    }
     let mmes = g.mmes;
-    if !distinct::unequal(mmes, n) {
+    if !distinct::unequal_mmes(mmes, n) {
         return NO_TABLE;
     }
     let mces = g.mces;
-    if !distinct::unequal(mces, n) {
+    if !distinct::unequal_mces(mces, n) {
         return NO_TABLE;
     }
     let tmgis = g.tmgis;
@@ -102,10 +109,13 @@ fn looked_at(n: usize) -> usize
 fn none_yet() -> Numbers
     ensures { λ r. ⌜ r ≡ gathered [] ⌝ }
 {
+    let mme = MmeId(0);
+    let mce = MceId(0);
     Numbers {
-        mmes: [0; 256],
-        mces: [0; 256],
+        mmes: [mme; 256],
+        mces: [mce; 256],
         tmgis: [0; 256],
+        elsewhere: false,
     }
 }
 
@@ -116,10 +126,15 @@ fn with_record(g: Numbers, at: usize, row: Record) -> Numbers
 {
     let t = row.tmgi;
     let x = number_of(t);
+    let mme = row.mme;
+    let mce = row.mce;
     let mut out = g;
-    out.mmes[at] = row.mme;
-    out.mces[at] = row.mce;
+    out.mmes[at] = mme;
+    out.mces[at] = mce;
     out.tmgis[at] = x;
+    if row.link != 0 {
+        out.elsewhere = true;
+    }
     out
 }
 
@@ -134,7 +149,7 @@ fn judged(g: Numbers, n: usize, tmgi: TmgiOctets) -> Counted
 // How many associations of the run have the TMGI; answer 21 where the run is no table.
 #[no_mangle]
 pub extern "C" fn m3ap_count(run: &[Record], tmgi: TmgiOctets) -> Counted
-    ensures { λ r. ⌜ r ≡ counted (tmgiOf tmgi) (map standsFor (now (run .entry))) ⌝ }
+    ensures { λ r. ⌜ r ≡ countedRun (tmgiOf tmgi) (now (run .entry)) ⌝ }
 {
     let n = looked_at(run.len());
     let mut g = none_yet();

@@ -21,10 +21,8 @@ use Rattle.values.specs.Values.{bitsOfRoot}
 use Rattle.values.specs.Written.{tmgiOctets, causeOctets, GoodCause}
 use Rattle.values.proofs.Back.{cause-octets}
 use Rattle.values.proofs.Roots.{root-width, root-group}
-use Rattle.item.specs.declared.Maybe.{Maybe}
-use Rattle.item.specs.declared.Maybe.the-variants as maybe
 use Rattle.items.specs.Items.{part}
-use Rattle.items.specs.Written.{mmeIn, mceIn, isThere, maybeOctets, itemOctets, itemElementOctets, itemsOctets, reject, resetOctets}
+use Rattle.items.specs.Written.{Maybe, There, None, mmeIn, mceIn, isThere, maybeOctets, itemOctets, itemElementOctets, itemsOctets, reject, resetOctets}
 use Rattle.rows.specs.declared.Row.{Row}
 use Rattle.editions.specs.declared.Message.{Message}
 use Rattle.editions.specs.declared.Code.{Code}
@@ -61,8 +59,8 @@ all-cause k g =
     rw (cause-octets k g) (all-packed fs fit all-none)
 
 all-maybe : (x : Maybe) → All (maybeOctets x)
-all-maybe (maybe.Is v) = all-number 2 v
-all-maybe maybe.Absent = all-none
+all-maybe (There v) = all-number 2 v
+all-maybe None = all-none
 
 marks-fit : (a b : Bool) → Fit 8 (bit false ∷ bit a ∷ bit b ∷ bit false ∷ [])
 marks-fit true true = (omega arith, omega arith, (omega arith, omega arith, (omega arith, omega arith, (omega arith, omega arith, tt))))

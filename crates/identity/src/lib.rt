@@ -1,8 +1,10 @@
 // What must stay apart: identities, TMGI, Session Identity; and the items of a reset, which name associations by identities.
 
-// The MME's numbers and the MCE's numbers are separate series: a value of one is never a value of the other.
+// The MME's numbers and the MCE's numbers are separate series: a value of one is never a value of the other. Laid out as C does, for the console's records.
+#[repr(C)]
 pub struct MmeId(pub u16);
 
+#[repr(C)]
 pub struct MceId(pub u16);
 
 pub enum Mme {

@@ -1,13 +1,16 @@
 -- The readers' answers, as readings.
 use Rattle.octets.specs.Read.{Read, got, stop}
 use Rattle.octets.specs.Many.{Part}
+use Rattle.identity.specs.declared.Mme.{Mme}
+use Rattle.identity.specs.declared.Mce.{Mce}
 use Rattle.identity.specs.declared.Item.{Item}
 use Rattle.item.specs.declared.Marks.{Marks}
 use Rattle.item.specs.declared.MarksRead.{MarksRead}
 use Rattle.item.specs.declared.MarksRead.the-variants as marksRead
-use Rattle.item.specs.declared.Maybe.{Maybe}
-use Rattle.item.specs.declared.MaybeRead.{MaybeRead}
-use Rattle.item.specs.declared.MaybeRead.the-variants as maybeRead
+use Rattle.item.specs.declared.MmeRead.{MmeRead}
+use Rattle.item.specs.declared.MmeRead.the-variants as mmeRead
+use Rattle.item.specs.declared.MceRead.{MceRead}
+use Rattle.item.specs.declared.MceRead.the-variants as mceRead
 use Rattle.item.specs.declared.ItemRead.{ItemRead}
 use Rattle.item.specs.declared.ItemRead.the-variants as itemRead
 use Rattle.item.specs.declared.ElementRead.{ElementRead}
@@ -17,9 +20,13 @@ abbrev pub foundMarks : MarksRead → Read Marks
 foundMarks (marksRead.Is v) = got v
 foundMarks (marksRead.Stop x) = stop x
 
-abbrev pub foundMaybe : MaybeRead → Read Maybe
-foundMaybe (maybeRead.Is v) = got v
-foundMaybe (maybeRead.Stop x) = stop x
+abbrev pub foundMme : MmeRead → Read Mme
+foundMme (mmeRead.Is v) = got v
+foundMme (mmeRead.Stop x) = stop x
+
+abbrev pub foundMce : MceRead → Read Mce
+foundMce (mceRead.Is v) = got v
+foundMce (mceRead.Stop x) = stop x
 
 abbrev pub foundItem : ItemRead → Read Item
 foundItem (itemRead.Is v) = got v

@@ -12,22 +12,23 @@ use Rattle.identity.specs.declared.Mce.{Mce}
 use Rattle.identity.specs.declared.Mce.the-variants as mce
 use Rattle.identity.specs.declared.Item.{Item}
 use Rattle.item.specs.declared.Marks.{Marks}
-use Rattle.item.specs.declared.Maybe.{Maybe}
-use Rattle.item.specs.declared.Maybe.the-variants as maybe
 
--- a number of two octets that is there or not
-abbrev pub maybeAt : Bool → List ℕ → ℕ → Read Maybe
-maybeAt false s at = got maybe.Absent
-maybeAt true s at = numberAt 2 s at >>= λ v. got (maybe.Is v)
+-- an identity of two octets that is there or not, made of its number in its series
+abbrev pub maybeAt : {A : Type 0} → (ℕ → A) → A → Bool → List ℕ → ℕ → Read A
+maybeAt is absent false s at = got absent
+maybeAt is absent true s at = numberAt 2 s at >>= λ v. got (is v)
 
--- such a number as an identity of one series or the other
-abbrev pub mmeOf : Maybe → Mme
-mmeOf (maybe.Is v) = mme.Is (record { 0 = v })
-mmeOf maybe.Absent = mme.Absent
+abbrev pub mmeIs : ℕ → Mme
+mmeIs v = mme.Is (record { 0 = v })
 
-abbrev pub mceOf : Maybe → Mce
-mceOf (maybe.Is v) = mce.Is (record { 0 = v })
-mceOf maybe.Absent = mce.Absent
+abbrev pub mceIs : ℕ → Mce
+mceIs v = mce.Is (record { 0 = v })
+
+abbrev pub mmeAt : Bool → List ℕ → ℕ → Read Mme
+mmeAt there s at = maybeAt mmeIs mme.Absent there s at
+
+abbrev pub mceAt : Bool → List ℕ → ℕ → Read Mce
+mceAt there s at = maybeAt mceIs mce.Absent there s at
 
 -- the place behind it
 abbrev pub behind : Bool → ℕ → ℕ
@@ -47,10 +48,10 @@ marksAt s at = do
 unfoldable pub itemAt : List ℕ → ℕ → Read Item
 itemAt s at = do
   h ← marksAt s at
-  x ← maybeAt (h .mme) s (at + 1)
-  y ← maybeAt (h .mce) s (behind (h .mme) (at + 1))
+  x ← mmeAt (h .mme) s (at + 1)
+  y ← mceAt (h .mce) s (behind (h .mme) (at + 1))
   endsAt s (behind (h .mce) (behind (h .mme) (at + 1)))
-  got (record { mme = mmeOf x; mce = mceOf y })
+  got (record { mme = x; mce = y })
 
 -- an item in its envelope: id 14, or it is at fault; a criticality that is not looked at further; the item
 unfoldable pub itemElementAt : List ℕ → ℕ → Read (Part Item)

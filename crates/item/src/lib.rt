@@ -1,8 +1,8 @@
 // A reset item, in its envelope.
 ghost use mathlib.Core.Path.{_≡_};
 ghost use Prim.Native.Nat.{_+_, _^_, _<_};
-ghost use Rattle.item.specs.Item.{maybeAt, mmeOf, mceOf, behind, marksAt, itemAt, itemElementAt};
-ghost use Rattle.item.specs.Found.{foundMarks, foundMaybe, foundItem, foundElement};
+ghost use Rattle.item.specs.Item.{mmeAt, mceAt, behind, marksAt, itemAt, itemElementAt};
+ghost use Rattle.item.specs.Found.{foundMarks, foundMme, foundMce, foundItem, foundElement};
 use identity::Item;
 use identity::Mce;
 use identity::MceId;
@@ -21,20 +21,19 @@ pub struct Marks {
     pub mce: bool,
 }
 
-// A number that is there or not: the one or the other identity of an item, as its octets say it.
-pub enum Maybe {
-    Is(u16),
-    Absent,
-}
-
 // What the readers answer.
 enum MarksRead {
     Is(Marks),
     Stop(Stop),
 }
 
-enum MaybeRead {
-    Is(Maybe),
+enum MmeRead {
+    Is(Mme),
+    Stop(Stop),
+}
+
+enum MceRead {
+    Is(Mce),
     Stop(Stop),
 }
 
@@ -83,39 +82,34 @@ fn marks_at(s: &[u8], at: usize) -> MarksRead
     }
 }
 
-// A number of two octets, where a mark said that it is there.
-fn maybe_at(there: bool, s: &[u8], at: usize) -> MaybeRead
-    ensures { λ r. ⌜ foundMaybe r ≡ maybeAt there (now (s .entry)) at ⌝ }
+// The MME identity, where a mark said that it is there; and the MCE identity.
+fn mme_at(there: bool, s: &[u8], at: usize) -> MmeRead
+    ensures { λ r. ⌜ foundMme r ≡ mmeAt there (now (s .entry)) at ⌝ }
 {
     if there {
         match octets::two_at(s, at) {
-            Two::Is(v) => MaybeRead::Is(Maybe::Is(v)),
-            Two::Stop(x) => MaybeRead::Stop(x),
+            Two::Is(v) => MmeRead::Is(Mme::Is(MmeId(v))),
+            Two::Stop(x) => MmeRead::Stop(x),
         }
     } else {
-        MaybeRead::Is(Maybe::Absent)
+        MmeRead::Is(Mme::Absent)
     }
 }
 
-fn mme_of(x: Maybe) -> Mme
-    ensures { λ r. ⌜ r ≡ mmeOf x ⌝ }
+fn mce_at(there: bool, s: &[u8], at: usize) -> MceRead
+    ensures { λ r. ⌜ foundMce r ≡ mceAt there (now (s .entry)) at ⌝ }
 {
-    match x {
-        Maybe::Is(v) => Mme::Is(MmeId(v)),
-        Maybe::Absent => Mme::Absent,
+    if there {
+        match octets::two_at(s, at) {
+            Two::Is(v) => MceRead::Is(Mce::Is(MceId(v))),
+            Two::Stop(x) => MceRead::Stop(x),
+        }
+    } else {
+        MceRead::Is(Mce::Absent)
     }
 }
 
-fn mce_of(x: Maybe) -> Mce
-    ensures { λ r. ⌜ r ≡ mceOf x ⌝ }
-{
-    match x {
-        Maybe::Is(v) => Mce::Is(MceId(v)),
-        Maybe::Absent => Mce::Absent,
-    }
-}
-
-// The place behind such a number.
+// The place behind an identity.
 fn place_behind(there: bool, at: usize) -> usize
     requires { ⌜ at + 2 < 2 ^ 64 ⌝ }
     ensures { λ r. ⌜ r ≡ behind there at ⌝ }
@@ -135,23 +129,20 @@ fn item_at(s: &[u8], at: usize) -> ItemRead
     let first = at + 1;
     let second = place_behind(h.mme, first);
     let end = place_behind(h.mce, second);
-    let mme = match maybe_at(h.mme, s, first) {
-        MaybeRead::Is(v) => v,
-        MaybeRead::Stop(x) => {
+    let mme = match mme_at(h.mme, s, first) {
+        MmeRead::Is(v) => v,
+        MmeRead::Stop(x) => {
             return ItemRead::Stop(x);
         }
     };
-    let mce = match maybe_at(h.mce, s, second) {
-        MaybeRead::Is(v) => v,
-        MaybeRead::Stop(x) => {
+    let mce = match mce_at(h.mce, s, second) {
+        MceRead::Is(v) => v,
+        MceRead::Stop(x) => {
             return ItemRead::Stop(x);
         }
     };
     match octets::ends_at(s, end) {
-        Gate::Pass => ItemRead::Is(Item {
-            mme: mme_of(mme),
-            mce: mce_of(mce),
-        }),
+        Gate::Pass => ItemRead::Is(Item { mme: mme, mce: mce }),
         Gate::Stop(x) => ItemRead::Stop(x),
     }
 }

@@ -14,8 +14,7 @@ use Rattle.octets.specs.Field.{bitsAt, flagAt, plainAt, choiceAt, padAt, valueA
 use Rattle.octets.proofs.Chain.{past}
 use Rattle.identity.specs.declared.Mme.the-variants as mme
 use Rattle.identity.specs.declared.Mce.the-variants as mce
-use Rattle.item.specs.declared.Maybe.the-variants as maybe
-use Rattle.item.specs.Item.{marksAt, itemAt, itemElementAt}
+use Rattle.item.specs.Item.{mmeIs, mceIs, marksAt, itemAt, itemElementAt}
 use Rattle.item_words.specs.Taken.{FullAt, IfFull, worded}
 
 number-here : (k : ℕ) (s : List ℕ) (at : ℕ) → at + k ≤ length s → got (valueAt k s at) ≡ numberAt k s at
@@ -31,8 +30,8 @@ item-here : (t : List ℕ) (a : ℕ) → length t ≡ a + 5 → getD t a 0 ≡ 9
 unfolding itemAt endsAt
 item-here t a n e =
     past _ _ (marks-here t a (omega arith) e)
-    (past _ (maybe.Is (valueAt 2 t (a + 1))) (past _ _ (number-here 2 t (a + 1) (omega arith)) refl)
-    (past _ (maybe.Is (valueAt 2 t (a + 1 + 2))) (past _ _ (number-here 2 t (a + 1 + 2) (omega arith)) refl)
+    (past _ (mmeIs (valueAt 2 t (a + 1))) (past _ _ (number-here 2 t (a + 1) (omega arith)) refl)
+    (past _ (mceIs (valueAt 2 t (a + 1 + 2))) (past _ _ (number-here 2 t (a + 1 + 2) (omega arith)) refl)
     (past _ tt (rw (le-ltb (a + 1 + 2 + 2) (length t) (omega arith))) refl)))
 
 same-here : (s : List ℕ) (at : ℕ) → FullAt s at → got tt ≡ sameAt 14 s at

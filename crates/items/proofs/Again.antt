@@ -23,13 +23,15 @@ use Rattle.octets.proofs.Stood.{stands-none, stands-join, stands-split, stands-
 use Rattle.octets.proofs.Back.{length-number}
 use Rattle.octets.proofs.Again.{packed-again, pad-zero, number-again, open-again, fills-again}
 use Rattle.octets.proofs.ManyLaws.{many-again}
+use Rattle.identity.specs.declared.Mme.{Mme}
+use Rattle.identity.specs.declared.Mme.the-variants as mme
+use Rattle.identity.specs.declared.Mce.{Mce}
+use Rattle.identity.specs.declared.Mce.the-variants as mce
 use Rattle.identity.specs.declared.Item.{Item}
 use Rattle.item.specs.declared.Marks.{Marks}
-use Rattle.item.specs.declared.Maybe.{Maybe}
-use Rattle.item.specs.declared.Maybe.the-variants as maybe
-use Rattle.item.specs.Item.{maybeAt, mmeOf, mceOf, behind, marksAt, itemAt, itemElementAt}
+use Rattle.item.specs.Item.{maybeAt, mmeIs, mceIs, mmeAt, mceAt, behind, marksAt, itemAt, itemElementAt}
 use Rattle.items.specs.Items.{itemsAt, ResetType, part, resetBy, resetAt}
-use Rattle.items.specs.Written.{mmeIn, mceIn, isThere, maybeOctets, itemOctets, itemElementOctets, itemsOctets, reject, resetOctets, critAt, critsAt, Marked, Rejecting}
+use Rattle.items.specs.Written.{Maybe, There, None, mmeIn, mceIn, isThere, maybeOctets, itemOctets, itemElementOctets, itemsOctets, reject, resetOctets, critAt, critsAt, Marked, Rejecting}
 use Rattle.items.proofs.Back.{behind-octets}
 
 -- ---- an item
@@ -67,47 +69,43 @@ marks-again s at o {h} q =
         subst (λ (k : Marks). Stands s at (packed (bit false ∷ bit (k .mme) ∷ bit (k .mce) ∷ bit false ∷ []) ∷ [])) (sym (same-got q))
         (rw (r .1, bit-again s at 1 y, bit-again s at 2 z, plain-got s at 3 w .1) at f)
 
-maybe-again : (s : List ℕ) (at : ℕ) → Octets s → (t : Bool) {x : Maybe} → at ≤ length s → got x ≡ maybeAt t s at → (isThere x ≡ t) × Stands s at (maybeOctets x)
-maybe-again s at o false r q = subst (λ (x : Maybe). (isThere x ≡ false) × Stands s at (maybeOctets x)) (sym (same-got q)) (refl, stands-none r)
-maybe-again s at o true r q =
-    let a = then-got (numberAt 2 s at) _ q in
-    subst (λ (x : Maybe). (isThere x ≡ true) × Stands s at (maybeOctets x)) (sym (same-got (a .2))) (refl, number-again 2 s at o (a .1))
-
--- a number in a series is itself again
-pub mme-of-in : (x : Maybe) → mmeIn (mmeOf x) ≡ x
-mme-of-in (maybe.Is v) = refl
-mme-of-in maybe.Absent = refl
-
-pub mce-of-in : (x : Maybe) → mceIn (mceOf x) ≡ x
-mce-of-in (maybe.Is v) = refl
-mce-of-in maybe.Absent = refl
+-- the number of an identity that was read stands there: once for both series, over how the number is told from it
+module _ {A : Type 0} (is : ℕ → A) (absent : A) (number : A → Maybe) (e : (v : ℕ) → number (is v) ≡ There v) (z : number absent ≡ None) where
+  maybe-again : (s : List ℕ) (at : ℕ) → Octets s → (t : Bool) {x : A} → at ≤ length s → got x ≡ maybeAt is absent t s at
+      → (isThere (number x) ≡ t) × Stands s at (maybeOctets (number x))
+  maybe-again s at o false r q = subst (λ (x : A). (isThere (number x) ≡ false) × Stands s at (maybeOctets (number x))) (sym (same-got q)) (rw z (refl, stands-none r))
+  maybe-again s at o true r q =
+      let a = then-got (numberAt 2 s at) _ q in
+      subst (λ (x : A). (isThere (number x) ≡ true) × Stands s at (maybeOctets (number x))) (sym (same-got (a .2))) (rw (e (a .0)) (refl, number-again 2 s at o (a .1)))
 
 pub item-again : (s : List ℕ) (at : ℕ) → Octets s → {i : Item} → got i ≡ itemAt s at → Fills s at (itemOctets i)
 unfolding itemAt itemOctets
 item-again s at o {i} q =
     let a = then-got (marksAt s at) _ q in
-    let b = then-got (maybeAt (a .0 .mme) s (at + 1)) _ (a .2) in
-    let c = then-got (maybeAt (a .0 .mce) s (behind (a .0 .mme) (at + 1))) _ (b .2) in
+    let b = then-got (mmeAt (a .0 .mme) s (at + 1)) _ (a .2) in
+    let c = then-got (mceAt (a .0 .mce) s (behind (a .0 .mme) (at + 1))) _ (b .2) in
     let d = then-got (endsAt s (behind (a .0 .mce) (behind (a .0 .mme) (at + 1)))) _ (c .2) in
     filled (a .0) (b .0) (c .0) (a .1) (b .1) (c .1) (d .1) (d .2)
   where
-    filled : (h : Marks) (x y : Maybe) → got h ≡ marksAt s at → got x ≡ maybeAt (h .mme) s (at + 1) → got y ≡ maybeAt (h .mce) s (behind (h .mme) (at + 1))
-        → got tt ≡ endsAt s (behind (h .mce) (behind (h .mme) (at + 1))) → got i ≡ got (record { mme = mmeOf x; mce = mceOf y }) → Fills s at (itemOctets i)
-    filled h x y a b c d q =
-        let m = marks-again s at o a in
-        let r = m .room in
-        let u = maybe-again s (at + 1) o (h .mme) (omega arith) b in
+    filled : (h : Marks) (m : Mme) (c : Mce) → got h ≡ marksAt s at → got m ≡ mmeAt (h .mme) s (at + 1) → got c ≡ mceAt (h .mce) s (behind (h .mme) (at + 1))
+        → got tt ≡ endsAt s (behind (h .mce) (behind (h .mme) (at + 1))) → got i ≡ got (record { mme = m; mce = c }) → Fills s at (itemOctets i)
+    filled h m c a b k d q =
+        let x = mmeIn m in
+        let y = mceIn c in
+        let w = marks-again s at o a in
+        let r = w .room in
+        let u = maybe-again mmeIs mme.Absent mmeIn (λ v. refl) refl s (at + 1) o (h .mme) (omega arith) b in
         let p : behind (h .mme) (at + 1) ≡ at + 1 + length (maybeOctets x) = ap (λ (t : Bool). behind t (at + 1)) (sym (u .0)) ∙ behind-octets x (at + 1) in
-        let v = maybe-again s (at + 1 + length (maybeOctets x)) o (h .mce) (u .1 .room) (rw p at c) in
-        let k : behind (h .mce) (behind (h .mme) (at + 1)) ≡ at + 1 + length (maybeOctets x) + length (maybeOctets y) =
+        let v = maybe-again mceIs mce.Absent mceIn (λ v. refl) refl s (at + 1 + length (maybeOctets x)) o (h .mce) (u .1 .room) (rw p at k) in
+        let l : behind (h .mce) (behind (h .mme) (at + 1)) ≡ at + 1 + length (maybeOctets x) + length (maybeOctets y) =
         rw p (ap (λ (t : Bool). behind t (at + 1 + length (maybeOctets x))) (sym (v .0)) ∙ behind-octets y _) in
         let e = ends-got s _ d in
         let n = length-append (maybeOctets x) (maybeOctets y) in
         let f = stands-join (u .1) (v .1) in
-        let w = f .room in
-        let g : Stands s at (packed (bit false ∷ bit (isThere x) ∷ bit (isThere y) ∷ bit false ∷ []) ∷ []) = rw (u .0, v .0) m in
+        let z = f .room in
+        let g : Stands s at (packed (bit false ∷ bit (isThere x) ∷ bit (isThere y) ∷ bit false ∷ []) ∷ []) = rw (u .0, v .0) w in
         subst (λ (j : Item). Fills s at (itemOctets j)) (sym (same-got q))
-        (rw (mme-of-in x, mce-of-in y) (record { stands = stands-join g f; ends = omega arith }))
+        (record { stands = stands-join g f; ends = omega arith })
 
 -- ---- an item in its envelope
 

@@ -20,11 +20,9 @@ use Rattle.identity.specs.declared.Mme.the-variants as mme
 use Rattle.identity.specs.declared.Mce.{Mce}
 use Rattle.identity.specs.declared.Mce.the-variants as mce
 use Rattle.identity.specs.declared.Item.{Item}
-use Rattle.item.specs.declared.Maybe.{Maybe}
-use Rattle.item.specs.declared.Maybe.the-variants as maybe
-use Rattle.item.specs.Item.{maybeAt, mmeOf, mceOf, behind, marksAt, itemAt, itemElementAt}
+use Rattle.item.specs.Item.{maybeAt, mmeIs, mceIs, behind, marksAt, itemAt, itemElementAt}
 use Rattle.items.specs.Items.{itemsAt, ResetType, whole, part, resetAt}
-use Rattle.items.specs.Written.{mmeIn, mceIn, isThere, maybeOctets, itemOctets, itemElementOctets, itemsOctets, reject, resetOctets, GoodMaybe, GoodItem, GoodItems, GoodReset}
+use Rattle.items.specs.Written.{Maybe, There, None, mmeIn, mceIn, isThere, maybeOctets, itemOctets, itemElementOctets, itemsOctets, reject, resetOctets, GoodMaybe, GoodItem, GoodItems, GoodReset}
 
 -- ---- an item
 
@@ -49,21 +47,27 @@ marks-back s at m c h =
     (past _ tt (rw (p, q) at (plain-back s at (bit false ∷ bit m ∷ bit c ∷ []) [] (bits-fit m c) (omega arith) h))
     (past _ tt (rw (p, q) at (rest-back s at (bit false ∷ bit m ∷ bit c ∷ bit false ∷ []) (bits-fit m c) (omega arith) (omega arith) h)) refl))))
 
-maybe-back : (s : List ℕ) (at : ℕ) (x : Maybe) → GoodMaybe x → Stands s at (maybeOctets x) → got x ≡ maybeAt (isThere x) s at
-maybe-back s at (maybe.Is v) b h = past _ v (number-back 2 s at v b h) refl
-maybe-back s at maybe.Absent b h = refl
+-- an identity is read where its number stands: once for both series, over how they make it of a number
+module _ {A : Type 0} (is : ℕ → A) (absent : A) where
+  abbrev pub ofNumber : Maybe → A
+  ofNumber (There v) = is v
+  ofNumber None = absent
+
+  maybe-back : (s : List ℕ) (at : ℕ) (x : Maybe) → GoodMaybe x → Stands s at (maybeOctets x) → got (ofNumber x) ≡ maybeAt is absent (isThere x) s at
+  maybe-back s at (There v) b h = past _ v (number-back 2 s at v b h) refl
+  maybe-back s at None b h = refl
 
 -- the place behind a number, by its octets
 pub behind-octets : (x : Maybe) (at : ℕ) → behind (isThere x) at ≡ at + length (maybeOctets x)
-behind-octets (maybe.Is v) at = rw (length-number 2 v)
-behind-octets maybe.Absent at = omega arith
+behind-octets (There v) at = rw (length-number 2 v)
+behind-octets None at = omega arith
 
 -- an identity is its number in its series
-pub mme-in-of : (x : Mme) → mmeOf (mmeIn x) ≡ x
+mme-in-of : (x : Mme) → ofNumber mmeIs mme.Absent (mmeIn x) ≡ x
 mme-in-of (mme.Is v) = refl
 mme-in-of mme.Absent = refl
 
-pub mce-in-of : (x : Mce) → mceOf (mceIn x) ≡ x
+mce-in-of : (x : Mce) → ofNumber mceIs mce.Absent (mceIn x) ≡ x
 mce-in-of (mce.Is v) = refl
 mce-in-of mce.Absent = refl
 
@@ -77,16 +81,16 @@ item-back s at i g f =
     let e = f .ends in
     let n = length-append (maybeOctets x) (maybeOctets y) in
     past _ _ (marks-back s at (isThere x) (isThere y) (a .0))
-    (past _ x (maybe-back s (at + 1) x (g .0) (b .0))
-    (past _ y (maybe-back s (behind (isThere x) (at + 1)) y (g .1) (rw (behind-octets x (at + 1)) (b .1)))
+    (past _ (ofNumber mmeIs mme.Absent x) (maybe-back mmeIs mme.Absent s (at + 1) x (g .0) (b .0))
+    (past _ (ofNumber mceIs mce.Absent y) (maybe-back mceIs mce.Absent s (behind (isThere x) (at + 1)) y (g .1) (rw (behind-octets x (at + 1)) (b .1)))
     (past _ tt (ends-back s (behind (isThere y) (behind (isThere x) (at + 1))) (rw (behind-octets x (at + 1), behind-octets y) (omega arith)))
     (rw (mme-in-of (i .mme), mce-in-of (i .mce))))))
 
 -- ---- an item in its envelope, and a list
 
 pub maybe-size : (x : Maybe) → length (maybeOctets x) ≤ 2
-maybe-size (maybe.Is v) = rw (length-number 2 v) (omega arith)
-maybe-size maybe.Absent = omega arith
+maybe-size (There v) = rw (length-number 2 v) (omega arith)
+maybe-size None = omega arith
 
 -- an item has 1 to 5 octets
 pub item-size : (i : Item) → (0 < length (itemOctets i)) × (length (itemOctets i) ≤ 5)

@@ -1,6 +1,6 @@
 -- What was read is a value that has octets.
 -- Assumes nothing.
-use mathlib.Core.Path.{_≡_, sym, subst}
+use mathlib.Core.Path.{_≡_, refl, sym, subst}
 use mathlib.Core.Bool.{Bool, true, false}
 use mathlib.Core.List.{List}
 use Prim.Native.Nat.{ℕ, _+_, _^_, _<_}
@@ -16,31 +16,36 @@ use Rattle.octets.proofs.Got.{number-got}
 use Rattle.octets.proofs.Stood.{octets-front}
 use Rattle.octets.proofs.Again.{value-below}
 use Rattle.octets.proofs.ManyLaws.{many-each}
+use Rattle.identity.specs.declared.Mme.{Mme}
+use Rattle.identity.specs.declared.Mme.the-variants as mme
+use Rattle.identity.specs.declared.Mce.{Mce}
+use Rattle.identity.specs.declared.Mce.the-variants as mce
 use Rattle.identity.specs.declared.Item.{Item}
-use Rattle.item.specs.declared.Maybe.{Maybe}
-use Rattle.item.specs.Item.{maybeAt, mmeOf, mceOf, behind, marksAt, itemAt, itemElementAt}
+use Rattle.item.specs.Item.{maybeAt, mmeIs, mceIs, mmeAt, mceAt, behind, marksAt, itemAt, itemElementAt}
 use Rattle.items.specs.Items.{itemsAt, ResetType, resetBy, resetAt}
-use Rattle.items.specs.Written.{GoodMaybe, GoodItem, GoodItems, GoodReset}
-use Rattle.items.proofs.Again.{mme-of-in, mce-of-in}
+use Rattle.items.specs.Written.{Maybe, There, None, mmeIn, mceIn, GoodMaybe, GoodItem, GoodItems, GoodReset}
 
 number-good : (k : ℕ) (s : List ℕ) (at : ℕ) {v : ℕ} → Octets s → got v ≡ numberAt k s at → v < 256 ^ k
 number-good k s at o q = rw (number-got s at k q .1) (value-below k s at o)
 
-maybe-good : (s : List ℕ) (at : ℕ) → Octets s → (t : Bool) {x : Maybe} → got x ≡ maybeAt t s at → GoodMaybe x
-maybe-good s at o false q = subst GoodMaybe (sym (same-got q)) tt
-maybe-good s at o true q = let a = then-got (numberAt 2 s at) _ q in subst GoodMaybe (sym (same-got (a .2))) (number-good 2 s at o (a .1))
+module _ {A : Type 0} (is : ℕ → A) (absent : A) (number : A → Maybe) (e : (v : ℕ) → number (is v) ≡ There v) (z : number absent ≡ None) where
+  maybe-good : (s : List ℕ) (at : ℕ) → Octets s → (t : Bool) {x : A} → got x ≡ maybeAt is absent t s at → GoodMaybe (number x)
+  maybe-good s at o false q = subst (λ (x : A). GoodMaybe (number x)) (sym (same-got q)) (rw z tt)
+  maybe-good s at o true q =
+      let a = then-got (numberAt 2 s at) _ q in
+      subst (λ (x : A). GoodMaybe (number x)) (sym (same-got (a .2))) (rw (e (a .0)) (number-good 2 s at o (a .1)))
 
 pub item-good : (s : List ℕ) (at : ℕ) → Octets s → {i : Item} → got i ≡ itemAt s at → GoodItem i
 unfolding itemAt
 item-good s at o {i} q =
     let a = then-got (marksAt s at) _ q in
-    let b = then-got (maybeAt (a .0 .mme) s (at + 1)) _ (a .2) in
-    let c = then-got (maybeAt (a .0 .mce) s (behind (a .0 .mme) (at + 1))) _ (b .2) in
+    let b = then-got (mmeAt (a .0 .mme) s (at + 1)) _ (a .2) in
+    let c = then-got (mceAt (a .0 .mce) s (behind (a .0 .mme) (at + 1))) _ (b .2) in
     let d = then-got (endsAt s (behind (a .0 .mce) (behind (a .0 .mme) (at + 1)))) _ (c .2) in
-    good (b .0) (c .0) (maybe-good s _ o (a .0 .mme) (b .1)) (maybe-good s _ o (a .0 .mce) (c .1)) (d .2)
+    good (b .0) (c .0) (maybe-good mmeIs mme.Absent mmeIn (λ v. refl) refl s _ o (a .0 .mme) (b .1)) (maybe-good mceIs mce.Absent mceIn (λ v. refl) refl s _ o (a .0 .mce) (c .1)) (d .2)
   where
-    good : (x y : Maybe) → GoodMaybe x → GoodMaybe y → got i ≡ got (record { mme = mmeOf x; mce = mceOf y }) → GoodItem i
-    good x y g h q = subst GoodItem (sym (same-got q)) (rw (mme-of-in x) g, rw (mce-of-in y) h)
+    good : (x : Mme) (y : Mce) → GoodMaybe (mmeIn x) → GoodMaybe (mceIn y) → got i ≡ got (record { mme = x; mce = y }) → GoodItem i
+    good x y g h q = subst GoodItem (sym (same-got q)) (g, h)
 
 element-good : (s : List ℕ) → Octets s → (at : ℕ) (p : Part Item) → got p ≡ itemElementAt s at → GoodItem (p .value)
 unfolding itemElementAt

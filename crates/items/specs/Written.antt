@@ -14,26 +14,28 @@ use Rattle.identity.specs.declared.Mme.the-variants as mme
 use Rattle.identity.specs.declared.Mce.{Mce}
 use Rattle.identity.specs.declared.Mce.the-variants as mce
 use Rattle.identity.specs.declared.Item.{Item}
-use Rattle.item.specs.declared.Maybe.{Maybe}
-use Rattle.item.specs.declared.Maybe.the-variants as maybe
 use Rattle.items.specs.Items.{ResetType, whole, part}
 
--- an identity of one series or the other, as a number that is there or not
+-- what of an identity is written, in either series: its number, if it is there
+pub data Maybe : Type 0 where
+  There : ℕ → Maybe
+  None : Maybe
+
 abbrev pub mmeIn : Mme → Maybe
-mmeIn (mme.Is v) = maybe.Is (v .0)
-mmeIn mme.Absent = maybe.Absent
+mmeIn (mme.Is v) = There (v .0)
+mmeIn mme.Absent = None
 
 abbrev pub mceIn : Mce → Maybe
-mceIn (mce.Is v) = maybe.Is (v .0)
-mceIn mce.Absent = maybe.Absent
+mceIn (mce.Is v) = There (v .0)
+mceIn mce.Absent = None
 
 abbrev pub isThere : Maybe → Bool
-isThere (maybe.Is v) = true
-isThere maybe.Absent = false
+isThere (There v) = true
+isThere None = false
 
 abbrev pub maybeOctets : Maybe → List ℕ
-maybeOctets (maybe.Is v) = numberOctets 2 v
-maybeOctets maybe.Absent = []
+maybeOctets (There v) = numberOctets 2 v
+maybeOctets None = []
 
 -- no extension; which identities are there; no extensions present; the identities, MME first
 unfoldable pub itemOctets : Item → List ℕ
@@ -63,8 +65,8 @@ resetOctets (part is) = packed (bit false ∷ bit true ∷ []) ∷ itemsOctets r
 
 -- numbers of two octets; 1 to 256 items
 abbrev pub GoodMaybe : Maybe → Type 0
-GoodMaybe (maybe.Is v) = v < 65536
-GoodMaybe maybe.Absent = Unit
+GoodMaybe (There v) = v < 65536
+GoodMaybe None = Unit
 
 abbrev pub GoodItem : Item → Type 0
 GoodItem i = GoodMaybe (mmeIn (i .mme)) × GoodMaybe (mceIn (i .mce))

@@ -23,7 +23,7 @@ use Rattle.identity.specs.declared.Mce.the-variants as mce
 use Rattle.table.specs.Table.{State, emptyAssociation, tableOf, names, hasMme, hasMce, hasPair, full, heldBy, shareMme, shareMce, distinctHeld}
 use Rattle.table.specs.declared.Association.{Association}
 use Rattle.lent.specs.Lent.{rowOf, rowIn, rowsOf}
-use Rattle.lent.specs.Tests.{sessionGood, rowsGood, rowsRight, mmeAmong, mceAmong, seriesOf}
+use Rattle.lent.specs.Tests.{sessionGood, rowsGood, rowsRight, seriesOf}
 use Rattle.lent.specs.declared.Series.the-variants as series
 use Rattle.lent.proofs.Rows.{length-rows}
 use Rattle.lent.proofs.Reading.{tail-part}
@@ -92,8 +92,8 @@ pub record SeriesTo (f : Association → ℕ) (w : ℕ) (s : List ℕ) (n : ℕ)
   pub blank : f emptyAssociation ≡ 0
   pub met : Met w (map f (rowsOf n (drop 2 s))) n words i
 
-pub series-none : (f : Association → ℕ) → f emptyAssociation ≡ 0 → (w : ℕ) → 0 < w → (s : List ℕ) (n : ℕ) → SeriesTo f w s n (replicate w 0) 0
-series-none f e w h s n = record { blank = e; met = met-none w h (map f (rowsOf n (drop 2 s))) n }
+pub series-none : (f : Association → ℕ) → f emptyAssociation ≡ 0 → (w : ℕ) → 0 < w → (s : List ℕ) (n : ℕ) {words : List ℕ} → words ≡ replicate w 0 → SeriesTo f w s n words 0
+series-none f e w h s n z = record { blank = e; met = rw z (met-none w h (map f (rowsOf n (drop 2 s))) n) }
 
 module _ {f : Association → ℕ} {w : ℕ} {s : List ℕ} {n : ℕ} {words : List ℕ} {i : ℕ} (g : SeriesTo f w s n words i) where
   long : length (map f (rowsOf n (drop 2 s))) ≡ n
@@ -141,15 +141,6 @@ series-not false h e = refl
 pub both-series : (n : ℕ) (s : List ℕ) → rowsRight n s ≡ ((rowsGood n s && apart shareMme (rowsOf n s)) && apart shareMce (rowsOf n s))
 unfolding distinctHeld
 both-series n s = sym (and-assoc (rowsGood n s) (apart shareMme (rowsOf n s)) (apart shareMce (rowsOf n s)))
-
--- what is in the set of all is held
-pub mme-held : (set : List ℕ) (l : State) → ((y : ℕ) → inSet 1024 set y ≡ some (λ (a : Association). eqb (mmeOf a) y) l) → (x : Mme) → mmeAmong set x ≡ heldBy x mce.Absent l
-mme-held set l h (mme.Is m) = h (m .0)
-mme-held set l h mme.Absent = refl
-
-pub mce-held : (set : List ℕ) (l : State) → ((y : ℕ) → inSet 1024 set y ≡ some (λ (a : Association). eqb (mceOf a) y) l) → (x : Mce) → mceAmong set x ≡ heldBy mme.Absent x l
-mce-held set l h (mce.Is c) = h (c .0)
-mce-held set l h mce.Absent = refl
 
 -- what passes no weaker test passes no stronger one; what is apart by a weaker likeness is so by a stronger one
 pub none-less : {A : Type 0} (p q : A → Bool) → ((a : A) → q a ≡ true → p a ≡ true) → (l : List A) → some p l ≡ false → some q l ≡ false

@@ -2,10 +2,9 @@
 use mathlib.Core.Path.{_≡_}
 use mathlib.Core.Bool.{Bool, true, false, _&&_}
 use mathlib.Core.List.{List, [], _∷_, _++_, List·Memᴰ}
-use Prim.Native.Nat.{ℕ, zero, suc, min, _+_, _*_, _≤_, _<_}
-use lib.Dec.{eqb, leb, ltb}
+use Prim.Native.Nat.{ℕ, zero, suc, min, _≤_, _<_}
+use lib.Dec.{eqb, leb}
 use lib.ListN.{length, getD, drop}
-use lib.Seq.{sets}
 use Rattle.lists.specs.Lists.{pick, fill}
 use Rattle.octets.specs.Field.{valueAt}
 use Rattle.octets.specs.Write.{numberOctets}
@@ -99,14 +98,6 @@ room d = eqb (length d) 3074
 -- the first n rows of so many octets, whether or not they are a table
 abbrev pub firstRows : ℕ → List ℕ → State
 firstRows n s = pick (room s) (rowsOf (min n 256) (drop 2 s)) []
-
--- the octets lent, when a table was to be written there
-abbrev pub tableOut : State → List ℕ → List ℕ
-tableOut l d = pick (room d) (tableOctets l) d
-
--- the octets lent, when one more row was to be written behind n, and the count
-abbrev pub rowOut : Association → ℕ → List ℕ → List ℕ
-rowOut a n d = pick (room d && ltb n 256) (sets (sets d 0 (numberOctets 2 (n + 1))) (2 + 12 * n) (rowOctets a)) d
 
 -- ---- what a table can hold
 -- the identities have two octets each

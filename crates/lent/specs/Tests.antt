@@ -6,12 +6,7 @@ use Prim.Native.Nat.{ℕ, zero, suc}
 use lib.Dec.{eqb}
 use lib.ListN.{getD, drop}
 use Rattle.table.specs.Table.{distinctHeld}
-use Rattle.identity.specs.declared.Mme.{Mme}
-use Rattle.identity.specs.declared.Mme.the-variants as mme
-use Rattle.identity.specs.declared.Mce.{Mce}
-use Rattle.identity.specs.declared.Mce.the-variants as mce
 use Rattle.lists.specs.Lists.{pick}
-use Rattle.distinct.specs.Bits.{inSet}
 use Rattle.lent.specs.Lent.{rowsOf}
 use Rattle.lent.specs.declared.Series.{Series}
 use Rattle.lent.specs.declared.Series.the-variants as series
@@ -37,15 +32,6 @@ zeros (x ∷ l) = eqb x 0 && zeros l
 abbrev pub OnlyIf : Bool → Bool → Type 0
 OnlyIf true b = b ≡ true
 OnlyIf false b = Unit
-
--- the identity is there, and in the set
-abbrev pub mmeAmong : List ℕ → Mme → Bool
-mmeAmong set (mme.Is m) = inSet 1024 set (m .0)
-mmeAmong set mme.Absent = false
-
-abbrev pub mceAmong : List ℕ → Mce → Bool
-mceAmong set (mce.Is c) = inSet 1024 set (c .0)
-mceAmong set mce.Absent = false
 
 -- whether an identity is held, where the rows' are apart
 abbrev pub seriesOf : Bool → Bool → Series

@@ -3,16 +3,17 @@
 // Rows past the count are zero, so a table has one form.
 ghost use mathlib.Core.Path.{_≡_};
 ghost use mathlib.Core.Bool.{_&&_};
-ghost use Prim.Native.Nat.{_+_, _*_, _%_, _≤_};
+ghost use Prim.Native.Nat.{_+_, _*_, _≤_};
 ghost use lib.ListN.{length, getD, drop};
 ghost use Rattle.lists.specs.Lists.{pick, some, apart};
 ghost use Rattle.identity.specs.declared.Mme.the-variants as mme;
 ghost use Rattle.identity.specs.declared.Mce.the-variants as mce;
-ghost use Rattle.distinct.specs.Bits.{inSet, withIn};
 ghost use Rattle.table.specs.Table.{tableOf, names, heldBy, standing, shareMme, shareMce};
 ghost use Rattle.lent.specs.Lent.{sessionOf, rowOf, rowIn, rowsOf, firstRows, readTable, lookedUp};
-ghost use Rattle.lent.specs.Tests.{sessionGood, rowsGood, rowsRight, zeros, OnlyIf, mmeAmong, mceAmong, seriesOf};
+ghost use Rattle.lent.specs.Tests.{sessionGood, rowsGood, rowsRight, zeros, OnlyIf, seriesOf};
 ghost use Rattle.lent.specs.declared.Looked.the-variants as looked;
+use distinct::MceWord;
+use distinct::MmeWord;
 use identity::Item;
 use identity::Mce;
 use identity::MceId;
@@ -112,69 +113,34 @@ fn zeros_from(s: &[u8], at: usize) -> bool
     all == 0
 }
 
-// Puts an identity into the set of its series, and says whether it was there; the whole of it, or its low 12 bits.
-fn add_mme(set: &mut [u64; 1024], x: MmeId) -> bool
-    ensures { λ r. ⌜ (r ≡ inSet 1024 (now (set .entry)) (x .0)) × (now (set .exit) ≡ withIn 1024 (now (set .entry)) (x .0)) ⌝ }
-{
-    distinct::add(set, x.0)
-}
-
-fn add_mce(set: &mut [u64; 1024], x: MceId) -> bool
-    ensures { λ r. ⌜ (r ≡ inSet 1024 (now (set .entry)) (x .0)) × (now (set .exit) ≡ withIn 1024 (now (set .entry)) (x .0)) ⌝ }
-{
-    distinct::add(set, x.0)
-}
-
-fn add_low_mme(set: &mut [u64; 64], x: MmeId) -> bool
-    ensures { λ r. ⌜ (r ≡ inSet 64 (now (set .entry)) (x .0 % 4096)) × (now (set .exit) ≡ withIn 64 (now (set .entry)) (x .0 % 4096)) ⌝ }
-{
-    distinct::add_low(set, x.0)
-}
-
-fn add_low_mce(set: &mut [u64; 64], x: MceId) -> bool
-    ensures { λ r. ⌜ (r ≡ inSet 64 (now (set .entry)) (x .0 % 4096)) × (now (set .exit) ≡ withIn 64 (now (set .entry)) (x .0 % 4096)) ⌝ }
-{
-    distinct::add_low(set, x.0)
-}
-
-// The identity is there, and in the set of its series.
-fn mme_among(set: &[u64; 1024], x: Mme) -> bool
-    ensures { λ r. ⌜ r ≡ mmeAmong (now (set .entry)) x ⌝ }
-{
-    match x {
-        Mme::Is(m) => distinct::has(set, m.0),
-        Mme::Absent => false,
-    }
-}
-
-fn mce_among(set: &[u64; 1024], x: Mce) -> bool
-    ensures { λ r. ⌜ r ≡ mceAmong (now (set .entry)) x ⌝ }
-{
-    match x {
-        Mce::Is(c) => distinct::has(set, c.0),
-        Mce::Absent => false,
-    }
-}
-
 // The first n rows have good octets for the Session Identity, and no two are alike in the low 12 bits of an identity. Where it is so, they are right.
 fn right_by_low(s: &[u8], n: usize) -> bool
     requires { ⌜ 2 + 12 * n ≤ length (now s) ⌝ }
     ensures { λ r. ⌜ OnlyIf r (rowsRight n (drop 2 (now (s .entry)))) ⌝ }
 {
-    let mut mmes: [u64; 64] = [0; 64];
-    let mut mces: [u64; 64] = [0; 64];
+    let no_mme = MmeWord(0);
+    let no_mce = MceWord(0);
+    let mut mmes: [MmeWord; 64] = [no_mme; 64];
+    let mut mces: [MceWord; 64] = [no_mce; 64];
     let mut i = 0;
     while i < n {
         let at = 2 + 12 * i;
-        if add_low_mme(&mut mmes, mme_at(s, at)) {
-            return false;
-        }
-        if add_low_mce(&mut mces, mce_at(s, at)) {
+        let m = mme_at(s, at);
+        let j = distinct::low_mme_place(m);
+        let mme = distinct::meet_low_mme(mmes[j], m);
+        let c = mce_at(s, at);
+        let k = distinct::low_mce_place(c);
+        let mce = distinct::meet_low_mce(mces[k], c);
+        if mme.was || mce.was {
             return false;
         }
         if !session_good(s, at) {
             return false;
         }
+        let first = mme.word;
+        mmes[j] = first;
+        let second = mce.word;
+        mces[k] = second;
         i += 1;
     }
     true
@@ -185,19 +151,32 @@ fn mmes_in(s: &[u8], n: usize, x: Mme) -> Series
     requires { ⌜ 2 + 12 * n ≤ length (now s) ⌝ }
     ensures { λ r. ⌜ r ≡ seriesOf (rowsGood n (drop 2 (now (s .entry))) && apart shareMme (rowsOf n (drop 2 (now (s .entry))))) (heldBy x mce.Absent (rowsOf n (drop 2 (now (s .entry))))) ⌝ }
 {
-    let mut set: [u64; 1024] = [0; 1024];
+    let none = MmeWord(0);
+    let mut set: [MmeWord; 1024] = [none; 1024];
     let mut i = 0;
     while i < n {
         let at = 2 + 12 * i;
-        if add_mme(&mut set, mme_at(s, at)) {
+        let m = mme_at(s, at);
+        let k = distinct::mme_place(m);
+        let met = distinct::meet_mme(set[k], m);
+        if met.was {
             return Series::Shared;
         }
         if !session_good(s, at) {
             return Series::Shared;
         }
+        let word = met.word;
+        set[k] = word;
         i += 1;
     }
-    Series::Apart(mme_among(&set, x))
+    match x {
+        Mme::Is(m) => {
+            let k = distinct::mme_place(m);
+            let met = distinct::meet_mme(set[k], m);
+            Series::Apart(met.was)
+        }
+        Mme::Absent => Series::Apart(false),
+    }
 }
 
 // No two of the first n rows share an MCE identity: whether x is held.
@@ -205,15 +184,28 @@ fn mces_in(s: &[u8], n: usize, x: Mce) -> Series
     requires { ⌜ 2 + 12 * n ≤ length (now s) ⌝ }
     ensures { λ r. ⌜ r ≡ seriesOf (apart shareMce (rowsOf n (drop 2 (now (s .entry))))) (heldBy mme.Absent x (rowsOf n (drop 2 (now (s .entry))))) ⌝ }
 {
-    let mut set: [u64; 1024] = [0; 1024];
+    let none = MceWord(0);
+    let mut set: [MceWord; 1024] = [none; 1024];
     let mut i = 0;
     while i < n {
-        if add_mce(&mut set, mce_at(s, 2 + 12 * i)) {
+        let c = mce_at(s, 2 + 12 * i);
+        let k = distinct::mce_place(c);
+        let met = distinct::meet_mce(set[k], c);
+        if met.was {
             return Series::Shared;
         }
+        let word = met.word;
+        set[k] = word;
         i += 1;
     }
-    Series::Apart(mce_among(&set, x))
+    match x {
+        Mce::Is(c) => {
+            let k = distinct::mce_place(c);
+            let met = distinct::meet_mce(set[k], c);
+            Series::Apart(met.was)
+        }
+        Mce::Absent => Series::Apart(false),
+    }
 }
 
 // One of the first n rows is named.

@@ -16,8 +16,9 @@ use Rattle.octets.specs.Many.{Part, many}
 use Rattle.octets.proofs.Chain.{then-got, same-got}
 use Rattle.octets.proofs.Got.{plain-got, choice-got, pad-got, number-got, string-got, wanted-got, open-in}
 use Rattle.values.specs.Values.{wholeAt, mmeAt, mceAt, sessionAt, tmgiAt, rootOf, bitsOfRoot, causeAt}
+use Rattle.identity.specs.declared.Mme.the-variants as mme
+use Rattle.identity.specs.declared.Mce.the-variants as mce
 use Rattle.identity.specs.declared.Item.{Item}
-use Rattle.item.specs.declared.Maybe.{Maybe}
 use Rattle.item.specs.Item as item
 use Rattle.items.specs.Items as items
 use Rattle.item.proofs.Inside as within
@@ -165,13 +166,14 @@ module _ (n : ℕ) (s : List ℕ) (l : length s ≤ n) (at : ℕ) (i : at ≤ n)
 -- ---- items
 
 module _ (n : ℕ) (s : List ℕ) (l : length s ≤ n) where
-  maybe-near : (b : Bool) (at : ℕ) → at ≤ n → Near n (item.maybeAt b s at)
-  maybe-near false at i = tt
-  maybe-near true at i = near-then n (numberAt 2 s at) _ (number-near n s at i 2) (λ v q. tt)
+  module _ {A : Type 0} (is : ℕ → A) (absent : A) where
+    maybe-near : (b : Bool) (at : ℕ) → at ≤ n → Near n (item.maybeAt is absent b s at)
+    maybe-near false at i = tt
+    maybe-near true at i = near-then n (numberAt 2 s at) _ (number-near n s at i 2) (λ v q. tt)
 
-  maybe-ends : (b : Bool) (at : ℕ) {x : Maybe} → at ≤ n → got x ≡ item.maybeAt b s at → item.behind b at ≤ n
-  maybe-ends false at i q = i
-  maybe-ends true at i q = let a = then-got (numberAt 2 s at) _ q in let h = number-got s at 2 (a .1) .0 in omega arith
+    maybe-ends : (b : Bool) (at : ℕ) {x : A} → at ≤ n → got x ≡ item.maybeAt is absent b s at → item.behind b at ≤ n
+    maybe-ends false at i q = i
+    maybe-ends true at i q = let a = then-got (numberAt 2 s at) _ q in let h = number-got s at 2 (a .1) .0 in omega arith
 
   marks-near : (at : ℕ) → at ≤ n → Near n (item.marksAt s at)
   unfolding item.marksAt
@@ -186,10 +188,10 @@ module _ (n : ℕ) (s : List ℕ) (l : length s ≤ n) where
   unfolding item.itemAt
   item-near at i =
       near-then n (item.marksAt s at) _ (marks-near at i) (λ h q. let k = within.marks-in s at q in let j : at + 1 ≤ n = omega arith in
-      near-then n (item.maybeAt (h .mme) s (at + 1)) _ (maybe-near (h .mme) (at + 1) j) (λ x r. let u = maybe-ends (h .mme) (at + 1) j r in
-      near-then n (item.maybeAt (h .mce) s (item.behind (h .mme) (at + 1))) _ (maybe-near (h .mce) (item.behind (h .mme) (at + 1)) u) (λ y v.
+      near-then n (item.mmeAt (h .mme) s (at + 1)) _ (maybe-near item.mmeIs mme.Absent (h .mme) (at + 1) j) (λ x r. let u = maybe-ends item.mmeIs mme.Absent (h .mme) (at + 1) j r in
+      near-then n (item.mceAt (h .mce) s (item.behind (h .mme) (at + 1))) _ (maybe-near item.mceIs mce.Absent (h .mce) (item.behind (h .mme) (at + 1)) u) (λ y v.
       near-then n (endsAt s (item.behind (h .mce) (item.behind (h .mme) (at + 1)))) _
-      (ends-near n s (item.behind (h .mce) (item.behind (h .mme) (at + 1))) (maybe-ends (h .mce) (item.behind (h .mme) (at + 1)) u v)) (λ e w. tt))))
+      (ends-near n s (item.behind (h .mce) (item.behind (h .mme) (at + 1))) (maybe-ends item.mceIs mce.Absent (h .mce) (item.behind (h .mme) (at + 1)) u v)) (λ e w. tt))))
 
 cut-short : (n : ℕ) (s : List ℕ) (k : ℕ) → length s ≤ n → length (take k s) ≤ n
 cut-short n s k l = let e = length-take k s in omega arith

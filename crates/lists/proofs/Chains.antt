@@ -86,13 +86,6 @@ module _ {slot : ℕ → ℕ} {s m : ℕ} {head next : List ℕ} {i : ℕ} (g : 
         g .link j (omega arith) z;
   }
 
--- by places that are all in no slot
-pub chained-rest : {slot : ℕ → ℕ} {s m : ℕ} {head next : List ℕ} {i : ℕ} → Chained slot s m head next i → ((j : ℕ) → i ≤ j → s ≤ slot j) → (k : ℕ) → Chained slot s m head next (i + k)
-chained-rest {slot} {s} {m} {head} {next} {i} g out zero = let e : i + 0 ≡ i = omega arith in rw e g
-chained-rest {slot} {s} {m} {head} {next} {i} g out (suc k) =
-    let e : i + suc k ≡ i + k + 1 = omega arith in
-    rw e (chained-not (chained-rest g out k) (out (i + k) (omega arith)))
-
 -- ---- a walk along the chain of the slot h, for a test of the n places: it stands at k, and behind it nothing passed
 pub record Walk (slot : ℕ → ℕ) (p : ℕ → Bool) (h n k : ℕ) : Type 0 where
   pub from : ℕ

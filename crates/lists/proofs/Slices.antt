@@ -2,12 +2,12 @@
 use mathlib.Core.Path.{_≡_, refl, sym, _∙_}
 use mathlib.Core.Bool.{Bool, true, false}
 use mathlib.Core.List.{List, [], _∷_, _++_, map}
-use Prim.Native.Nat.{ℕ, zero, suc, _+_, _≤_, _<_, min}
+use Prim.Native.Nat.{ℕ, zero, suc, _+_, _-_, _≤_, _<_, min}
 use native.Mathlib.Numerals.{add-one}
 use native.Mathlib.Omega.{arith}
 use borrow.Author.Tests.{leb-true, leb-false}
 use lib.Dec.{leb}
-use lib.ListN.{length, length-map, take, getD}
+use lib.ListN.{length, length-map, take, drop, getD, replicate}
 use lib.Seq.{slice, slice-cons, slice-empty, take-suc, take-all}
 
 module _ {A : Type 0} where
@@ -20,12 +20,6 @@ module _ {A : Type 0} where
   pub take-next : (l : List A) (i : ℕ) (d : A) → i < length l → take (i + 1) l ≡ take i l ++ (getD l i d ∷ [])
   take-next l i d h = rw add-one (take-suc l i d h)
 
-  -- within the list the default does not matter
-  pub getD-any : (l : List A) (i : ℕ) (d e : A) → i < length l → getD l i d ≡ getD l i e
-  getD-any [] i d e h = absurd (omega arith)
-  getD-any (a ∷ l) zero d e h = refl
-  getD-any (a ∷ l) (suc i) d e h = getD-any l i d e (omega arith)
-
   -- a number past the end takes as many as the end
   pub take-within : (l : List A) (k m : ℕ) → length l ≡ m → {n : ℕ} → n ≡ min k m → take n l ≡ take k l
   take-within l k m b {n} e = rw e (by (leb k m) refl)
@@ -33,6 +27,11 @@ module _ {A : Type 0} where
       by : (t : Bool) → leb k m ≡ t → take (min k m) l ≡ take k l
       by true t = let h : k ≤ m = leb-true k m t in let q : min k m ≡ k = omega arith in rw q
       by false t = let h : m < k = leb-false k m t in take-all (min k m) l (omega arith) ∙ sym (take-all k l (omega arith))
+
+pub drop-replicate : {A : Type 0} (k n : ℕ) (a : A) → drop k (replicate n a) ≡ replicate (n - k) a
+drop-replicate zero n a = let e : n - 0 ≡ n = omega arith in rw e
+drop-replicate (suc k) zero a = let e : 0 - suc k ≡ 0 = omega arith in rw e
+drop-replicate (suc k) (suc n) a = let e : suc n - suc k ≡ n - k = omega arith in rw e (drop-replicate k n a)
 
 -- What owning a struct tells of a field that is an array of structs stands at the mapped list: `search (needs, length-of)` finds the length.
 pub length-of : (X Y : Type 0) (f : X → Y) (l : List X) (n : ℕ) → length (map f l) ≡ n → length l ≡ n

@@ -3,13 +3,17 @@ use mathlib.Core.Path.{_≡_, refl, ap, _∙_}
 use mathlib.Core.Bool.{Bool, true, false, _&&_, _||_, or-assoc, or-comm, or-true, and-false}
 use mathlib.Core.List.{List, [], _∷_, _++_, map, List·Memᴰ, List·Memᴰ·head, List·Memᴰ·tail, List·Permᴰ, List·Permᴰ·nil, List·Permᴰ·cons, List·Permᴰ·swap, List·Permᴰ·trans}
 use Rattle.lists.specs.Lists.{pick, keep, some}
-use Rattle.lists.proofs.Tests.{or-left, or-right}
+use Rattle.lists.proofs.Tests.{or-left, or-right, or-or}
 use Rattle.lists.proofs.Keep.{keep-cong}
 
 module _ {A : Type 0} where
   pub some-append : (p : A → Bool) (l m : List A) → some p (l ++ m) ≡ (some p l || some p m)
   some-append p [] m = refl
   some-append p (a ∷ l) m = rw (some-append p l m, or-assoc (p a))
+
+  pub some-or : (p q : A → Bool) (l : List A) → some (λ (a : A). p a || q a) l ≡ (some p l || some q l)
+  some-or p q [] = refl
+  some-or p q (a ∷ l) = rw (some-or p q l) (or-or (p a) (q a) (some p l) (some q l))
 
   -- only the elements of the list count
   pub some-same : (p q : A → Bool) (l : List A) → ((a : A) → List·Memᴰ a l → p a ≡ q a) → some p l ≡ some q l

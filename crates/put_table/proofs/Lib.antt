@@ -1,3 +1,3 @@
 pub mod Writing
-pub mod Staying
+pub mod Back
 pub mod Determined

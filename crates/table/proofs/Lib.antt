@@ -1,4 +1,5 @@
 pub mod Rows
 pub mod Rules
+pub mod Holding
 pub mod Examples
 pub mod Determined

@@ -5,7 +5,7 @@ use mathlib.Core.Bool.{Bool, true, false, not}
 use mathlib.Core.List.{List, [], _∷_, _++_, List·Memᴰ, List·Permᴰ, Sublistᴰ}
 use Prim.Native.Nat.{_≤_, _<_}
 use native.Mathlib.Omega.{arith}
-use borrow.Author.Tests.{not-true, lt-leb, leb-false}
+use borrow.Author.Tests.{not-true, le-leb, lt-leb, leb-false}
 use lib.Dec.{leb}
 use lib.ListN.{length, length-append}
 use Rattle.lists.specs.Lists.{pick, keep, apart}
@@ -68,9 +68,13 @@ resets = record {
 }
 
 -- with room, one more stands behind the others
-appended : (a : Association) (l : State) → length l < 256 → starting a l ≡ l ++ (a ∷ [])
+pub appended : (a : Association) (l : State) → length l < 256 → starting a l ≡ l ++ (a ∷ [])
 unfolding starting full
 appended a l h = rw (lt-leb 256 (length l) h)
+
+pub not-appended : (a : Association) (l : State) → 256 ≤ length l → starting a l ≡ l
+unfolding starting full
+not-appended a l h = rw (le-leb 256 (length l) h)
 
 spared : (is : List Item) (a : Association) (l : State) → named is a ≡ false → without is (l ++ (a ∷ [])) ≡ without is l ++ (a ∷ [])
 unfolding without

@@ -2,7 +2,7 @@
 use mathlib.Core.Bool.{Bool, false, not, _&&_}
 use mathlib.Core.List.{List, [], _∷_, _++_}
 use lib.Dec.{eqb, leb}
-use lib.ListN.{length, take}
+use lib.ListN.{length, take, drop, replicate}
 use Rattle.lists.specs.Lists.{pick, keep, some, apart, fill}
 use Rattle.identity.specs.declared.MmeId.{MmeId}
 use Rattle.identity.specs.declared.MceId.{MceId}
@@ -36,6 +36,14 @@ held t = take (t .count) (t .rows)
 -- the table of a state of at most 256: in the rows behind it, the empty association
 abbrev pub tableOf : State → Table
 tableOf l = record { rows = fill emptyAssociation 256 l; count = length l }
+
+-- the rows of a table with those emptied that are held
+abbrev pub vacated : Table → State
+vacated t = replicate (length (held t)) emptyAssociation ++ drop (t .count) (t .rows)
+
+-- the table holds others instead: they stand in front of what is left when those held are gone
+unfoldable pub holding : State → Table → Table
+holding l t = record { rows = l ++ drop (length l) (vacated t); count = length l }
 
 -- the association has the identity; a figure of one series is never compared with one of the other
 abbrev pub hasMme : MmeId → Association → Bool

@@ -1,7 +1,8 @@
-// The table by value, as a reset has it. What is held is looked up, started and stopped in the lent octets (crates lent, put_table).
+// The table by value: what a start, a stop and a reset change. What is held is looked up in the lent octets (crate lent).
 ghost use mathlib.Core.Path.{_≡_};
 ghost use mathlib.Core.List.{[]};
-ghost use Rattle.table.specs.Table.{emptyAssociation, tableOf, names};
+ghost use lib.Dec.{eqb};
+ghost use Rattle.table.specs.Table.{emptyAssociation, held, tableOf, hasPair, names, starting, stopping, holding};
 use identity::Item;
 use identity::Mce;
 use identity::MceId;
@@ -61,24 +62,82 @@ pub fn empty() -> Table
     }
 }
 
+// Identities are compared within their series alone.
+fn same_mme(x: MmeId, y: MmeId) -> bool
+    ensures { λ r. ⌜ r ≡ eqb (x .0) (y .0) ⌝ }
+{
+    x.0 == y.0
+}
+
+fn same_mce(x: MceId, y: MceId) -> bool
+    ensures { λ r. ⌜ r ≡ eqb (x .0) (y .0) ⌝ }
+{
+    x.0 == y.0
+}
+
+// The association has both identities.
+fn has_pair(m: MmeId, c: MceId, a: Association) -> bool
+    ensures { λ r. ⌜ r ≡ hasPair m c a ⌝ }
+{
+    let mme = a.mme;
+    let mce = a.mce;
+    let first = same_mme(mme, m);
+    let second = same_mce(mce, c);
+    first && second
+}
+
 // The item names the association.
 pub fn names(item: Item, a: Association) -> bool
     ensures { λ r. ⌜ r ≡ names item a ⌝ }
 {
-    let mme = item.mme;
-    let mce = item.mce;
-    match mme {
-        Mme::Is(m) => match mce {
-            Mce::Is(c) => {
-                let first = a.mme.0 == m.0;
-                let second = a.mce.0 == c.0;
-                first && second
-            }
-            Mce::Absent => a.mme.0 == m.0,
+    let x = item.mme;
+    let y = item.mce;
+    let mme = a.mme;
+    let mce = a.mce;
+    match x {
+        Mme::Is(m) => match y {
+            Mce::Is(c) => has_pair(m, c, a),
+            Mce::Absent => same_mme(mme, m),
         },
-        Mme::Absent => match mce {
-            Mce::Is(c) => a.mce.0 == c.0,
+        Mme::Absent => match y {
+            Mce::Is(c) => same_mce(mce, c),
             Mce::Absent => false,
         },
     }
+}
+
+// A start: one more behind those held, where there is room.
+pub fn start(t: Table, a: Association) -> Table
+    ensures { λ r. ⌜ r ≡ holding (starting a (held t)) t ⌝ }
+{
+    let n = numbers::lesser(t.count, 256);
+    let mut out = t;
+    if n < 256 {
+        out.rows[n] = a;
+        out.count = n + 1;
+        return out;
+    }
+    out.count = n;
+    out
+}
+
+// A stop: without what has both identities. A row is emptied as it is passed, and put where it stays.
+pub fn stop(t: Table, m: MmeId, c: MceId) -> Table
+    ensures { λ r. ⌜ r ≡ holding (stopping m c (held t)) t ⌝ }
+{
+    let n = numbers::lesser(t.count, 256);
+    let mut out = t;
+    let mut k = 0;
+    let mut i = 0;
+    while i < n {
+        let a = out.rows[i];
+        out.rows[i] = NO_ASSOCIATION;
+        i += 1;
+        if !has_pair(m, c, a) {
+            out.rows[k] = a;
+            k += 1;
+        }
+    }
+    out.count = k;
+    out
 }

@@ -1,14 +1,14 @@
 -- What is sent of a reply and settled then, whatever the items where none are needed; the unit that is written; and what was looked up.
 -- Assumes nothing.
-use Prim.Native.Nat.{ℕ}
+use Prim.Native.Nat.{ℕ, _≤_}
 use mathlib.Core.Path.{_≡_, refl, sym, ap, subst, _∙_}
 use mathlib.Core.Bool.{Bool, true, false, _&&_, true≢false}
-use mathlib.Core.List.{List, [], _++_, map}
+use mathlib.Core.List.{List, [], _∷_, _++_, map}
 use native.Mathlib.Omega.{arith}
-use borrow.Author.Tests.{eq-eqb, le-leb, leb-true}
+use borrow.Author.Tests.{le-leb, leb-true, leb-false}
 use lib.Dec.{leb}
-use lib.ListN.{length, take, drop}
-use lib.Seq.{take-all}
+use lib.ListN.{length, length-append, take, drop}
+use lib.Seq.{take-all, take-length, take-append-seam}
 use Rattle.lists.specs.Lists.{pick, keep}
 use Rattle.lists.proofs.Tests.{on-pick, and-left, and-right}
 use Rattle.identity.specs.declared.MmeId.{MmeId}
@@ -25,18 +25,21 @@ use Rattle.frames.specs.declared.Frame.{Frame}
 use Rattle.table.specs.declared.Association.{Association}
 use Rattle.table.specs.declared.Table.{Table}
 use Rattle.table.specs.declared.Standing.{Standing}
-use Rattle.table.specs.Table.{State, held, tableOf, starting}
+use Rattle.table.specs.Table.{State, held, tableOf, holding, starting}
 use Rattle.table.specs.Table as table
 use Rattle.table.proofs.Rows.{held-of}
+use Rattle.table.proofs.Rules.{appended, not-appended}
+use Rattle.table.proofs.Holding.{holding-of}
 use Rattle.lent.specs.declared.Looked.{Looked}
 use Rattle.lent.specs.declared.Looked.the-variants as looked
-use Rattle.lent.specs.Lent.{Held, readTable, firstRows, tableOctets, tableOut, rowOut}
+use Rattle.lent.specs.Lent.{Held, readTable, firstRows, tableOctets}
 use Rattle.lent.proofs.OneForm.{one-form}
 use Rattle.units.specs.Unit as units
-use Rattle.units.specs.Unit.{withHeld, markOctets, unitOctets, saidUnit, MaybeUnit, isUnit, noUnit, readUnit, lookedIn}
+use Rattle.units.specs.Unit.{withHeld, unitOctets, saidUnit, MaybeUnit, isUnit, noUnit, readUnit, lookedIn}
 use Rattle.units.proofs.Parts.{read-unit}
 use Rattle.units.proofs.OneForm.{one-unit, table-of, marks-of}
-use Rattle.put_table.proofs.Writing.{row-starts}
+use Rattle.put_table.specs.Out.{tableOut}
+use Rattle.put_table.proofs.Back.{written-back}
 use Rattle.item_words.specs.Words.{itemOf}
 use Rattle.reset.specs.Slots.{namesNone}
 use Rattle.reset.proofs.Untouched.{without-none}
@@ -214,11 +217,15 @@ ruled-applied e u c w (Refused r) n = ap (keeps answer.Rejected) (replied-any e 
 
 -- ---- the unit
 
--- one row more
-row-more : (l : State) (t : List ℕ) (a : Association) {n : ℕ} → readTable t ≡ Held l → n ≡ length l → rowOut a n t ≡ tableOctets (starting a l)
-row-more l t a e k = rw (k, ← one-form .again t l e) (row-starts l a (one-form .table t l e .few))
+-- a start keeps the rows in front
+start-front : (a : Association) (l : State) {n : ℕ} → n ≡ length l → (n ≤ length (starting a l)) × (take n l ≡ take n (starting a l))
+start-front a l e = rw e (by (leb 256 (length l)) refl)
+  where
+    by : (b : Bool) → leb 256 (length l) ≡ b → (length l ≤ length (starting a l)) × (take (length l) l ≡ take (length l) (starting a l))
+    by true q = rw (not-appended a l (leb-true 256 (length l) q)) (omega arith, refl)
+    by false q = rw (appended a l (leb-false 256 (length l) q)) (rw length-append (omega arith), take-length l ∙ sym (take-append-seam l (a ∷ [])))
 
--- the table in front is written: what stood behind it stays
+-- the table in front is written from row k on, where it has the rows before as they stood: what stood behind it stays
 module _ (n : ℕ) (t : List ℕ) (h : HasRows n t) where
   abbrev l : State
   l = unitIn n t .held
@@ -226,23 +233,34 @@ module _ (n : ℕ) (t : List ℕ) (h : HasRows n t) where
   table-in : readTable (take 3074 t) ≡ Held l
   table-in = table-of t (unitIn n t) (h .0)
 
-  front-long : length (take 3074 t) ≡ 3074
-  front-long = ap length (sym (one-form .again (take 3074 t) l table-in)) ∙ one-form .size l (one-form .table (take 3074 t) l table-in .few)
+  few : length l ≤ 256
+  few = one-form .table (take 3074 t) l table-in .few
 
-  marks-stay : drop 3074 t ≡ markOctets (unitIn n t)
-  marks-stay = marks-of t (unitIn n t) (h .0)
-
-  -- by its rows, or by value
-  pub put-rows : (m : State) {t′ : List ℕ} → t′ ≡ tableOut m (take 3074 t) ++ drop 3074 t → t′ ≡ unitOctets (withHeld (λ x. m) (unitIn n t))
+  put-from : (k : ℕ) (m : State) {x : Table} {t′ : List ℕ} → k ≤ length l → k ≤ length m → take k l ≡ take k m → x ≡ tableOf m →
+      t′ ≡ tableOut k (held x) (take 3074 t) ++ drop 3074 t → t′ ≡ unitOctets (withHeld (λ y. m) (unitIn n t))
   unfolding unitOctets
-  put-rows m q = q ∙ rw (eq-eqb (length (take 3074 t)) 3074 front-long, marks-stay)
+  put-from k m {x} {t′} a b e p q =
+      let w : tableOut k (held x) (take 3074 t) ≡ tableOctets m =
+      ap (λ (y : State). tableOut k y (take 3074 t)) (ap held p ∙ held-of m) ∙ ap (tableOut k m) (sym (one-form .again (take 3074 t) l table-in)) ∙ written-back m l k few b a e in
+      q ∙ (λ i. w i ++ marks-of t (unitIn n t) (h .0) i)
 
-  pub put-out : (m : State) {x : Table} {t′ : List ℕ} → x ≡ tableOf m → t′ ≡ tableOut (held x) (take 3074 t) ++ drop 3074 t → t′ ≡ unitOctets (withHeld (λ y. m) (unitIn n t))
-  put-out m e q = put-rows m (q ∙ rw (e, held-of m))
+  -- all of it
+  pub put-out : (m : State) {x : Table} {t′ : List ℕ} → x ≡ tableOf m → t′ ≡ tableOut 0 (held x) (take 3074 t) ++ drop 3074 t → t′ ≡ unitOctets (withHeld (λ y. m) (unitIn n t))
+  put-out m p q = put-from 0 m (omega arith) (omega arith) refl p q
 
-  pub put-more : (a : Association) {t′ : List ℕ} → t′ ≡ rowOut a n (take 3074 t) ++ drop 3074 t → t′ ≡ unitOctets (withHeld (starting a) (unitIn n t))
-  unfolding unitOctets
-  put-more a q = q ∙ (λ i. row-more l (take 3074 t) a table-in (h .1) i ++ marks-stay i)
+  -- the rows by value, and what holds others then
+  held-then : (f : State → State) {x y : Table} → x ≡ tableOf l → y ≡ holding (f (held x)) x → y ≡ tableOf (f l)
+  held-then f {x} {y} p q = q ∙ ap (λ (z : State). holding (f z) x) (ap held p ∙ held-of l) ∙ ap (holding (f l)) p ∙ holding-of (f l) l few
+
+  pub put-stop : (m : MmeId) (c : MceId) {x y : Table} {t′ : List ℕ} → x ≡ tableOf l → y ≡ holding (table.stopping m c (held x)) x →
+      t′ ≡ tableOut 0 (held y) (take 3074 t) ++ drop 3074 t → t′ ≡ unitOctets (withHeld (table.stopping m c) (unitIn n t))
+  put-stop m c p q r = put-out (table.stopping m c l) (held-then (table.stopping m c) p q) r
+
+  pub put-start : (a : Association) {x y : Table} {t′ : List ℕ} → x ≡ tableOf l → y ≡ holding (starting a (held x)) x →
+      t′ ≡ tableOut n (held y) (take 3074 t) ++ drop 3074 t → t′ ≡ unitOctets (withHeld (starting a) (unitIn n t))
+  put-start a p q r =
+      let s = start-front a l (h .1) in
+      put-from n (starting a l) (omega (arith, h .1)) (s .0) (s .1) (held-then (starting a) p q) r
 
 -- the rows by value, and what a reset leaves of them
 pub reset-rows : (l : State) (is : List Item) {t u : Table} → t ≡ tableOf l → u ≡ tableOf (table.without is (held t)) → u ≡ tableOf (table.without is l)

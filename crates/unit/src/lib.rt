@@ -90,15 +90,17 @@ fn finish(change: Change, n: usize, kept: &[u64], unit: &mut [u8], octets: usize
     match change {
         Change::Stays(a) => hand_back(a, octets),
         Change::Starts(a) => {
-            units::row_out(a, n, unit);
+            let t = units::rows_in(unit, n);
+            units::table_out(table::start(t, a), n, unit);
             hand_back(Answer::CarriedOut, octets)
         }
         Change::Stops(m, c) => {
-            units::stop_out(m, c, n, unit);
+            let t = units::rows_in(unit, n);
+            units::table_out(table::stop(t, m, c), 0, unit);
             hand_back(Answer::CarriedOut, octets)
         }
         Change::Empties => {
-            units::table_out(table::empty(), unit);
+            units::table_out(table::empty(), 0, unit);
             hand_back(Answer::CarriedOut, octets)
         }
         Change::Resets => {
@@ -106,7 +108,7 @@ fn finish(change: Change, n: usize, kept: &[u64], unit: &mut [u8], octets: usize
                 return hand_back(Answer::CarriedOut, octets);
             }
             let t = units::rows_in(unit, n);
-            units::table_out(reset::reset(t, kept), unit);
+            units::table_out(reset::reset(t, kept), 0, unit);
             hand_back(Answer::CarriedOut, octets)
         }
     }

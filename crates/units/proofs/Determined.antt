@@ -7,10 +7,6 @@ use Rattle.units.proofs.rows_in.Kinds as rows-in'
 use Rattle.units.proofs.rows_in.Reads as rows-in
 use Rattle.units.proofs.table_out.Kinds as table-out'
 use Rattle.units.proofs.table_out.Reads as table-out
-use Rattle.units.proofs.row_out.Kinds as row-out'
-use Rattle.units.proofs.row_out.Reads as row-out
-use Rattle.units.proofs.stop_out.Kinds as stop-out'
-use Rattle.units.proofs.stop_out.Reads as stop-out
 
 pub look-up-is : Determined look-up'.ps look-up'.r look-up.Asked look-up.Learnt
 look-up-is κs a p x y e f = (e same f) & refl
@@ -19,10 +15,4 @@ pub rows-in-is : Determined rows-in'.ps rows-in'.r rows-in.Asked rows-in.Learnt
 rows-in-is κs a p x y e f = (e same f) & refl
 
 pub table-out-is : Determined table-out'.ps table-out'.r table-out.Asked table-out.Learnt
-table-out-is κs a p x y e f = refl & refl & (e same f) & refl
-
-pub row-out-is : Determined row-out'.ps row-out'.r row-out.Asked row-out.Learnt
-row-out-is κs a p x y e f = refl & refl & refl & (e same f) & refl
-
-pub stop-out-is : Determined stop-out'.ps stop-out'.r stop-out.Asked stop-out.Learnt
-stop-out-is κs a p x y e f = refl & refl & refl & refl & (e same f) & refl
+table-out-is κs a p x y e f = refl & refl & refl & (e same f) & refl

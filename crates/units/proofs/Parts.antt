@@ -1,16 +1,17 @@
 -- Octets are a unit exactly if those in front are a table and those behind are the marks.
 -- Assumes nothing.
-use Prim.Native.Nat.{ℕ, _≤_, _<_}
+use Prim.Native.Nat.{ℕ, min, _≤_}
 use mathlib.Core.Path.{_≡_, refl, ap, sym, _∙_}
 use mathlib.Core.Bool.{Bool, true, false, _&&_}
-use mathlib.Core.List.{List, _++_, append-nil}
+use mathlib.Core.List.{List, _++_}
 use native.Mathlib.Omega.{arith}
-use borrow.Author.Tests.{leb-true, le-leb}
+use borrow.Author.Tests.{leb-true, leb-false, le-leb}
 use lib.Dec.{leb}
 use lib.ListN.{length, take, drop, replicate, length-append, length-drop, take-append-drop, drop-of-length-le}
-use lib.Seq.{take-at, drop-at, take-all}
+use lib.Seq.{take-at, drop-at}
 use Rattle.lists.specs.Lists.{pick}
 use Rattle.lists.proofs.Tests.{and-left, and-right}
+use Rattle.lists.proofs.Slices.{take-within}
 use Rattle.table.specs.Table.{State, distinctHeld}
 use Rattle.lent.specs.Lent.{tableOctets, said, same, Held, NoTable, Lent, readTable}
 use Rattle.lent.specs.Tests.{zeros}
@@ -117,7 +118,18 @@ module _ (s : List ℕ) where
       by (Held l) q = let t = held-table (take 3074 s) q in is-unit (whole (t .0)) ∙ ap (λ (x : State). isUnit (record { held = x })) (t .1)
       by NoTable q = no-unit (λ t. let y : Held (said (take 3074 s)) ≡ NoTable = sym (is-table (take 3074 s) (table-in t)) ∙ q in let o : _≡_ {A = ℕ} 0 1 = cc in omega arith)
 
--- ---- what is done to the table in front of too few octets leaves them
-pub short-front : (f : List ℕ → List ℕ) (s : List ℕ) → length s < 3074 → f s ≡ s → s ≡ onFront f s
-short-front f s h k =
-    sym (ap (λ (x : List ℕ). f x ++ drop 3074 s) (take-all 3074 s (omega arith)) ∙ (ap (λ (x : List ℕ). f s ++ x) (drop-of-length-le s {i = 3074} (omega arith)) ∙ (append-nil (f s) ∙ k)))
+-- ---- the octets in front, or all where they are too few
+module _ (s : List ℕ) {e : ℕ} (q : e ≡ min (length s) 3074) where
+  pub front-take : take e s ≡ take 3074 s
+  front-take = take-within s 3074 (length s) refl {n = e} (omega arith)
+
+  pub front-drop : drop e s ≡ drop 3074 s
+  front-drop = by (leb 3074 (length s)) refl
+    where
+      by : (b : Bool) → leb 3074 (length s) ≡ b → drop e s ≡ drop 3074 s
+      by true t = let h = leb-true 3074 (length s) t in let k : e ≡ 3074 = omega arith in rw k
+      by false t = let h = leb-false 3074 (length s) t in drop-of-length-le s {i = e} (omega arith) ∙ sym (drop-of-length-le s {i = 3074} (omega arith))
+
+  -- what is put there, and what stands behind
+  pub front-put : (f : List ℕ → List ℕ) {x : List ℕ} → x ≡ f (take e s) → x ++ drop e s ≡ onFront f s
+  front-put f p = ap (_++ drop e s) p ∙ (λ i. f (front-take i) ++ front-drop i)

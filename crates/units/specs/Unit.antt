@@ -6,11 +6,9 @@ use mathlib.Core.List.{List, [], _++_}
 use lib.Dec.{leb}
 use lib.ListN.{length, take, drop, replicate}
 use Rattle.lists.specs.Lists.{pick}
-use Rattle.identity.specs.declared.MmeId.{MmeId}
-use Rattle.identity.specs.declared.MceId.{MceId}
 use Rattle.identity.specs.declared.Item.{Item}
-use Rattle.table.specs.Table.{State, standing, stopping, distinctHeld}
-use Rattle.lent.specs.Lent.{tableOctets, said, same, firstRows, tableOut, Good}
+use Rattle.table.specs.Table.{State, standing, distinctHeld}
+use Rattle.lent.specs.Lent.{tableOctets, said, same, Good}
 use Rattle.lent.specs.declared.Looked.{Looked}
 use Rattle.lent.specs.declared.Looked.the-variants as looked
 
@@ -63,7 +61,3 @@ lookedIn i noUnit = looked.NoTable
 -- something done to the table in front
 abbrev pub onFront : (List ℕ → List ℕ) → List ℕ → List ℕ
 onFront f s = f (take 3074 s) ++ drop 3074 s
-
--- a table's octets, when the first n rows were to be written there without what has both identities
-abbrev pub stoppedIn : MmeId → MceId → ℕ → List ℕ → List ℕ
-stoppedIn m c n d = tableOut (stopping m c (firstRows n d)) d

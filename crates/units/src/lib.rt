@@ -1,15 +1,13 @@
 // The unit as 3,088 octets that the host lends: the table in front, the marks behind it. No mark may be set yet.
 ghost use mathlib.Core.Path.{_≡_};
 ghost use lib.ListN.{take};
-ghost use Rattle.table.specs.Table.{held, tableOf, stopping};
-ghost use Rattle.lent.specs.Lent.{firstRows, tableOut, rowOut};
+ghost use Rattle.table.specs.Table.{held, tableOf};
+ghost use Rattle.lent.specs.Lent.{firstRows};
 ghost use Rattle.lent.specs.Tests.{zeros};
-ghost use Rattle.units.specs.Unit.{lookedIn, readUnit, onFront, stoppedIn};
+ghost use Rattle.put_table.specs.Out.{tableOut};
+ghost use Rattle.units.specs.Unit.{lookedIn, readUnit, onFront};
 use identity::Item;
-use identity::MceId;
-use identity::MmeId;
 use lent::Looked;
-use table::Association;
 use table::Table;
 
 // All octets are zero.
@@ -42,38 +40,14 @@ pub fn look_up(unit: &[u8], item: Item) -> Looked
 pub fn rows_in(unit: &[u8], n: usize) -> Table
     ensures { λ r. ⌜ r ≡ tableOf (firstRows n (take 3074 (now (unit .entry)))) ⌝ }
 {
-    if unit.len() < 3074 {
-        return lent::rows_in(unit, n);
-    }
-    lent::rows_in(&unit[..3074], n)
+    let end = numbers::lesser(unit.len(), 3074);
+    lent::rows_in(&unit[..end], n)
 }
 
-// A table in front.
-pub fn table_out(t: Table, unit: &mut [u8])
-    ensures { λ _. ⌜ now (unit .exit) ≡ onFront (tableOut (held t)) (now (unit .entry)) ⌝ }
+// A table in front, from a row on.
+pub fn table_out(t: Table, from: usize, unit: &mut [u8])
+    ensures { λ _. ⌜ now (unit .exit) ≡ onFront (tableOut from (held t)) (now (unit .entry)) ⌝ }
 {
-    if unit.len() < 3074 {
-        return;
-    }
-    put_table::table_out(t, &mut unit[..3074]);
-}
-
-// One more row behind n, and the count.
-pub fn row_out(a: Association, n: usize, unit: &mut [u8])
-    ensures { λ _. ⌜ now (unit .exit) ≡ onFront (rowOut a n) (now (unit .entry)) ⌝ }
-{
-    if unit.len() < 3074 {
-        return;
-    }
-    put_table::row_out(a, n, &mut unit[..3074]);
-}
-
-// The first n rows without what has both identities.
-pub fn stop_out(m: MmeId, c: MceId, n: usize, unit: &mut [u8])
-    ensures { λ _. ⌜ now (unit .exit) ≡ onFront (stoppedIn m c n) (now (unit .entry)) ⌝ }
-{
-    if unit.len() < 3074 {
-        return;
-    }
-    put_table::stop_out(m, c, n, &mut unit[..3074]);
+    let end = numbers::lesser(unit.len(), 3074);
+    put_table::table_out(t, from, &mut unit[..end]);
 }

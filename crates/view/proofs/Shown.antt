@@ -2,7 +2,8 @@
 -- Assumes nothing.
 use Prim.Native.Nat.{ℕ, _≤_, _<_}
 use mathlib.Core.Path.{_≡_, refl, ap, sym, _∙_}
-use mathlib.Core.List.{List}
+use mathlib.Core.Bool.{false}
+use mathlib.Core.List.{List, [], _∷_, map}
 use borrow.Author.Tests.{le-leb}
 use lib.ListN.{length, getD, List·getD-eq-default}
 use lib.Seq.{ext-getD}
@@ -10,12 +11,13 @@ use Rattle.identity.specs.declared.Tmgi.{Tmgi}
 use Rattle.identity.specs.declared.Session.{Session}
 use Rattle.identity.specs.declared.Session.the-variants as session
 use Rattle.table.specs.declared.Association.{Association}
-use Rattle.table.specs.Table.{emptyAssociation}
+use Rattle.lists.specs.Lists.{some}
+use Rattle.table.specs.Table.{State, emptyAssociation}
 use Rattle.lent.specs.Lent.{valueOf}
 use Rattle.units.specs.Unit.{Unit, isUnit, readUnit}
 use Rattle.units.proofs.OneForm.{one-unit}
 use Rattle.console.specs.declared.Record.{Record}
-use Rattle.console.specs.Console.{standsFor, isTable, counted}
+use Rattle.console.specs.Console.{standsFor, isTable, counted, elsewhere, countedRun}
 use Rattle.view.specs.declared.Row.{Row}
 use Rattle.view.specs.View.{isThere, recordOf, rowFor, countFor}
 use Rattle.view.specs.Shows.{Shows}
@@ -39,6 +41,18 @@ count-is : (s : List ℕ) (u : Unit) → readUnit s ≡ isUnit u → (t : Tmgi) 
 unfolding counted isTable
 count-is s u q t = let g = one-unit .good s u q in rw (q, le-leb (length (u .held)) 256 (g .held .few), g .held .apart)
 
+run-is : (l : State) (t : Tmgi) → countedRun t (map recordOf l) ≡ counted t l
+unfolding countedRun
+run-is l t = rw (here l, back l)
+  where
+    here : (l : State) → some elsewhere (map recordOf l) ≡ false
+    here [] = refl
+    here (a ∷ l) = here l
+
+    back : (l : State) → map standsFor (map recordOf l) ≡ l
+    back [] = refl
+    back (a ∷ l) = λ i. stands a i ∷ back l i
+
 pub shows : Shows
 shows = record {
   each = λ u k h. stands (getD (u .held) k emptyAssociation);
@@ -46,4 +60,5 @@ shows = record {
   different = different-are;
   same = same-are;
   count = count-is;
+  run = λ u t. run-is (u .held) t;
 }

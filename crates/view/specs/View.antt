@@ -27,14 +27,15 @@ octetsOf t = record {
   service = record { 0 = t .service .0; 1 = t .service .1; 2 = t .service .2 };
 }
 
--- an association as the host has it: the flag and the Session Identity, or no flag and 0
+-- an association as the host has it, of the one link: the flag and the Session Identity, or no flag and 0
 abbrev pub recordOf : Association → Record
 recordOf a = record {
-  mme = a .mme .0;
-  mce = a .mce .0;
+  mme = a .mme;
+  mce = a .mce;
   tmgi = octetsOf (a .tmgi);
   flag = isThere (a .session);
   session = valueOf (a .session);
+  link = 0;
 }
 
 -- how many are held, and the one at a place: all zeros where none is

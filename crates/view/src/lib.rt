@@ -64,24 +64,27 @@ fn value_of(s: Session) -> u8
     }
 }
 
-// An association as the host has it.
+// An association as the host has it, of the one link.
 fn record_of(a: Association) -> Record
     ensures { λ r. ⌜ r ≡ recordOf a ⌝ }
 {
     let s = a.session;
     let flag = is_there(s);
     let session = value_of(s);
+    let mme = a.mme;
+    let mce = a.mce;
     let plmn = a.tmgi.plmn;
     let service = a.tmgi.service;
     Record {
-        mme: a.mme.0,
-        mce: a.mce.0,
+        mme: mme,
+        mce: mce,
         tmgi: TmgiOctets {
             plmn: Three(plmn.0, plmn.1, plmn.2),
             service: Three(service.0, service.1, service.2),
         },
         flag: flag,
         session: session,
+        link: 0,
     }
 }
 

@@ -7,7 +7,7 @@ use Prim.Native.Nat.{ℕ, min, _+_, _-_, _≤_, _<_, _^_, zero-le}
 use native.Mathlib.Nat.{le-of-lt}
 use native.Mathlib.Numerals.{add-one-le, add-one-dec}
 use mathlib.Core.WellFounded.{WellFounded, InvImage·wf}
-use mathlib.Core.List.{List, [], _∷_, map}
+use mathlib.Core.List.{List, [], _∷_}
 use lib.WfN.{Nat·lt-wfRel}
 use lib.Dec.{lit<}
 use borrow.Author.Tests.{lt-ltb, le-ltb}
@@ -49,8 +49,8 @@ use denote.Triple.Table.{entered, cited}
 use denote.Triple.Walked.{says, Stays, stay-none, stay-none-slice, walkOf, goes-none, goes-none-slice, Walks, ends-at, walked, walk-meets}
 use denote.Triple.Clauses.{ensured, lasts}
 use denote.Exit.{yes}
-use Rattle.console.specs.Console.{tmgiOf, standsFor, counted}
-use Rattle.console.specs.Numbers.{Octets, numberOf, gathered, putIn, countedIn}
+use Rattle.console.specs.Console.{tmgiOf, countedRun}
+use Rattle.console.specs.Numbers.{Octets, numberOf, noMme, noMce, gathered, putIn, countedIn}
 use Rattle.console.specs.declared.Record.{Record}
 use Rattle.console.specs.declared.TmgiOctets.{TmgiOctets}
 use Rattle.console.specs.declared.Numbers.{Numbers}
@@ -118,11 +118,12 @@ P = D.the-row
 -- what `getD` gives past the end: never read
 abbrev none : Record
 none = record {
-  mme = 0;
-  mce = 0;
+  mme = noMme;
+  mce = noMce;
   tmgi = record { plmn = record { 0 = 0; 1 = 0; 2 = 0 }; service = record { 0 = 0; 1 = 0; 2 = 0 } };
   flag = false;
   session = 0;
+  link = 0;
 }
 
 abbrev word : Ty
@@ -179,7 +180,7 @@ module _ {M : Type 1} (𝓤 : URA M) (H : Heap 𝓤) (A : Atoms 𝓤) (W : Given
   abbrev Post : Val → SProp 𝓤
   Post = walkOf 𝓤 H A count.ended stayed (count.clauses 𝓤 H A mem run) .post bound
 
-  exits : (r : Counted) (u : Val) → r ≡ counted (tmgiOf t) (map standsFor ys) → Is P r (u ∷ []) → ent 𝓤 (⋆ 𝓤 H A (‵ (flft κ q) ∷ ‵ (ShrSlice (named 0) κ R .own ref (at .0)) ∷ [])) (Post u)
+  exits : (r : Counted) (u : Val) → r ≡ countedRun (tmgiOf t) ys → Is P r (u ∷ []) → ent 𝓤 (⋆ 𝓤 H A (‵ (flft κ q) ∷ ‵ (ShrSlice (named 0) κ R .own ref (at .0)) ∷ [])) (Post u)
   exits r u e gr =
       qed W (‵ (flft κ q) ∷ ‵ (ShrSlice (named 0) κ R .own ref (at .0)) ∷ []) ∵
       suffices ! _ (ends-at 𝓤 H A count.ended stayed (count.clauses 𝓤 H A mem run) W bound u r (tt, (tt, tt)) (tt, (tt, tt))) $ says ! e $
@@ -302,7 +303,7 @@ module _ {M : Type 1} (𝓤 : URA M) (H : Heap 𝓤) (A : Atoms 𝓤) (W : Given
           stays ! (load ! (from ! (stop !)) (look ! 11 refl)) $
           assigns ! (bin ! (load ! (from ! (stop !)) (look ! 15 refl)) (lit ! tt) (record { fits = offset-fits (x .i) n in-run (gn .1) })) (from ! (stop !)) (init ! 9 refl (tt, record { fits = offset-fits (x .i) n in-run (gn .1) })) $
           assigns ! (bin ! (load ! (from ! (fld ! refl (stop !))) (look-in ! 23 (sub ! 0 refl (whole !)))) (load ! (from ! (stop !)) (look ! 9 refl)) tt) (from ! (stop !)) (init ! 7 refl (tt, tt)) $
-          rewrite ! 7 (λ (p′ : ℕ). ‵ (fat fullShare tyPtr l₉ 0 (vptr b p′))) (sym (place-is 12 o (x .i))) refl $
+          rewrite ! 7 (λ (p′ : ℕ). ‵ (fat fullShare tyPtr l₉ 0 (vptr b p′))) (sym (place-is 14 o (x .i))) refl $
           elem-out ! R (Is R) (shows 𝓤 H A R) vals (LL.tells T.the-type T′.the-laws) q′ ys (x .i) none b o in-run (λ is.
           -- [run[i]; what it owns; the others; what shuts; the fractured borrow; res; the slice's fact; _10; …]: two more in front
           assigns ! (of-opd ! (load ! (from ! (hop ! (look ! 9 refl) (stop !))) (look-raw ! 0 refl))) (from ! (stop !)) (init ! 7 refl (LL.lawful T.the-type T′.the-laws 𝓤 H A W .typed (rowAt (x .i)) _ is .0)) $

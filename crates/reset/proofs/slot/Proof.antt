@@ -1,27 +1,49 @@
 -- By the identities that there are.
 use borrow.Author.Needs.{needs}
-use borrow.Author.Tests.{eq-eqb, ne-eqb}
 use Rattle.reset.specs.Slots.{slotOf}
 use Rattle.reset.proofs.slot.Statement.{statement}
 use Rattle.reset.proofs.slot.Tie as tie
 
-cast-result : tie.Need-cast-result
-cast-result c = search needs
+enum-known-x : tie.Need-enum-known-x
+enum-known-x c = search needs
+
+mme-slot-requires : tie.Need-mme-slot-requires
+mme-slot-requires c κs = search needs
+
+enum-told : tie.Need-enum-told
+enum-told c = search needs
+
+enum-known-y : tie.Need-enum-known-y
+enum-known-y c = search needs
+
+mce-slot-requires : tie.Need-mce-slot-requires
+mce-slot-requires c κs = search needs
+
+enum-told-2 : tie.Need-enum-told-2
+enum-told-2 c = search needs
 
 returns : tie.Need-returns
 unfolding slotOf
-returns c = rw (ne-eqb _ _ (c .if1 .taken))
-
-cast-result-2 : tie.Need-cast-result-2
-cast-result-2 c = search needs
+returns c = rw (c .before .before .x .given .1) (c .mme-slot .ensures)
 
 returns-2 : tie.Need-returns-2
 unfolding slotOf
-returns-2 c = rw (eq-eqb _ _ (c .before .if1 .left), ne-eqb _ _ (c .if2 .taken))
+returns-2 c = rw (c .before .before .before .before .enum-told .given .1, c .before .before .y .given .1) (c .mce-slot .ensures)
 
 returns-3 : tie.Need-returns-3
 unfolding slotOf
-returns-3 c = rw (eq-eqb _ _ (c .before .if1 .left), eq-eqb _ _ (c .if2 .left))
+returns-3 c = rw (c .before .before .enum-told .given .1, c .enum-told2 .given .1)
 
 pub slot-spec : {M : Type 1} → statement M
-slot-spec = tie.close (tie.spec cast-result returns cast-result-2 returns-2 returns-3)
+slot-spec =
+    tie.close
+    (tie.spec
+    enum-known-x
+    mme-slot-requires
+    enum-told
+    enum-known-y
+    mce-slot-requires
+    enum-told-2
+    returns
+    returns-2
+    returns-3)

@@ -2,8 +2,8 @@
 use denote.Ref.{now}
 use mathlib.Core.Path.{refl}
 use mathlib.Core.List.{[]}
-use Rattle.table.specs.Table.{without, stopping}
-use Rattle.unit.proofs.Laws.{put-rows, put-out, put-more, reset-rows, not-touched}
+use Rattle.table.specs.Table.{without}
+use Rattle.unit.proofs.Laws.{put-out, put-start, put-stop, reset-rows, not-touched}
 use borrow.Author.Needs.{needs}
 use Rattle.unit.proofs.finish.Statement.{statement}
 use Rattle.unit.proofs.finish.Tie as tie
@@ -17,8 +17,14 @@ hand-back-requires c κs = search needs
 enum-known-change-2 : tie.Need-enum-known-change-2
 enum-known-change-2 c = search needs
 
-row-out-requires : tie.Need-row-out-requires
-row-out-requires c κs = search needs
+rows-in-requires : tie.Need-rows-in-requires
+rows-in-requires c κs = search needs
+
+start-requires : tie.Need-start-requires
+start-requires c κs = search needs
+
+table-out-requires : tie.Need-table-out-requires
+table-out-requires c κs = search needs
 
 hand-back-requires-2 : tie.Need-hand-back-requires-2
 hand-back-requires-2 c κs = search needs
@@ -26,8 +32,14 @@ hand-back-requires-2 c κs = search needs
 enum-known-change-3 : tie.Need-enum-known-change-3
 enum-known-change-3 c = search needs
 
-stop-out-requires : tie.Need-stop-out-requires
-stop-out-requires c κs = search needs
+rows-in-requires-2 : tie.Need-rows-in-requires-2
+rows-in-requires-2 c κs = search needs
+
+stop-requires : tie.Need-stop-requires
+stop-requires c κs = search needs
+
+table-out-requires-2 : tie.Need-table-out-requires-2
+table-out-requires-2 c κs = search needs
 
 hand-back-requires-3 : tie.Need-hand-back-requires-3
 hand-back-requires-3 c κs = search needs
@@ -38,8 +50,8 @@ enum-told c = search needs
 empty-requires : tie.Need-empty-requires
 empty-requires c κs = search needs
 
-table-out-requires : tie.Need-table-out-requires
-table-out-requires c κs = search needs
+table-out-requires-3 : tie.Need-table-out-requires-3
+table-out-requires-3 c κs = search needs
 
 hand-back-requires-4 : tie.Need-hand-back-requires-4
 hand-back-requires-4 c κs = search needs
@@ -59,14 +71,14 @@ same-length c = search needs
 returns : tie.Need-returns
 returns c = let s = c .before .before .before .before .before .before .before .before in λ w. rw (c .before .before .before .before .enum-told2 .given .1) (record { back = c .hand-back5 .ensures; unit = not-touched (s .args .n) (now (s .args .unit)) (s .pre) (now (s .args .kept)) (c .before .before .names-none .ensures) (c .before .if1 .taken) })
 
-rows-in-requires : tie.Need-rows-in-requires
-rows-in-requires c κs = search needs
+rows-in-requires-3 : tie.Need-rows-in-requires-3
+rows-in-requires-3 c κs = search needs
 
 reset-requires : tie.Need-reset-requires
 reset-requires c κs = search needs
 
-table-out-requires-2 : tie.Need-table-out-requires-2
-table-out-requires-2 c κs = search needs
+table-out-requires-4 : tie.Need-table-out-requires-4
+table-out-requires-4 c κs = search needs
 
 hand-back-requires-6 : tie.Need-hand-back-requires-6
 hand-back-requires-6 c κs = search needs
@@ -78,25 +90,25 @@ same-length-2 : tie.Need-same-length-2
 same-length-2 c = search needs
 
 returns-3 : tie.Need-returns-3
-returns-3 c = let s = c .before .before .before .before .before .before .before .before .before .before in λ w. rw (c .before .before .before .before .before .before .change2 .given .1) (record { back = c .hand-back2 .ensures; unit = put-more (s .args .n) (now (s .args .unit)) (s .pre) _ (c .before .before .before .row-out .ensures) })
+returns-3 c = let s = c .before .before .before .before .before .before .before .before .before .before .before .before .before in λ w. rw (c .before .before .before .before .before .before .before .before .before .change2 .given .1) (record { back = c .hand-back2 .ensures; unit = put-start (s .args .n) (now (s .args .unit)) (s .pre) _ (c .before .before .before .before .before .before .rows-in .ensures) (c .before .before .before .before .before .start .ensures) (c .before .before .before .table-out .ensures) })
 
 same-length-3 : tie.Need-same-length-3
 same-length-3 c = search needs
 
 returns-4 : tie.Need-returns-4
-returns-4 c = let s = c .before .before .before .before .before .before .before .before .before .before in λ w. rw (c .before .before .before .before .before .before .change3 .given .1) (record { back = c .hand-back3 .ensures; unit = put-rows (s .args .n) (now (s .args .unit)) (s .pre) (stopping _ _ _) (c .before .before .before .stop-out .ensures) })
+returns-4 c = let s = c .before .before .before .before .before .before .before .before .before .before .before .before .before in λ w. rw (c .before .before .before .before .before .before .before .before .before .change3 .given .1) (record { back = c .hand-back3 .ensures; unit = put-stop (s .args .n) (now (s .args .unit)) (s .pre) _ _ (c .before .before .before .before .before .before .rows-in2 .ensures) (c .before .before .before .before .before .stop .ensures) (c .before .before .before .table-out2 .ensures) })
 
 same-length-4 : tie.Need-same-length-4
 same-length-4 c = search needs
 
 returns-5 : tie.Need-returns-5
-returns-5 c = let s = c .before .before .before .before .before .before .before .before .before .before in λ w. rw (c .before .before .before .before .before .before .enum-told .given .1) (record { back = c .hand-back4 .ensures; unit = put-out (s .args .n) (now (s .args .unit)) (s .pre) [] (c .before .before .before .before .before .empty .ensures) (c .before .before .before .table-out .ensures) })
+returns-5 c = let s = c .before .before .before .before .before .before .before .before .before .before in λ w. rw (c .before .before .before .before .before .before .enum-told .given .1) (record { back = c .hand-back4 .ensures; unit = put-out (s .args .n) (now (s .args .unit)) (s .pre) [] (c .before .before .before .before .before .empty .ensures) (c .before .before .before .table-out3 .ensures) })
 
 same-length-5 : tie.Need-same-length-5
 same-length-5 c = search needs
 
 returns-6 : tie.Need-returns-6
-returns-6 c = let s = c .before .before .before .before .before .before .before .before .before .before .before .before .before .before .before in λ w. rw (c .before .before .before .before .before .before .before .before .before .before .before .enum-told2 .given .1) (record { back = c .hand-back6 .ensures; unit = put-out (s .args .n) (now (s .args .unit)) (s .pre) (without _ _) (reset-rows _ _ (c .before .before .before .before .before .before .rows-in .ensures) (c .before .before .before .before .before .reset .ensures)) (c .before .before .before .table-out2 .ensures) })
+returns-6 c = let s = c .before .before .before .before .before .before .before .before .before .before .before .before .before .before .before in λ w. rw (c .before .before .before .before .before .before .before .before .before .before .before .enum-told2 .given .1) (record { back = c .hand-back6 .ensures; unit = put-out (s .args .n) (now (s .args .unit)) (s .pre) (without _ _) (reset-rows _ _ (c .before .before .before .before .before .before .rows-in3 .ensures) (c .before .before .before .before .before .reset .ensures)) (c .before .before .before .table-out4 .ensures) })
 
 pub finish-spec : {M : Type 1} → statement M
 finish-spec =
@@ -105,23 +117,27 @@ finish-spec =
     enum-known-change
     hand-back-requires
     enum-known-change-2
-    row-out-requires
+    rows-in-requires
+    start-requires
+    table-out-requires
     hand-back-requires-2
     enum-known-change-3
-    stop-out-requires
+    rows-in-requires-2
+    stop-requires
+    table-out-requires-2
     hand-back-requires-3
     enum-told
     empty-requires
-    table-out-requires
+    table-out-requires-3
     hand-back-requires-4
     enum-told-2
     names-none-requires
     hand-back-requires-5
     same-length
     returns
-    rows-in-requires
+    rows-in-requires-3
     reset-requires
-    table-out-requires-2
+    table-out-requires-4
     hand-back-requires-6
     returns-2
     same-length-2

@@ -1,31 +1,28 @@
 -- The table in front is all of too few octets.
-use mathlib.Core.Path.{_∙_, sym, ap}
+use mathlib.Core.Path.{sym, ap, _∙_}
 use mathlib.Core.List.{List}
 use Prim.Native.Nat.{ℕ}
 use native.Mathlib.Omega.{arith}
-use lib.Seq.{length-take-le, take-all}
+use borrow.Author.Needs.{needs}
+use lib.Seq.{length-take-le}
 use Rattle.table.specs.Table.{tableOf}
 use Rattle.lent.specs.Lent.{firstRows}
-use borrow.Author.Needs.{needs}
+use Rattle.units.proofs.Parts.{front-take}
 use Rattle.units.proofs.rows_in.Statement.{statement}
 use Rattle.units.proofs.rows_in.Tie as tie
+
+lesser-requires : tie.Need-lesser-requires
+lesser-requires c κs = search needs
+
+slice-aggregate-rows-in : tie.Need-slice-aggregate-rows-in
+slice-aggregate-rows-in c = sym (length-take-le (c .before .lesser .result) (c .before .before .before .args .unit .now) (omega arith))
 
 rows-in-requires : tie.Need-rows-in-requires
 rows-in-requires c κs = search needs
 
 returns : tie.Need-returns
-returns c = let s = c .before .before .before .args .unit .now in c .rows-in .ensures ∙ ap (λ (x : List ℕ). tableOf (firstRows (c .before .before .before .args .n) x)) (sym (take-all 3074 s (omega arith)))
-
-slice-aggregate-rows-in : tie.Need-slice-aggregate-rows-in
-slice-aggregate-rows-in c = sym (length-take-le 3074 (c .before .before .before .args .unit .now) (c .before .if1 .left))
-
-rows-in-requires-2 : tie.Need-rows-in-requires-2
-rows-in-requires-2 c κs = search needs
-
-returns-2 : tie.Need-returns-2
-returns-2 c = search needs
+returns c = c .rows-in .ensures ∙ ap (λ (s : List ℕ). tableOf (firstRows (c .before .before .before .before .args .n) s)) (front-take (c .before .before .before .before .args .unit .now) (c .before .before .lesser .ensures))
 
 pub rows-in-spec : {M : Type 1} → statement M
 rows-in-spec =
-    tie.close
-    (tie.spec rows-in-requires returns slice-aggregate-rows-in rows-in-requires-2 returns-2)
+    tie.close (tie.spec lesser-requires slice-aggregate-rows-in rows-in-requires returns)

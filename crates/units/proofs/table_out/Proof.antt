@@ -1,26 +1,22 @@
 -- What is put in front leaves what stands behind; too few octets stay.
-use mathlib.Core.Path.{sym, ap}
-use mathlib.Core.List.{List, _++_}
-use Prim.Native.Nat.{ℕ}
+use mathlib.Core.Path.{sym}
 use native.Mathlib.Omega.{arith}
-use borrow.Author.Tests.{ne-eqb}
-use lib.ListN.{length, drop}
+use borrow.Author.Needs.{needs}
 use lib.Seq.{length-take-le}
 use Rattle.table.specs.Table.{held}
-use Rattle.lent.specs.Lent.{tableOut}
-use Rattle.units.proofs.Parts.{short-front}
-use borrow.Author.Needs.{needs}
+use Rattle.put_table.specs.Out.{tableOut}
+use Rattle.units.proofs.Parts.{front-put}
 use Rattle.units.proofs.table_out.Statement.{statement}
 use Rattle.units.proofs.table_out.Tie as tie
 
-returns : tie.Need-returns
-returns c = short-front (tableOut (held (c .before .before .args .t))) (c .before .before .args .unit .now) (c .if1 .taken) (rw (ne-eqb (length (c .before .before .args .unit .now)) 3074 (λ e. omega arith)))
+lesser-requires : tie.Need-lesser-requires
+lesser-requires c κs = search needs
 
 slice-relend-prefix-table-out : tie.Need-slice-relend-prefix-table-out
 slice-relend-prefix-table-out c = search needs
 
 slice-aggregate-table-out : tie.Need-slice-aggregate-table-out
-slice-aggregate-table-out c = sym (length-take-le 3074 (c .before .before .before .args .unit .now) (c .before .if1 .left))
+slice-aggregate-table-out c = sym (length-take-le (c .before .lesser .result) (c .before .before .before .args .unit .now) (omega arith))
 
 table-out-requires : tie.Need-table-out-requires
 table-out-requires c κs = search needs
@@ -28,16 +24,16 @@ table-out-requires c κs = search needs
 same-length : tie.Need-same-length
 same-length c = search needs
 
-returns-2 : tie.Need-returns-2
-returns-2 c = ap (λ (x : List ℕ). x ++ drop 3074 (c .before .before .before .before .before .before .args .unit .now)) (c .before .before .table-out .ensures .1)
+returns : tie.Need-returns
+returns c = let a = c .before .before .before .before .before .before .args in front-put (a .unit .now) (c .before .before .before .before .lesser .ensures) (tableOut (a .from) (held (a .t))) (c .before .before .table-out .ensures)
 
 pub table-out-spec : {M : Type 1} → statement M
 table-out-spec =
     tie.close
     (tie.spec
-    returns
+    lesser-requires
     slice-relend-prefix-table-out
     slice-aggregate-table-out
     table-out-requires
     same-length
-    returns-2)
+    returns)
