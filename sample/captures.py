@@ -8,6 +8,7 @@ from encoder import *
 def entry(offered, octets): return two(offered) + two(len(octets)) + octets
 RESET = reset([(1, 2)])
 INDICATION = message(0, 2, IGNORE, [element(9, IGNORE, b'\x42')])
+REQUEST = set_up(b'\0\1\2\3\xaa\xbb', b'North Hall, plate 7', b'\1\0\1')
 
 class Seeded:
     def __init__(self, seed): self.x = seed
@@ -27,7 +28,8 @@ def evening(seed):
         if k < 5: return start(identity(), *([element(3, IGNORE, bytes([r.below(256)]))] if r.below(2) else []))
         if k < 8: return stop(identity(), identity())
         if k < 10: return reset([one() for _ in range(1 + r.below(8))])
-        return r.some([INDICATION, start(identity(), *unknown(r.below(3))), stop(identity(), identity(), *unknown(r.below(3))), message(1, r.below(5), REJECT, [])])
+        # of the messages of a setup nothing is asked in a capture, where none is open
+        return r.some([INDICATION, REQUEST, SET_UP, set_up_failed(time_to_wait(r.below(6))), start(identity(), *unknown(r.below(3))), stop(identity(), identity(), *unknown(r.below(3))), message(1, r.below(5), REJECT, [])])
     def broken(octets):
         k = r.below(4)
         at = r.below(len(octets))
@@ -74,6 +76,8 @@ captures = {
 messages = [
     start(1), start(1, element(3, IGNORE, b'\7')), stop(1, 2), WHOLE, RESET, reset([(1, None), (None, 2), (None, None)]), INDICATION,
     started(1, 2), failed(1, 0x03), stopped(1, 2), acknowledged([]), acknowledged([(1, 2)] * 256),
+    REQUEST, set_up(b'\1', None, b'\2'), set_up(b'\1', b'N' * 150, b'\2'), SET_UP, set_up_failed(), set_up_failed(time_to_wait(5)),
+    set_up(b'\1', b'plate @ 7', b'\2'), set_up(b'\1', b'N' * 151, b'\2'), set_up_failed(time_to_wait(6)),
     message(0, 1, NOTIFY, [mme(1, REJECT), mce(2, REJECT)]),
     stop(1, 2, element(99, NOTIFY, b'\0')),
     stop(1, 2, element(99, REJECT, b'\0')),

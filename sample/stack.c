@@ -1,6 +1,6 @@
 /*
  * Calls at the edges of what may be handed over, and how much stack calls need: a capture from standard input is played on a painted stack, and each of
- * its messages is read and written again. Writes the deepest of each call in octets, from the caller's frame on. Status 1 if a call answers otherwise
+ * its messages is read, written again and shown. Writes the deepest of each call in octets, from the caller's frame on. Status 1 if a call answers otherwise
  * than it must, or needs more than the header says.
  */
 #include "m3ap.h"
@@ -17,7 +17,7 @@ static uint8_t room[M3AP_MESSAGE_OCTETS];
 static uint8_t message[65535];
 static struct m3ap_record record;
 static struct m3ap_association run[257];
-static size_t deepest_call, deepest_read, deepest_write, deepest_count, deepest_row, deepest_count_in, deepest_marks;
+static size_t deepest_call, deepest_read, deepest_write, deepest_setup, deepest_shown, deepest_count, deepest_row, deepest_count_in, deepest_marks;
 static int wrong;
 
 /* The painting leaves the frames that are in use alone. */
@@ -66,6 +66,25 @@ __attribute__((noinline)) static struct m3ap_answer written(const struct m3ap_re
     return a;
 }
 
+__attribute__((noinline)) static struct m3ap_answer set_up(uint8_t *u, size_t u_len, const struct m3ap_record *r, size_t r_len, const uint8_t *v, size_t v_len,
+                                                           uint8_t *o, size_t o_len)
+{
+    const uint8_t *here = __builtin_frame_address(0);
+    paint(here);
+    struct m3ap_answer a = m3ap_setup(u, u_len, r, r_len, v, v_len, o, o_len);
+    look(here, &deepest_setup);
+    return a;
+}
+
+__attribute__((noinline)) static struct m3ap_part shown(const uint8_t *q, size_t q_len, const uint8_t *l, size_t l_len)
+{
+    const uint8_t *here = __builtin_frame_address(0);
+    paint(here);
+    struct m3ap_part p = m3ap_shown(q, q_len, l, l_len);
+    look(here, &deepest_shown);
+    return p;
+}
+
 __attribute__((noinline)) static struct m3ap_counted counted(size_t length)
 {
     const uint8_t *here = __builtin_frame_address(0);
@@ -111,6 +130,15 @@ static void expect(const char *what, struct m3ap_answer a, uint32_t answer, uint
     wrong = 1;
 }
 
+static void expect_part(const char *what, struct m3ap_part p, uint32_t of_label, uint32_t from, uint32_t octets)
+{
+    if (p.of_label == of_label && p.from == from && p.octets == octets)
+        return;
+    printf("%s: of_label=%u from=%u octets=%u, not %u %u %u\n", what, (unsigned)p.of_label, (unsigned)p.from, (unsigned)p.octets, (unsigned)of_label,
+           (unsigned)from, (unsigned)octets);
+    wrong = 1;
+}
+
 static void expect_octets(const char *what, const uint8_t *is, const uint8_t *must, size_t n)
 {
     if (memcmp(is, must, n) == 0)
@@ -144,9 +172,9 @@ static void call_edges(void)
     expect("no unit", called(NULL, 0, reset, sizeof reset, 0, room, sizeof room), M3AP_NO_UNIT, 0, 0);
     expect("unit cut", called(other, sizeof other - 1, reset, sizeof reset, 0, room, sizeof room), M3AP_NO_UNIT, 0, 0);
     expect("table alone", called(other, 3074, reset, sizeof reset, 0, room, sizeof room), M3AP_NO_UNIT, 0, 0);
-    /* No mark may be set. */
+    /* No mark may be set, but that of a setup request, which may be 1. */
     for (size_t at = 3074; at < sizeof other; at++) {
-        other[at] = 1;
+        other[at] = at == 3076 ? 2 : 1;
         expect("a mark set", called(other, sizeof other, reset, sizeof reset, 0, room, sizeof room), M3AP_NO_UNIT, 0, 0);
         other[at] = 0;
     }
@@ -196,6 +224,43 @@ static void record_edges(void)
     expect_octets("write, room that is kept", room, (const uint8_t[]){0xEE, 0xEE}, 2);
     expect("write", written(&record, sizeof record, NULL, 0, room, sizeof reset), M3AP_CARRIED_OUT, 0, sizeof reset);
     expect_octets("write", room, reset, sizeof reset);
+}
+
+/* On a unit without an open request, whose table stays as it is. */
+static void setup_edges(uint8_t *u)
+{
+    /* M3 SETUP REQUEST with the name AB and carried values of one octet; M3 SETUP FAILURE with a Time to Wait of 5 seconds. */
+    static const uint8_t request[] = {0, 7, 0, 21, 0, 0, 3, 0, 18, 0, 1, 0xaa, 0, 19, 64, 4, 0, 128, 'A', 'B', 0, 20, 0, 1, 0xaa};
+    static const uint8_t failure[] = {64, 7, 0, 13, 0, 0, 2, 0, 9, 64, 1, 0x42, 0, 12, 64, 1, 32};
+    static const uint8_t label[151] = {0};
+    uint8_t wrong_name[sizeof request];
+
+    memcpy(wrong_name, request, sizeof request);
+    wrong_name[19] = '@';
+    expect("read, setup", was_read(request, sizeof request, &record, sizeof record), M3AP_CARRIED_OUT, 0, M3AP_RECORD_OCTETS);
+    memset(room, 0xEE, sizeof room);
+    expect("write, no such name", written(&record, sizeof record, wrong_name, sizeof wrong_name, room, sizeof room), M3AP_NAME, 0, 0);
+    expect("setup, no unit", set_up(NULL, 0, &record, sizeof record, wrong_name, sizeof wrong_name, room, sizeof room), M3AP_NO_UNIT, 0, 0);
+    expect("setup, no such name", set_up(u, M3AP_UNIT_OCTETS, &record, sizeof record, wrong_name, sizeof wrong_name, room, sizeof room), M3AP_NAME, 0, 0);
+    expect("setup, no values", set_up(u, M3AP_UNIT_OCTETS, &record, sizeof record, NULL, 0, room, sizeof room), M3AP_NAME, 0, 0);
+    expect("setup, no record", set_up(u, M3AP_UNIT_OCTETS, NULL, 0, request, sizeof request, room, sizeof room), M3AP_NOT_WRITTEN, 0, 0);
+    expect("setup, no room", set_up(u, M3AP_UNIT_OCTETS, &record, sizeof record, request, sizeof request, NULL, 0), M3AP_NO_ROOM, 0, 0);
+    expect("setup, room of 24", set_up(u, M3AP_UNIT_OCTETS, &record, sizeof record, request, sizeof request, room, 24), M3AP_NO_ROOM, 0, 0);
+    expect_octets("setup, room that is kept", room, (const uint8_t[]){0xEE, 0xEE}, 2);
+    expect("failure, none open", called(u, M3AP_UNIT_OCTETS, failure, sizeof failure, 0, room, sizeof room), M3AP_NONE_OPEN, 0, 0);
+    expect("setup", set_up(u, M3AP_UNIT_OCTETS, &record, sizeof record, request, sizeof request, room, sizeof room), M3AP_CARRIED_OUT, 0, sizeof request);
+    expect_octets("setup", room, request, sizeof request);
+    expect_octets("setup, behind it", room + sizeof request, (const uint8_t[]){0xEE}, 1);
+    expect("setup, one is open", set_up(u, M3AP_UNIT_OCTETS, &record, sizeof record, request, sizeof request, room, sizeof room), M3AP_ALREADY_OPEN, 0, 0);
+    if (marks(u, M3AP_UNIT_OCTETS).open != 1 || called(u, M3AP_UNIT_OCTETS, failure, sizeof failure, 0, NULL, 0).wait != 5 ||
+        marks(u, M3AP_UNIT_OCTETS).open != 0) {
+        printf("failure: not closed, or another wait\n");
+        wrong = 1;
+    }
+    expect_part("shown, name", shown(request, sizeof request, label, sizeof label), 0, 18, 2);
+    expect_part("shown, no such name", shown(wrong_name, sizeof wrong_name, label, 5), 1, 0, 5);
+    expect_part("shown, no request", shown(NULL, 0, label, sizeof label), 1, 0, 150);
+    expect_part("shown, no label", shown(NULL, 0, NULL, 0), 1, 0, 0);
 }
 
 static void count_edges(void)
@@ -260,6 +325,8 @@ static void view_edges(void)
         if (k < 3 || k > 254)
             expect_view("unit", other, sizeof other, M3AP_CARRIED_OUT, k);
     }
+    setup_edges(other);
+    expect_view("unit after a setup that failed", other, sizeof other, M3AP_CARRIED_OUT, 256);
     expect_view("unit cut", other, sizeof other - 1, M3AP_NO_UNIT, 0);
     expect_view("table alone", other, 3074, M3AP_NO_UNIT, 0);
     other[3087] = 1;
@@ -281,6 +348,7 @@ static void *play(void *unused)
     (void)unused;
     call_edges();
     record_edges();
+    setup_edges(unit);
     count_edges();
     view_edges();
     while (fread(head, 1, 4, stdin) == 4) {
@@ -290,6 +358,7 @@ static void *play(void *unused)
         called(unit, sizeof unit, message, length, (uint16_t)(head[0] * 256u + head[1]), room, sizeof room);
         if (was_read(message, length, &record, sizeof record).octets != 0)
             written(&record, sizeof record, message, length, room, sizeof room);
+        shown(message, length, NULL, 0);
     }
     return NULL;
 }
@@ -299,15 +368,17 @@ int main(void)
     pthread_t thread;
     pthread_attr_t how;
 
-    if (m3ap_version() != M3AP_VERSION || sizeof(struct m3ap_answer) != 16 || sizeof(struct m3ap_record) != M3AP_RECORD_OCTETS ||
+    if (m3ap_version() != M3AP_VERSION || sizeof(struct m3ap_answer) != 16 || sizeof(struct m3ap_part) != 12 || sizeof(struct m3ap_record) != M3AP_RECORD_OCTETS ||
         sizeof(struct m3ap_association) != 14 || sizeof(struct m3ap_row) != 24 || sizeof(struct m3ap_marks) != 36 || pthread_attr_init(&how) != 0 ||
         pthread_attr_setstack(&how, stack, sizeof stack) != 0 || pthread_create(&thread, &how, play, NULL) != 0 || pthread_join(thread, NULL) != 0)
         return 2;
-    printf("stack: call=%zu read=%zu write=%zu count=%zu row=%zu count_in=%zu marks=%zu\n", deepest_call, deepest_read, deepest_write, deepest_count,
-           deepest_row, deepest_count_in, deepest_marks);
+    printf("stack: call=%zu read=%zu write=%zu setup=%zu shown=%zu count=%zu row=%zu count_in=%zu marks=%zu\n", deepest_call, deepest_read, deepest_write,
+           deepest_setup, deepest_shown, deepest_count, deepest_row, deepest_count_in, deepest_marks);
     expect_stack("call", deepest_call);
     expect_stack("read", deepest_read);
     expect_stack("write", deepest_write);
+    expect_stack("setup", deepest_setup);
+    expect_stack("shown", deepest_shown);
     expect_stack("count", deepest_count);
     expect_stack("row", deepest_row);
     expect_stack("count_in", deepest_count_in);

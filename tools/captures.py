@@ -1,6 +1,6 @@
 #!/usr/bin/env python3
 """captures.py: writes crates/capture/stdin (a capture: entries of offer, length, message) and crates/capture/stdout (what must be written of it).
-captures.py N STDIN STDOUT: the same of an evening of N entries. Knows 01's rules for the few messages it uses."""
+captures.py N STDIN STDOUT: the same of an evening of N entries. Knows the rules for the few messages it uses."""
 import sys
 from encoder import *
 
@@ -44,6 +44,11 @@ class Capture:
     def whole(self): self.entry(0, WHOLE, self.unit.whole())
     def long(self, n): self.entry(0, start(1) + bytes(n - len(start(1))), (1, b''))
     def empty(self): self.entry(0, b'', (2, b''))
+    def setups(self):
+        """The answers to a setup, whatever is inside: nothing opens a request in a capture. The request asks for nothing."""
+        for octets in (SET_UP, set_up_failed(), set_up_failed(time_to_wait(5)), message(1, 7, REJECT, [element(99, REJECT, b'\0')]), SET_UP[:-1] + b'\1'):
+            self.entry(5, octets, (14, b''))
+        self.entry(5, set_up(b'\1', b'North Hall, plate 7', b'\2'), (4, b''))
 
     def write(self, to, said, cut=b''):
         open(to, 'wb').write(b''.join(self.octets) + cut)
@@ -57,6 +62,7 @@ def bench():
     c.reset([(1, 2)])
     c.start(1, 3)
     c.reset([(1, 2)])
+    c.setups()
     c.empty()
     # the longest that is read, of which only a start is there, and one octet more; the longest entry of all
     c.entry(7, start(2) + bytes(8192 - len(start(2))), (2, b''))
@@ -73,6 +79,7 @@ def bench():
     # up to 256 held, and past it; more entries than are played at a time
     for k in range(300): c.start(1000 + k, 2000 + k)
     for k in range(0, 300, 3): c.stop(1000 + k, 2000 + k)
+    c.setups()
     c.reset([(1000 + k, None) if k % 2 else (None, 2000 + k) for k in range(1, 300, 4)])
     c.reset([(None, None)])
     for k in range(900): c.start(k % 7, 5000 + k % 11); c.stop(k % 5, 5000 + k % 3)

@@ -1,4 +1,9 @@
-"""The messages that calls.py, captures.py and sample/captures.py use, encoded by hand from 000 and X.691."""
+"""The messages that calls.py, captures.py and sample/captures.py use, encoded by hand from 000 and X.691; and the octets that a text of cases says."""
+def octets_of(text):
+    """Hexadecimal, with blanks between or without; '41*150' is 150 such octets, '.' none."""
+    words = [w.partition('*') for w in text.split() if w != '.']
+    return b''.join(bytes.fromhex(w) * int(times or 1) for w, _, times in words)
+
 def two(n): return n.to_bytes(2, 'big')
 def length(n): return bytes([n]) if n < 128 else bytes([0x80 | n >> 8, n & 255])
 def element(id, crit, value): return two(id) + bytes([crit << 6]) + length(len(value)) + value
@@ -20,3 +25,11 @@ def stopped(m, c): return message(1, 1, REJECT, [mme(m, IGNORE), mce(c, IGNORE)]
 def reset(list): return message(0, 4, REJECT, [element(9, IGNORE, b'\x42'), element(13, REJECT, b'\x40' + items(list, REJECT))])
 def acknowledged(list): return message(1, 4, REJECT, [element(15, IGNORE, items(list, IGNORE))] if list else [])
 WHOLE = message(0, 4, REJECT, [element(9, IGNORE, b'\x42'), element(13, REJECT, b'\0')])
+
+def set_up(global_id, name, areas):
+    """M3 SETUP REQUEST; name is None where there is none."""
+    named = [] if name is None else [element(19, IGNORE, two(len(name) - 1 << 7) + name)]
+    return message(0, 7, REJECT, [element(18, REJECT, global_id), *named, element(20, REJECT, areas)])
+def set_up_failed(*more): return message(2, 7, REJECT, [element(9, IGNORE, b'\x42'), *more])
+def time_to_wait(n): return element(12, IGNORE, bytes([n << 4]))
+SET_UP = message(1, 7, REJECT, [])

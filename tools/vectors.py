@@ -2,9 +2,10 @@
 """vectors.py FILE..: writes crates/vectors/stdin, the entries that crates/vectors/src/main.rt describes, and crates/vectors/stdout, a line for each:
 what must be read of each message, as the octets of a record (docs/LAYOUTS.md), and for those that another program encoded, the same octets written again.
 A FILE is one of messages that another program encoded, one JSON object a line (hex, name, criticality, octets, the elements' meanings),
-or a text with lines 'HEX => answer=N offset=K', or '=> answer=N NAME frame=C ID:VALUE .. noted=[..]' with what was read ('read' may stand in front)."""
+or a text with lines 'HEX => answer=N offset=K', or '=> answer=N NAME frame=C ID:VALUE .. noted=[..]' with what was read ('read' may stand in front),
+or 'write HEX => answer=N octets=HEX': what was read, written again."""
 import json, re, sys
-from encoder import two
+from encoder import octets_of, two
 
 # The messages in the order of their numbers, from 1, and the ids of the rows of each table.
 ROWS = {
@@ -16,6 +17,9 @@ ROWS = {
     'Reset': (9, 13),
     'ResetAcknowledge': (15, 8),
     'ErrorIndication': (0, 1, 9, 8),
+    'SetupRequest': (18, 19, 20),
+    'SetupResponse': (8,),
+    'SetupFailure': (9, 12, 8),
 }
 
 def maybe(v, octets):
@@ -48,7 +52,12 @@ def value(e, s):
     if 'diagnostics' in e:
         d = e['diagnostics']
         return b''.join(maybe(d.get(k), 1) for k in ('procedure', 'trigger', 'criticality')) + bytes([bool(d.get('list'))])
+    if 'wait' in e: return bytes([e['wait']])
     at, n = places(s)[e['id']]
+    if 'text' in e:
+        # the characters, behind the two octets in which their number lies
+        assert s[at + 2:at + n] == e['text'].encode()
+        return two(at + 2) + two(n - 2)
     assert s[at:at + n].hex() == e['hex']
     return two(at) + two(n)
 
@@ -76,7 +85,7 @@ def encoded(m, s):
     """The line of a message that another program encoded."""
     if m['octets'] > 8192:
         return line('answer=1', NONE, [])
-    return line('answer=0', record(m['name'].removeprefix('MBMSSession'), m['criticality'], m['elements'], s), [])
+    return line('answer=0', record(m['name'].removeprefix('MBMSSession').removeprefix('M3'), m['criticality'], m['elements'], s), [])
 
 def number(x):
     return None if x == '-' else int(x)
@@ -95,6 +104,8 @@ def element(id, text):
     if id == 2: e['tmgi'] = text.split('.')
     if id == 3: e['session'] = int(text, 16)
     if id == 9: e['cause'] = [int(n) for n in text.split('.')]
+    if id == 12: e['wait'] = int(text)
+    if id == 19: e['text'] = bytes.fromhex(text).decode()
     if id == 13: e['reset'] = 'all' if text == 'all' else pairs(text)
     if id == 15: e['ack'] = pairs(text)
     if id == 8:
@@ -124,6 +135,8 @@ with open('crates/vectors/stdin', 'wb') as data, open('crates/vectors/stdout', '
                 add(0, octets, encoded(m, octets))
                 if m['octets'] <= 8192:
                     add(1, octets, 'answer=0 ' + octets.hex())
-            elif m := re.match(r'(?:\s*read ?)?([0-9a-f ]*) => (.*)', text):
-                octets = bytes.fromhex(m.group(1))
+            elif m := re.match(r'(?:\s*read ?)?([0-9a-f* ]*) => (.*)', text):
+                octets = octets_of(m.group(1))
                 add(0, octets, read(m.group(2), octets))
+            elif m := re.match(r'write ([0-9a-f ]*) => (.*) octets=(.*)', text):
+                add(1, octets_of(m.group(1)), f'{m.group(2)} {m.group(3)}')

@@ -1,9 +1,9 @@
 //! Both programs on the same seeded cases, octet for octet.
-use crate::layout::{record_octets, record_of, Lists, ENTRIES, ENTRY, ENTRY_COUNT, ITEM, ITEMS, ITEM_COUNT, OCTETS, SLOT, SLOTS};
-use crate::ours::{self, Answer, Association, Counted, Marks, Row, Tmgi};
-use second::make::{Calls, Reads, Rng, Step};
+use crate::ours::{self, Answer, Association, Counted, Marks, Part, Row, Tmgi};
+use second::layout::{read_record, write_record, RECORD_OCTETS};
+use second::make::{Calls, Reads, Records, Rng, Step};
 use second::text::hex;
-use second::{Fault, Read, Record, Refused, LIMIT, ROW_OCTETS, TABLE_OCTETS, UNIT_OCTETS};
+use second::{Done, Kind as Message, LIMIT, MOST, OPEN_AT, ROW_OCTETS, TABLE_OCTETS, UNIT_OCTETS};
 use std::collections::BTreeMap;
 use std::fmt::Debug;
 
@@ -15,7 +15,19 @@ const BEHIND: usize = 16;
 const LARGE: usize = LIMIT + 100;
 
 /// `M3AP_VERSION` of the header that `ours` is written from.
-const VERSION: u32 = 2;
+const VERSION: u32 = 3;
+
+// Where things stand in a record (`struct m3ap_record`): slots, the number of items and they, the number of entries and they.
+const SLOTS: usize = 2;
+const SLOT: usize = 8;
+const ITEM_COUNT: usize = SLOTS + 12 * SLOT;
+const ITEMS: usize = ITEM_COUNT + 2;
+const ITEM: usize = 6;
+const ENTRY_COUNT: usize = ITEMS + MOST * ITEM;
+const ENTRIES: usize = ENTRY_COUNT + 2;
+const ENTRY: usize = 4;
+/// The slot of an M3 SETUP REQUEST's name.
+const NAME: usize = SLOTS + SLOT;
 
 /// How many cases of a kind were equal, and with which answers.
 struct Kind {
@@ -50,14 +62,14 @@ impl Kind {
         Err(text)
     }
 
-    /// One case of what is said of a unit, which is asked for by `of`.
-    fn said<T: PartialEq + Debug>(&mut self, answer: u32, ours: T, second: T, unit: &[u8], of: &dyn Debug) -> Result<(), String> {
+    /// One case of what is said of octets, a unit or a request, which is asked for by `of`.
+    fn said<T: PartialEq + Debug>(&mut self, answer: u32, ours: T, second: T, octets: &[u8], of: &dyn Debug) -> Result<(), String> {
         if ours == second {
             *self.answers.entry(answer).or_default() += 1;
             return Ok(());
         }
         let at = self.cases() + 1;
-        Err(format!("{}: case {at} differs\nours   {ours:?}\nsecond {second:?}\nof {of:?}\nunit ({} octets): {}", self.name, unit.len(), hex(unit)))
+        Err(format!("{}: case {at} differs\nours   {ours:?}\nsecond {second:?}\nof {of:?}\nin {} octets: {}", self.name, octets.len(), hex(octets)))
     }
 
     fn print(&self) {
@@ -66,37 +78,31 @@ impl Kind {
     }
 }
 
-fn answered(answer: u32, place: usize, octets: usize) -> Answer {
-    Answer { answer, place: place as u32, octets: octets as u32, bit: 0, wait: 0 }
-}
-
 // ---- the second program, by the header
 
-/// What `m3ap_read` must do, by the second program's reading. The record's octets go to `whole`.
-fn read_by_second(read: &Read, message: &[u8], whole: &mut [u8; OCTETS]) -> Answer {
-    match read {
-        Read::TooLong => answered(1, 0, 0),
-        Read::Faulty(Fault::Encoding(at)) => answered(2, *at, 0),
-        Read::Faulty(Fault::Extension(at)) => answered(3, *at, 0),
-        Read::NotOurs => answered(4, 0, 0),
-        Read::Message(reading) => {
-            record_octets(reading, message, whole);
-            answered(if reading.rejected.is_some() { 5 } else { 0 }, 0, OCTETS)
-        }
-    }
+fn answered(done: Done) -> Answer {
+    Answer { answer: done.answer.into(), place: done.offset as u32, octets: done.reply as u32, bit: 0, wait: done.wait }
 }
 
-fn write_by_second(record: Option<&Record>, room: &mut [u8]) -> Answer {
-    match record.map(|record| second::write(record, room)) {
-        Some(Ok(size)) => answered(0, 0, size),
-        Some(Err(Refused::Room)) => answered(10, 0, 0),
-        Some(Err(Refused::Record)) | None => answered(11, 0, 0),
-    }
+pub fn read_by_second(message: &[u8], record: &mut [u8]) -> Answer {
+    answered(read_record(message, record))
+}
+
+pub fn write_by_second(record: &[u8], values: &[u8], room: &mut [u8]) -> Answer {
+    answered(write_record(record, values, room))
 }
 
 pub fn call_by_second(unit: &mut [u8], message: &[u8], offered: u16, room: &mut [u8]) -> Answer {
-    let done = second::call(unit, message, offered, room);
-    answered(done.answer.into(), done.offset, done.reply)
+    answered(second::call(unit, message, offered, room))
+}
+
+pub fn setup_by_second(unit: &mut [u8], record: &[u8], values: &[u8], room: &mut [u8]) -> Answer {
+    answered(second::setup(unit, record, values, room))
+}
+
+pub fn shown_by_second(request: &[u8], label: &[u8]) -> Part {
+    let part = second::shown(request, label);
+    Part { of_label: part.of_label.into(), from: part.from as u32, octets: part.octets as u32 }
 }
 
 pub fn row_by_second(unit: &[u8], k: u32) -> Row {
@@ -156,74 +162,109 @@ struct Messages {
     /// By room: large, exact, an octet short.
     writes: [Kind; 3],
     damaged: Kind,
-    lists: Box<Lists>,
+    shown: Kind,
     rooms: [Vec<u8>; 2],
 }
 
 impl Messages {
     fn message(&mut self, message: &[u8]) -> Result<(), String> {
-        let read = second::read(message);
-        let mut record = [0; OCTETS];
-        let due = read_by_second(&read, message, &mut record);
-        let put = due.octets as usize;
-
-        let size = OCTETS + if self.rng.percent(50) { 0 } else { self.rng.below(OCTETS) };
+        let size = RECORD_OCTETS + if self.rng.percent(50) { 0 } else { self.rng.below(RECORD_OCTETS) };
         let (a, b) = front(&mut self.rooms, size);
-        b[..put].copy_from_slice(&record[..put]);
         let got = ours::read(message, &mut a[..size]);
+        let due = read_by_second(message, &mut b[..size]);
         self.reads.case((got, &[a]), (due, &[b]), &[("message", message)])?;
+        let record = (due.octets > 0).then(|| b[..RECORD_OCTETS].to_vec());
 
         // One octet short, or any number of them.
-        let size = if self.rng.percent(50) { OCTETS - 1 } else { self.rng.below(OCTETS) };
+        let size = if self.rng.percent(50) { RECORD_OCTETS - 1 } else { self.rng.below(RECORD_OCTETS) };
         let (a, b) = front(&mut self.rooms, size);
         let got = ours::read(message, &mut a[..size]);
-        let due = if put > 0 { answered(10, 0, 0) } else { due };
+        let due = read_by_second(message, &mut b[..size]);
         self.small.case((got, &[a]), (due, &[b]), &[("message", message)])?;
 
-        if let Read::Message(reading) = &read {
-            self.write(&reading.record, &record, message)?;
-            self.damage(&record, message)?;
+        show(&mut self.shown, &mut self.rng, message)?;
+        if let Some(record) = record {
+            self.write(&record, message)?;
+            self.damage(record, message)?;
         }
         Ok(())
     }
 
-    fn write(&mut self, record: &Record, octets: &[u8], values: &[u8]) -> Result<(), String> {
-        let size = second::write(record, &mut self.rooms[1]).unwrap_or(0);
+    fn write(&mut self, record: &[u8], values: &[u8]) -> Result<(), String> {
+        let size = write_record(record, values, &mut self.rooms[1]).reply;
         for (kind, size) in self.writes.iter_mut().zip([LARGE, size, size.saturating_sub(1)]) {
-            let (a, b) = front(&mut self.rooms, size);
-            let got = ours::write(octets, values, &mut a[..size]);
-            let due = write_by_second(Some(record), &mut b[..size]);
-            kind.case((got, &[a]), (due, &[b]), &[("record", octets), ("values", values)])?;
+            one_write(kind, &mut self.rooms, size, record, values)?;
         }
         Ok(())
     }
 
-    /// Octets of a record with some of them changed: what they are, if they are a record still, or 11.
-    fn damage(&mut self, octets: &[u8; OCTETS], message: &[u8]) -> Result<(), String> {
+    /// Octets of a record with some of them changed, and values that are not all there: what they are, if they are a record still, or 11 or 12.
+    fn damage(&mut self, mut record: Vec<u8>, message: &[u8]) -> Result<(), String> {
         let rng = &mut self.rng;
-        let mut octets = octets.to_vec();
-        if rng.one_in(4) {
-            spoil_lists(rng, &mut octets);
+        let mut values = message.to_vec();
+        if record[0] == Message::SetupRequest as u8 + 1 && rng.percent(60) {
+            spoil_name(rng, &mut record, &mut values);
+        } else if rng.one_in(4) {
+            spoil_lists(rng, &mut record);
         } else {
             for _ in 0..rng.pick(&[1, 1, 1, 2, 3]) {
-                let at = place_in_record(rng, &octets);
-                octets[at] = changed(rng, octets[at]);
+                let at = place_in_record(rng, &record);
+                record[at] = changed(rng, record[at]);
             }
         }
         // Now and then fewer values, so that carried ones lie outside; and octets that are too few or too many for a record.
-        let values = &message[..if rng.one_in(8) { rng.below(message.len() + 1) } else { message.len() }];
-        if rng.one_in(50) {
-            let size = rng.pick(&[0, 1, OCTETS - 1, OCTETS + 1, 2 * OCTETS]);
-            octets.resize(size, 0);
+        if rng.one_in(8) {
+            values.truncate(rng.below(message.len() + 1));
         }
+        if rng.one_in(50) {
+            let size = rng.pick(&[0, 1, RECORD_OCTETS - 1, RECORD_OCTETS + 1, 2 * RECORD_OCTETS]);
+            record.resize(size, 0);
+        }
+        self.any_room(record, values)
+    }
 
-        let record = record_of(&octets, values, &mut self.lists);
-        let size = record.as_ref().and_then(|record| second::write(record, &mut self.rooms[1]).ok()).unwrap_or(0);
-        let size = rng.pick(&[LARGE, size, size.saturating_sub(1), 0]);
-        let (a, b) = front(&mut self.rooms, size);
-        let got = ours::write(&octets, values, &mut a[..size]);
-        let due = write_by_second(record.as_ref(), &mut b[..size]);
-        self.damaged.case((got, &[a]), (due, &[b]), &[("record", &octets), ("values", values)])
+    fn any_room(&mut self, record: Vec<u8>, values: Vec<u8>) -> Result<(), String> {
+        let size = write_record(&record, &values, &mut self.rooms[1]).reply;
+        let size = self.rng.pick(&[LARGE, size, size.saturating_sub(1), 0]);
+        one_write(&mut self.damaged, &mut self.rooms, size, &record, &values)
+    }
+}
+
+fn one_write(kind: &mut Kind, rooms: &mut [Vec<u8>; 2], room: usize, record: &[u8], values: &[u8]) -> Result<(), String> {
+    let (a, b) = front(rooms, room);
+    let got = ours::write(record, values, &mut a[..room]);
+    let due = write_by_second(record, values, &mut b[..room]);
+    kind.case((got, &[a]), (due, &[b]), &[("record", record), ("values", values)])
+}
+
+/// What is shown of a request, with a label of none, a few or about 150 octets.
+fn show(kind: &mut Kind, rng: &mut Rng, request: &[u8]) -> Result<(), String> {
+    let size = match rng.below(4) {
+        0 => rng.pick(&[0, 149, 150, 151, 300]),
+        _ => rng.below(12),
+    };
+    let label: Vec<u8> = (0..size).map(|_| rng.word() as u8).collect();
+    let part = ours::shown(request, &label);
+    kind.said(part.of_label, part, shown_by_second(request, &label), request, &label)
+}
+
+/// Another place or length of a name, or other characters where it lies: mostly one that is not allowed.
+fn spoil_name(rng: &mut Rng, record: &mut [u8], values: &mut [u8]) {
+    let number = |at: usize| u16::from_be_bytes([record[at], record[at + 1]]) as usize;
+    let (from, size) = (number(NAME + 1), number(NAME + 3));
+    if record[NAME] == 0 || rng.percent(40) {
+        let from = rng.below(values.len() + 2);
+        let size = rng.pick(&[0, 1, 2, size, size + 1, 150, 151, values.len(), values.len().saturating_sub(from), 65535]);
+        record[NAME] = 1;
+        record[NAME + 1..NAME + 3].copy_from_slice(&(from as u16).to_be_bytes());
+        record[NAME + 3..NAME + 5].copy_from_slice(&(size as u16).to_be_bytes());
+    } else {
+        let at = from + rng.below(size);
+        values[at] = if rng.percent(50) { changed(rng, values[at]) } else { rng.word() as u8 };
+    }
+    if rng.one_in(6) {
+        let at = place_in_record(rng, record);
+        record[at] = changed(rng, record[at]);
     }
 }
 
@@ -266,7 +307,7 @@ fn place_in_record(rng: &mut Rng, octets: &[u8]) -> usize {
         12..=14 => ITEMS + rng.below((items + 1) * ITEM),
         15 => rng.between(ENTRY_COUNT, ENTRY_COUNT + 1),
         16..=18 => ENTRIES + rng.below((entries + 1) * ENTRY),
-        _ => rng.below(OCTETS),
+        _ => rng.below(RECORD_OCTETS),
     }
 }
 
@@ -286,7 +327,10 @@ fn changed(rng: &mut Rng, octet: u8) -> u8 {
 struct Units {
     rng: Rng,
     calls: Kind,
+    setups: Kind,
     damaged: Kind,
+    damaged_setups: Kind,
+    shown: Kind,
     rows: Kind,
     counts: Kind,
     marks: Kind,
@@ -295,18 +339,43 @@ struct Units {
 }
 
 impl Units {
+    /// A step of a run, on a damaged unit first.
     fn step(&mut self, step: Step) -> Result<(), String> {
-        let Step::Call { offered, room, message, .. } = step else {
-            self.units.iter_mut().for_each(|unit| unit.fill(0));
-            return Ok(());
-        };
         let mut spoilt = spoil(&mut self.rng, &self.units[0]);
         self.look(&spoilt)?;
-        one_call(&mut self.damaged, [&mut spoilt.clone(), &mut spoilt], &mut self.rooms, offered, room.into(), &message)?;
+        let two = [&mut spoilt.clone(), &mut spoilt];
         let [a, b] = &mut self.units;
-        one_call(&mut self.calls, [a, b], &mut self.rooms, offered, room.into(), &message)?;
+        match step {
+            Step::Fresh => {
+                a.fill(0);
+                b.fill(0);
+            }
+            Step::Call { offered, room, message, .. } => {
+                one_call(&mut self.damaged, two, &mut self.rooms, offered, room.into(), &message)?;
+                one_call(&mut self.calls, [a, b], &mut self.rooms, offered, room.into(), &message)?;
+            }
+            Step::Setup { room, plate, .. } => {
+                let (record, values) = plate.record();
+                one_setup(&mut self.damaged_setups, two, &mut self.rooms, room.into(), &record, &values)?;
+                let put = one_setup(&mut self.setups, [a, b], &mut self.rooms, room.into(), &record, &values)?;
+                show(&mut self.shown, &mut self.rng, &self.rooms[0][..put])?;
+            }
+        }
         let unit = self.units[0].clone();
         self.look(&unit)
+    }
+
+    /// A setup by any record, on a unit that is often open, or on a damaged one.
+    fn set_up(&mut self, record: &[u8], values: &[u8]) -> Result<(), String> {
+        let mut unit = vec![0; UNIT_OCTETS];
+        unit[OPEN_AT] = self.rng.one_in(4).into();
+        if self.rng.one_in(8) {
+            unit = spoil(&mut self.rng, &unit);
+        }
+        let size = second::setup(&mut [0; UNIT_OCTETS], record, values, &mut self.rooms[1]).reply;
+        let room = self.rng.pick(&[LARGE, size, size.saturating_sub(1), 0]);
+        one_setup(&mut self.damaged_setups, [&mut unit.clone(), &mut unit], &mut self.rooms, room, record, values)?;
+        Ok(())
     }
 
     /// What both say of a unit, or of octets that are none.
@@ -329,6 +398,16 @@ fn one_call(kind: &mut Kind, [x, y]: [&mut Vec<u8>; 2], rooms: &mut [Vec<u8>; 2]
     let got = ours::call(x, message, offered, &mut a[..room]);
     let due = call_by_second(y, message, offered, &mut b[..room]);
     kind.case((got, &[x, a]), (due, &[y, b]), &[("unit", &before), ("offered", &offered.to_be_bytes()), ("message", message)])
+}
+
+/// A setup by both, likewise. How many octets the request has.
+fn one_setup(kind: &mut Kind, [x, y]: [&mut Vec<u8>; 2], rooms: &mut [Vec<u8>; 2], room: usize, record: &[u8], values: &[u8]) -> Result<usize, String> {
+    let before = x.clone();
+    let (a, b) = front(rooms, room);
+    let got = ours::setup(x, record, values, &mut a[..room]);
+    let due = setup_by_second(y, record, values, &mut b[..room]);
+    kind.case((got, &[x, a]), (due, &[y, b]), &[("unit", &before), ("record", record), ("values", values)])?;
+    Ok(due.octets as usize)
 }
 
 /// How many rows the octets say that there are, as far as they have room for them.
@@ -369,7 +448,7 @@ fn tmgi_of(rng: &mut Rng, unit: &[u8]) -> Tmgi {
 fn spoil(rng: &mut Rng, unit: &[u8]) -> Vec<u8> {
     let mut unit = unit.to_vec();
     let held = u16::from_be_bytes([unit[0], unit[1]]) as usize;
-    match rng.below(14) {
+    match rng.below(16) {
         0 => {
             let size = rng.pick(&[0, 1, 2, TABLE_OCTETS - 1, TABLE_OCTETS, TABLE_OCTETS + 1, UNIT_OCTETS - ROW_OCTETS, UNIT_OCTETS - 1, UNIT_OCTETS + 1, 2 * UNIT_OCTETS]);
             unit.resize(size, 0);
@@ -400,6 +479,7 @@ fn spoil(rng: &mut Rng, unit: &[u8]) -> Vec<u8> {
             let at = rng.between(TABLE_OCTETS, UNIT_OCTETS - 1);
             unit[at] = changed(rng, unit[at]);
         }
+        12 | 13 => unit[OPEN_AT] = rng.pick(&[unit[OPEN_AT] ^ 1, 2, 3, 255]),
         _ => {
             let at = rng.below(UNIT_OCTETS);
             unit[at] = changed(rng, unit[at]);
@@ -408,7 +488,8 @@ fn spoil(rng: &mut Rng, unit: &[u8]) -> Vec<u8> {
     unit
 }
 
-/// At least `count` cases of each kind: messages are made until that many records were read.
+/// At least `count` cases of each kind, but of setups in runs, of which there are as many as the runs of calls have: messages are made until that many
+/// records were read.
 pub fn compare(seed: u64, count: usize) -> Result<(), String> {
     if ours::version() != VERSION {
         return Err(format!("the archive is of version {}, not {VERSION}", ours::version()));
@@ -421,7 +502,7 @@ pub fn compare(seed: u64, count: usize) -> Result<(), String> {
         small: Kind::new("reads, room too small"),
         writes: ["writes, large room", "writes, exact room", "writes, room an octet short"].map(Kind::new),
         damaged: Kind::new("writes of damaged records"),
-        lists: Box::new(Lists::new()),
+        shown: Kind::new("shown names (0) and labels (1)"),
         rooms: rooms(),
     };
     for message in Reads::new(seed) {
@@ -430,13 +511,19 @@ pub fn compare(seed: u64, count: usize) -> Result<(), String> {
         }
         m.message(&message)?;
     }
-    for kind in [&m.reads, &m.small].into_iter().chain(&m.writes).chain([&m.damaged]) {
+    for (record, values) in Records::new(seed).take(count) {
+        m.any_room(record, values)?;
+    }
+    for kind in [&m.reads, &m.small].into_iter().chain(&m.writes).chain([&m.damaged, &m.shown]) {
         kind.print();
     }
     let mut u = Units {
         rng: Rng::new(!seed),
         calls: Kind::new("calls"),
+        setups: Kind::new("setups among them"),
         damaged: Kind::new("calls on damaged units"),
+        damaged_setups: Kind::new("setups on damaged units or by damaged records"),
+        shown: Kind::new("shown names (0) and labels (1) of what setups wrote"),
         rows: Kind::new("rows of units, good and damaged"),
         counts: Kind::new("counts by TMGI, likewise"),
         marks: Kind::new("marks, likewise"),
@@ -449,7 +536,13 @@ pub fn compare(seed: u64, count: usize) -> Result<(), String> {
         }
         u.step(step)?;
     }
-    for kind in [&u.calls, &u.damaged, &u.rows, &u.counts, &u.marks] {
+    // Of records of other messages, which are 11, only some.
+    let request = |record: &[u8]| record[0] == Message::SetupRequest as u8 + 1;
+    let mut others = Rng::new(seed);
+    for (record, values) in Records::new(!seed).filter(|(record, _)| request(record) || others.one_in(50)).take(count) {
+        u.set_up(&record, &values)?;
+    }
+    for kind in [&u.calls, &u.setups, &u.damaged, &u.damaged_setups, &u.shown, &u.rows, &u.counts, &u.marks] {
         kind.print();
     }
     Ok(())

@@ -37,6 +37,17 @@ pub fn acknowledge(list: &[(u16, u16)]) -> Vec<u8> {
     message(1, 4, &[element(15, 1, &items(list, 1))])
 }
 
+/// M3 SETUP REQUEST with a name of 1 to 125 characters.
+pub fn set_up(name: &[u8]) -> Vec<u8> {
+    let name = [&((name.len() as u16 - 1) << 7).to_be_bytes(), name].concat();
+    message(0, 7, &[element(18, 0, &[0, 1, 2, 3, 0xaa, 0xbb]), element(19, 1, &name), element(20, 0, &[1, 0, 1])])
+}
+
+/// M3 SETUP FAILURE with Time to Wait.
+pub fn set_up_failed() -> Vec<u8> {
+    message(2, 7, &[element(9, 1, &[0x42]), element(12, 1, &[0x20])])
+}
+
 /// The k-th association's identities.
 pub fn identities(k: u16) -> (u16, u16) {
     (k.wrapping_mul(257), 65535 - k)
@@ -84,5 +95,15 @@ mod tests {
         }
         assert!(answers[0] > 1000, "{answers:?}");
         assert!((30..150).contains(&(held / 2000)), "{}", held / 2000);
+    }
+
+    #[test]
+    fn a_setup_fails() {
+        let (mut unit, mut record, mut room) = ([0; second::UNIT_OCTETS], [0; second::layout::RECORD_OCTETS], [0; second::LIMIT]);
+        let request = set_up(b"North Hall, plate 7");
+        assert_eq!(second::layout::read_record(&request, &mut record).answer, 0);
+        assert_eq!(second::setup(&mut unit, &record, &request, &mut room).reply, request.len());
+        assert_eq!(room[..request.len()], request);
+        assert_eq!(second::call(&mut unit, &set_up_failed(), 0, &mut room).wait, 5);
     }
 }

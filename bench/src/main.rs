@@ -3,7 +3,6 @@
 #![deny(warnings)]
 
 mod compare;
-mod layout;
 mod made;
 mod measure;
 mod ours;

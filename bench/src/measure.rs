@@ -1,9 +1,9 @@
 //! Times, as ratios to the second program. Both take turns on the same octets and the same rooms, which the rounds before have warmed; the least round counts.
-use crate::compare::{call_by_second, count_by_second, marks_by_second, row_by_second};
-use crate::layout::{record_octets, record_of, Lists, OCTETS};
-use crate::made::{acknowledge, evening, identities, reset, start, stop, CHOSEN};
+use crate::compare::{call_by_second, count_by_second, marks_by_second, read_by_second, row_by_second, setup_by_second, shown_by_second, write_by_second};
+use crate::made::{acknowledge, evening, identities, reset, set_up, set_up_failed, start, stop, CHOSEN};
 use crate::ours::{self, Answer, Tmgi};
-use second::{Read, Reading, LIMIT, UNIT_OCTETS};
+use second::layout::{taken, RECORD_OCTETS};
+use second::{LIMIT, UNIT_OCTETS};
 use std::cell::RefCell;
 use std::hint::black_box;
 use std::time::Instant;
@@ -39,27 +39,17 @@ fn head(title: &str) {
 
 // ---- reading and writing
 
-fn reading(message: &[u8]) -> Reading<'_> {
-    match second::read(message) {
-        Read::Message(reading) => reading,
-        _ => unreachable!("a message that is measured is read"),
-    }
-}
-
 fn read_rows(name: &str, message: &[u8]) {
-    let (mut room, mut record) = ([0; OCTETS], [0; OCTETS]);
+    let (mut room, mut record) = ([0; RECORD_OCTETS], [0; RECORD_OCTETS]);
     assert_eq!(ours::read(message, &mut room).answer, 0);
-    record_octets(&reading(message), message, &mut record);
+    assert_eq!(read_by_second(message, &mut record).answer, 0);
     assert_eq!(room, record);
     let name = format!("read {name} ({} octets)", message.len());
     let mut ours = || {
         black_box(ours::read(black_box(message), &mut room));
     };
     row(&format!("{name}; second: `read`, record octets made"), 1, &mut ours, &mut || {
-        if let Read::Message(reading) = second::read(black_box(message)) {
-            record_octets(&reading, message, &mut record);
-        }
-        black_box(&mut record);
+        black_box(read_by_second(black_box(message), &mut record));
     });
     row(&format!("{name}; second: `read` alone"), 1, &mut ours, &mut || {
         black_box(second::read(black_box(message)));
@@ -67,22 +57,21 @@ fn read_rows(name: &str, message: &[u8]) {
 }
 
 fn write_rows(name: &str, message: &[u8]) {
-    let mut octets = [0; OCTETS];
+    let mut octets = [0; RECORD_OCTETS];
     let (mut room, mut other) = ([0; LIMIT], [0; LIMIT]);
-    record_octets(&reading(message), message, &mut octets);
-    let (mut lists, mut lists_again) = (Lists::new(), Lists::new());
-    let record = record_of(&octets, message, &mut lists).expect("a record");
-    assert_eq!(ours::write(&octets, message, &mut room), Answer { octets: message.len() as u32, ..CARRIED_OUT });
-    assert_eq!(second::write(&record, &mut other), Ok(message.len()));
+    assert_eq!(read_by_second(message, &mut octets).answer, 0);
+    let written = Answer { octets: message.len() as u32, ..CARRIED_OUT };
+    assert_eq!(ours::write(&octets, message, &mut room), written);
+    assert_eq!(write_by_second(&octets, message, &mut other), written);
     assert_eq!(room, other);
     let name = format!("write {name} ({} octets)", message.len());
     let mut ours = || {
         black_box(ours::write(black_box(&octets), message, &mut room));
     };
     row(&format!("{name}; second: record octets taken, `write`"), 1, &mut ours, &mut || {
-        let record = record_of(black_box(&octets), message, &mut lists_again);
-        let _ = black_box(record.map(|record| second::write(&record, &mut other)));
+        black_box(write_by_second(black_box(&octets), message, &mut other));
     });
+    let record = taken(&octets, message).expect("a record").record;
     row(&format!("{name}; second: `write` alone"), 1, &mut ours, &mut || {
         let _ = black_box(second::write(black_box(&record), &mut other));
     });
@@ -94,6 +83,7 @@ fn write_rows(name: &str, message: &[u8]) {
 const CARRIED_OUT: Answer = Answer { answer: 0, place: 0, octets: 0, bit: 0, wait: 0 };
 
 type Call = fn(&mut [u8], &[u8], u16, &mut [u8]) -> Answer;
+type Setup = fn(&mut [u8], &[u8], &[u8], &mut [u8]) -> Answer;
 
 /// The same turn by both. It gives its last answer.
 fn call_row(name: &str, per: usize, mut turn: impl FnMut(Call) -> Answer) {
@@ -153,6 +143,29 @@ fn call_rows(items: &[(u16, u16)]) {
         unit.fill(0);
         entries.iter().fold(CARRIED_OUT, |_, (offered, message)| black_box(call(&mut unit, message, *offered, &mut room)))
     });
+}
+
+/// A setup and a failure, which leave the unit as it was; and the name that is shown of the request.
+fn setup_rows() {
+    let (request, failure) = (set_up(b"North Hall, plate 7"), set_up_failed());
+    let (mut record, mut room) = ([0; RECORD_OCTETS], [0; LIMIT]);
+    assert_eq!(read_by_second(&request, &mut record).answer, 0);
+    for n in [0, 16, 256] {
+        let mut unit = held(n);
+        assert_eq!(ours::setup(&mut unit.clone(), &record, &request, &mut room), setup_by_second(&mut unit.clone(), &record, &request, &mut room));
+        let name = format!("setup ({} octets), then call M3 SETUP FAILURE, {n} held", request.len());
+        let turn = RefCell::new(|setup: Setup, call: Call| {
+            black_box(setup(&mut unit, black_box(&record), &request, &mut room));
+            black_box(call(&mut unit, black_box(&failure), 0, &mut room))
+        });
+        let by = |setup: Setup, call: Call| (turn.borrow_mut())(setup, call);
+        assert_eq!(by(ours::setup, ours::call), by(setup_by_second, call_by_second));
+        row(&name, 1, &mut || _ = by(ours::setup, ours::call), &mut || _ = by(setup_by_second, call_by_second));
+    }
+    let shown = || black_box(&request[..]);
+    assert_eq!(ours::shown(shown(), b"unit"), shown_by_second(shown(), b"unit"));
+    let (mut a, mut b) = (|| _ = black_box(ours::shown(shown(), b"unit")), || _ = black_box(shown_by_second(shown(), b"unit")));
+    row(&format!("shown name, request of {} octets", request.len()), 1, &mut a, &mut b);
 }
 
 /// What is said of a unit: all of it is checked first, by both.
@@ -218,7 +231,9 @@ pub fn measure() {
     read_rows("START REQUEST", &start(300));
     read_rows("STOP REQUEST", &stop(300, 300));
     read_rows("RESET of 256 items", &reset(&items));
+    read_rows("M3 SETUP REQUEST", &set_up(b"North Hall, plate 7"));
     write_rows("START REQUEST", &start(300));
+    write_rows("M3 SETUP REQUEST", &set_up(b"North Hall, plate 7"));
     write_rows("RESET ACKNOWLEDGE of 256 items", &acknowledge(&items));
     call_rows(&items);
     println!();
@@ -227,6 +242,9 @@ pub fn measure() {
     println!();
     head("### Identities that a peer chooses");
     chosen();
+    println!();
+    head("### Setup");
+    setup_rows();
     println!();
     head("### Looking at a unit");
     view_rows();

@@ -10,6 +10,15 @@ pub struct Answer {
     pub wait: u16,
 }
 
+/// `of_label` is 0 for a part of the request, 1 for one of the label.
+#[repr(C)]
+#[derive(Clone, Copy, PartialEq, Eq, Debug)]
+pub struct Part {
+    pub of_label: u32,
+    pub from: u32,
+    pub octets: u32,
+}
+
 #[repr(C)]
 #[derive(Clone, Copy, PartialEq, Eq, Debug, Default)]
 pub struct Tmgi {
@@ -62,6 +71,8 @@ extern "C" {
     fn m3ap_call(unit: *mut u8, unit_len: usize, message: *const u8, message_len: usize, offered: u16, room: *mut u8, room_len: usize) -> Answer;
     fn m3ap_read(message: *const u8, message_len: usize, record: *mut u8, record_len: usize) -> Answer;
     fn m3ap_write(record: *const u8, record_len: usize, values: *const u8, values_len: usize, room: *mut u8, room_len: usize) -> Answer;
+    fn m3ap_setup(unit: *mut u8, unit_len: usize, record: *const u8, record_len: usize, values: *const u8, values_len: usize, room: *mut u8, room_len: usize) -> Answer;
+    fn m3ap_shown(request: *const u8, request_len: usize, label: *const u8, label_len: usize) -> Part;
     fn m3ap_row(unit: *const u8, unit_len: usize, k: u32) -> Row;
     fn m3ap_count_in(unit: *const u8, unit_len: usize, tmgi: Tmgi) -> Counted;
     fn m3ap_marks(unit: *const u8, unit_len: usize) -> Marks;
@@ -81,6 +92,16 @@ pub fn read(message: &[u8], record: &mut [u8]) -> Answer {
 pub fn write(record: &[u8], values: &[u8], room: &mut [u8]) -> Answer {
     // SAFETY: three parts, of which only the room is written, and it overlaps none.
     unsafe { m3ap_write(record.as_ptr(), record.len(), values.as_ptr(), values.len(), room.as_mut_ptr(), room.len()) }
+}
+
+pub fn setup(unit: &mut [u8], record: &[u8], values: &[u8], room: &mut [u8]) -> Answer {
+    // SAFETY: four parts, of which the unit and the room are written, and neither overlaps another.
+    unsafe { m3ap_setup(unit.as_mut_ptr(), unit.len(), record.as_ptr(), record.len(), values.as_ptr(), values.len(), room.as_mut_ptr(), room.len()) }
+}
+
+pub fn shown(request: &[u8], label: &[u8]) -> Part {
+    // SAFETY: two parts, each with its length, which are only read.
+    unsafe { m3ap_shown(request.as_ptr(), request.len(), label.as_ptr(), label.len()) }
 }
 
 pub fn row(unit: &[u8], k: u32) -> Row {

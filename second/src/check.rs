@@ -1,39 +1,50 @@
 //! Comparing with witnesses and with messages another program encoded.
 
 use crate::json::Json;
-use crate::text::{push_record, read_verdict, unhex, witness};
+use crate::layout::{read_record, write_record, RECORD_OCTETS};
+use crate::text::{case_verdict, push_record, read_verdict, unhex};
 use crate::{read, write, Cause, Diagnostics, Entries, Entry, Field, Item, Items, Kind, Read, Record, Refused};
-use crate::{ResetType, Tmgi, KINDS, LIMIT};
+use crate::{ResetType, Tmgi, KINDS, LIMIT, UNIT_OCTETS};
+
+/// The words with which a witness begins.
+pub const WORDS: [&str; 6] = ["read", "write", "written", "call", "setup", "shown"];
 
 /// Lines that were run, and a text for each that differs.
 #[derive(Default, Debug)]
 pub struct Result {
-    pub reads: usize,
-    pub calls: usize,
+    /// Witnesses of each word.
+    pub witnesses: [usize; 6],
     pub messages: usize,
     pub over: usize,
     pub differences: Vec<String>,
 }
 
-/// Runs every witness.
-pub fn witnesses(text: &str, result: &mut Result) {
+/// Runs every witness. A line `table` starts a fresh unit; in a text without one each witness does.
+pub fn witnesses(name: &str, text: &str, result: &mut Result) {
+    let runs = text.lines().any(|line| line.trim() == "table");
+    let mut unit = [0; UNIT_OCTETS];
     for (i, line) in text.lines().enumerate() {
-        if !(line.starts_with("read ") || line.starts_with("call ")) {
+        let line = line.trim();
+        if line.is_empty() || line.starts_with('#') {
             continue;
         }
-        match witness(line) {
-            None => result.differences.push(format!("line {}: no witness: {}", i + 1, line.trim())),
-            Some((given, ours)) => {
-                if line.trim().starts_with("read") {
-                    result.reads += 1;
-                } else {
-                    result.calls += 1;
-                }
-                if given != ours {
-                    let case = line.trim();
-                    result.differences.push(format!("line {}: {case}\n    ours: {ours}", i + 1));
-                }
-            }
+        if !runs || line == "table" {
+            unit.fill(0);
+        }
+        if line == "table" {
+            continue;
+        }
+        let word = WORDS.iter().position(|word| line.split(' ').next() == Some(word));
+        let run = line.split_once(" => ").and_then(|(case, given)| Some((given, case_verdict(&mut unit, case)?)));
+        let (Some(word), Some((given, ours))) = (word, run) else {
+            result.differences.push(format!("{name} line {}: no witness: {line}", i + 1));
+            continue;
+        };
+        result.witnesses[word] += 1;
+        // The witnesses of calls of 01 say nothing of what came with 2026-01: nothing is open there.
+        let held = ours.strip_suffix(" open=0 wait=-");
+        if given != ours && (given.contains(" open=") || held != Some(given)) {
+            result.differences.push(format!("{name} line {}: {line}\n    ours: {ours}", i + 1));
         }
     }
 }
@@ -83,7 +94,7 @@ fn vector(line: &str) -> std::result::Result<bool, String> {
         return Err("octets".into());
     }
     let name = v.get("name").and_then(Json::text).ok_or_else(broken)?;
-    let short = name.strip_prefix("MBMSSession").unwrap_or(name);
+    let short = name.strip_prefix("MBMSSession").or(name.strip_prefix("M3")).unwrap_or(name);
     let kind = *KINDS.iter().find(|k| crate::text::name(**k) == short).ok_or_else(broken)?;
     let frame = (small(v.get("kind")), small(v.get("procedure")), small(v.get("criticality")));
     let (choice, procedure, criticality) = kind.frame();
@@ -149,6 +160,17 @@ fn vector(line: &str) -> std::result::Result<bool, String> {
             return Err("written into too small a room".into());
         }
     }
+    // The same by the record for C.
+    let mut lent = vec![0xa5; RECORD_OCTETS];
+    let done = read_record(&octets, &mut lent);
+    if (done.answer, done.reply) != (0, RECORD_OCTETS) {
+        return Err("no record".into());
+    }
+    let mut room = vec![0; octets.len()];
+    let done = write_record(&lent, &octets, &mut room);
+    if (done.answer, done.reply) != (0, octets.len()) || room != octets {
+        return Err("written otherwise from the record for C".into());
+    }
     Ok(false)
 }
 
@@ -194,6 +216,8 @@ fn record<'a>(
                     entries: d.get("list").map(|_| Entries::Given(entries)),
                 });
             }
+            Field::Name => record.name = Some(e.get("text")?.text()?.as_bytes()),
+            Field::Wait => record.wait = Some(small(e.get("wait"))?),
             Field::Carried => record.carried[*row] = Some(octets),
         }
     }

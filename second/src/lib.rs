@@ -1,10 +1,13 @@
-//! M3AP at the coordination unit: reader, writer and unit call for eight messages, and what a unit holds.
-//! Written from the scope paper (01), its readings and TS 36.444 9.3.3 to 9.3.7 alone.
+//! M3AP at the coordination unit: reader, writer, unit call and setup call for eleven messages, their record
+//! for C, the shown name, and what a unit holds.
+//! Written from the scope paper (01), the change requests (02: 2026-01), their readings and TS 36.444 9.3.3
+//! to 9.3.7 alone.
 #![deny(warnings)]
 #![forbid(unsafe_code)]
 
 pub mod check;
 pub mod json;
+pub mod layout;
 pub mod make;
 pub mod text;
 
@@ -12,6 +15,8 @@ pub mod text;
 pub const LIMIT: usize = 8192;
 /// Most items of a reset, entries of diagnostics, associations of a table.
 pub const MOST: usize = 256;
+/// Most characters of an MCE Name, and octets of a label that are shown.
+pub const NAME_MOST: usize = 150;
 
 pub const REJECT: u8 = 0;
 pub const IGNORE: u8 = 1;
@@ -34,9 +39,13 @@ pub enum Kind {
     Reset,
     ResetAcknowledge,
     ErrorIndication,
+    SetupRequest,
+    SetupResponse,
+    SetupFailure,
 }
 
-pub const KINDS: [Kind; 8] = [
+/// In the order of their numbers in a record for C, from 1.
+pub const KINDS: [Kind; 11] = [
     Kind::StartRequest,
     Kind::StartResponse,
     Kind::StartFailure,
@@ -45,6 +54,9 @@ pub const KINDS: [Kind; 8] = [
     Kind::Reset,
     Kind::ResetAcknowledge,
     Kind::ErrorIndication,
+    Kind::SetupRequest,
+    Kind::SetupResponse,
+    Kind::SetupFailure,
 ];
 
 impl Kind {
@@ -59,6 +71,9 @@ impl Kind {
             Kind::Reset => (0, 4, REJECT),
             Kind::ResetAcknowledge => (1, 4, REJECT),
             Kind::ErrorIndication => (0, 2, IGNORE),
+            Kind::SetupRequest => (0, 7, REJECT),
+            Kind::SetupResponse => (1, 7, REJECT),
+            Kind::SetupFailure => (2, 7, REJECT),
         }
     }
 
@@ -72,6 +87,9 @@ impl Kind {
             (0, 4) => Kind::Reset,
             (1, 4) => Kind::ResetAcknowledge,
             (0, 2) => Kind::ErrorIndication,
+            (0, 7) => Kind::SetupRequest,
+            (1, 7) => Kind::SetupResponse,
+            (2, 7) => Kind::SetupFailure,
             _ => return None,
         })
     }
@@ -91,6 +109,10 @@ pub enum Field {
     Reset,
     Acknowledged,
     Diagnostics,
+    /// MCE Name.
+    Name,
+    /// Time to Wait.
+    Wait,
     Carried,
 }
 
@@ -164,6 +186,17 @@ const ERROR_INDICATION: &[Row] = &[
     row(9, O, IGNORE, Field::Cause),
     row(8, O, IGNORE, Field::Diagnostics),
 ];
+const SETUP_REQUEST: &[Row] = &[
+    row(18, M, REJECT, Field::Carried),
+    row(19, O, IGNORE, Field::Name),
+    row(20, M, REJECT, Field::Carried),
+];
+const SETUP_RESPONSE: &[Row] = &[row(8, O, IGNORE, Field::Diagnostics)];
+const SETUP_FAILURE: &[Row] = &[
+    row(9, M, IGNORE, Field::Cause),
+    row(12, O, IGNORE, Field::Wait),
+    row(8, O, IGNORE, Field::Diagnostics),
+];
 
 const fn table(rows: &'static [Row]) -> Table {
     let mut by_id = [UNKNOWN; 26];
@@ -179,7 +212,7 @@ const fn table(rows: &'static [Row]) -> Table {
     Table { rows, by_id, needed }
 }
 
-static TABLES: [Table; 8] = [
+static TABLES: [Table; 11] = [
     table(START_REQUEST),
     table(RESPONSE),
     table(START_FAILURE),
@@ -188,6 +221,9 @@ static TABLES: [Table; 8] = [
     table(RESET),
     table(RESET_ACKNOWLEDGE),
     table(ERROR_INDICATION),
+    table(SETUP_REQUEST),
+    table(SETUP_RESPONSE),
+    table(SETUP_FAILURE),
 ];
 
 impl Table {
@@ -236,6 +272,8 @@ impl Item {
 #[derive(Clone, Copy, Debug)]
 pub enum Items<'a> {
     Given(&'a [Item]),
+    /// Six octets each, as a record for C has them.
+    Lent(&'a [u8]),
     /// All items of the octets (envelopes, behind the number of items).
     Read(&'a [u8]),
     /// Those of them that have an identity.
@@ -245,9 +283,10 @@ pub enum Items<'a> {
 impl<'a> Items<'a> {
     pub fn iter(&self) -> ItemsIter<'a> {
         match *self {
-            Items::Given(list) => ItemsIter { given: list, octets: &[], all: true },
-            Items::Read(octets) => ItemsIter { given: &[], octets, all: true },
-            Items::Naming(octets) => ItemsIter { given: &[], octets, all: false },
+            Items::Given(list) => ItemsIter { given: list, lent: &[], octets: &[], all: true },
+            Items::Lent(lent) => ItemsIter { given: &[], lent, octets: &[], all: true },
+            Items::Read(octets) => ItemsIter { given: &[], lent: &[], octets, all: true },
+            Items::Naming(octets) => ItemsIter { given: &[], lent: &[], octets, all: false },
         }
     }
 }
@@ -255,6 +294,7 @@ impl<'a> Items<'a> {
 #[derive(Clone)]
 pub struct ItemsIter<'a> {
     given: &'a [Item],
+    lent: &'a [u8],
     octets: &'a [u8],
     all: bool,
 }
@@ -266,6 +306,11 @@ impl Iterator for ItemsIter<'_> {
         if let Some((first, rest)) = self.given.split_first() {
             self.given = rest;
             return Some(*first);
+        }
+        if let [mme, a, b, mce, c, d, ref rest @ ..] = *self.lent {
+            self.lent = rest;
+            let identity = |there, high, low| (there != 0).then_some(u16::from_be_bytes([high, low]));
+            return Some(Item { mme: identity(mme, a, b), mce: identity(mce, c, d) });
         }
         // Envelope: id, id, criticality, length (1, 3 or 5), then the value.
         while let [_, _, _, n, ref value @ ..] = *self.octets {
@@ -302,6 +347,8 @@ pub struct Entry {
 #[derive(Clone, Debug)]
 pub enum Entries<'a> {
     Given(&'a [Entry]),
+    /// Four octets each, as a record for C has them.
+    Lent(&'a [u8]),
     /// The 1 + 3n octets of a list that was read and found good.
     Read(&'a [u8]),
     Noted(Noted<'a>),
@@ -311,6 +358,7 @@ impl<'a> Entries<'a> {
     pub fn len(&self) -> usize {
         match self {
             Entries::Given(list) => list.len(),
+            Entries::Lent(lent) => lent.len() / 4,
             Entries::Read(octets) => octets.len() / 3,
             Entries::Noted(noted) => noted.len(),
         }
@@ -323,6 +371,7 @@ impl<'a> Entries<'a> {
     pub fn iter(&self) -> EntriesIter<'a> {
         match self {
             Entries::Given(list) => EntriesIter::Given(list.iter()),
+            Entries::Lent(lent) => EntriesIter::Lent(lent),
             Entries::Read(octets) => EntriesIter::Read { octets, shift: 4 },
             Entries::Noted(noted) => EntriesIter::Noted(noted.clone()),
         }
@@ -332,6 +381,7 @@ impl<'a> Entries<'a> {
 #[derive(Clone)]
 pub enum EntriesIter<'a> {
     Given(std::slice::Iter<'a, Entry>),
+    Lent(&'a [u8]),
     Read { octets: &'a [u8], shift: u8 },
     Noted(Noted<'a>),
 }
@@ -342,6 +392,13 @@ impl Iterator for EntriesIter<'_> {
     fn next(&mut self) -> Option<Entry> {
         match self {
             EntriesIter::Given(list) => list.next().copied(),
+            EntriesIter::Lent(lent) => {
+                let [criticality, high, low, error, ref rest @ ..] = **lent else {
+                    return None;
+                };
+                *lent = rest;
+                Some(Entry { criticality, id: u16::from_be_bytes([high, low]), error })
+            }
             EntriesIter::Read { octets, shift } => {
                 if octets.len() < 4 {
                     return None;
@@ -381,7 +438,24 @@ pub struct Record<'a> {
     pub reset: Option<ResetType<'a>>,
     pub acknowledged: Option<Items<'a>>,
     pub diagnostics: Option<Diagnostics<'a>>,
+    /// The characters of the MCE Name.
+    pub name: Option<&'a [u8]>,
+    /// Time to Wait, its number 0 to 5.
+    pub wait: Option<u8>,
     pub carried: [Option<&'a [u8]>; ROWS],
+}
+
+/// What Time to Wait means, in seconds, by its number.
+pub const SECONDS: [u16; 6] = [1, 2, 5, 10, 20, 60];
+
+/// A character of a PrintableString.
+pub fn printable(c: u8) -> bool {
+    c.is_ascii_alphanumeric() || b" '()+,-./:=?".contains(&c)
+}
+
+/// Whether an MCE Name is one: 1 to 150 characters of a PrintableString.
+pub fn name_allowed(name: &[u8]) -> bool {
+    (1..=NAME_MOST).contains(&name.len()) && name.iter().all(|&c| printable(c))
 }
 
 impl Record<'_> {
@@ -396,6 +470,8 @@ impl Record<'_> {
             reset: None,
             acknowledged: None,
             diagnostics: None,
+            name: None,
+            wait: None,
             carried: [None; ROWS],
         }
     }
@@ -763,6 +839,44 @@ fn diagnostics(o: &[u8], at: usize, end: usize) -> Result<Diagnostics<'_>, Fault
     Ok(Diagnostics { code, trigger, criticality, entries })
 }
 
+/// Extension bit, eight bits of length less 1 across two octets, seven bits of pad, the characters.
+fn name(o: &[u8], at: usize, end: usize) -> Result<&[u8], Fault> {
+    if o[at] & 0x80 != 0 {
+        return Err(Extension(at));
+    }
+    // A length that is cut short, has no meaning or reaches past the value is at fault itself.
+    if end - at < 2 {
+        return Err(Encoding(at));
+    }
+    let size = (be16(o, at) >> 7) as usize + 1;
+    let first = at + 2;
+    if size > NAME_MOST || size > end - first {
+        return Err(Encoding(at));
+    }
+    if o[at + 1] & 0x7f != 0 {
+        return Err(Encoding(at + 1));
+    }
+    let characters = &o[first..first + size];
+    if let Some(bad) = characters.iter().position(|&c| !printable(c)) {
+        return Err(Encoding(first + bad));
+    }
+    ends(first + size, end)?;
+    Ok(characters)
+}
+
+/// Extension bit, three bits of number, four of pad.
+fn wait(o: &[u8], at: usize, end: usize) -> Result<u8, Fault> {
+    if o[at] & 0x80 != 0 {
+        return Err(Extension(at));
+    }
+    let number = o[at] >> 4;
+    if number as usize >= SECONDS.len() || o[at] & 0x0f != 0 {
+        return Err(Encoding(at));
+    }
+    ends(at + 1, end)?;
+    Ok(number)
+}
+
 /// Reads the message that begins at `start` and ends with the octets, and judges its elements.
 fn inside(o: &[u8], start: usize, kind: Kind, frame: u8) -> Result<Reading<'_>, Fault> {
     let end = o.len();
@@ -859,6 +973,18 @@ fn inside(o: &[u8], start: usize, kind: Kind, frame: u8) -> Result<Reading<'_>, 
                     record.diagnostics = Some(v);
                 }
             }
+            Field::Name => {
+                let v = name(o, value, value_end)?;
+                if counts {
+                    record.name = Some(v);
+                }
+            }
+            Field::Wait => {
+                let v = wait(o, value, value_end)?;
+                if counts {
+                    record.wait = Some(v);
+                }
+            }
             Field::Carried => {
                 if counts {
                     record.carried[row as usize] = Some(&o[value..value_end]);
@@ -907,6 +1033,18 @@ pub enum Refused {
     Room,
     /// 11
     Record,
+    /// 12
+    Name,
+}
+
+impl Refused {
+    pub fn answer(self) -> u8 {
+        match self {
+            Refused::Room => 10,
+            Refused::Record => 11,
+            Refused::Name => 12,
+        }
+    }
 }
 
 fn size_of_length(n: usize) -> usize {
@@ -946,6 +1084,11 @@ fn diagnostics_size(d: &Diagnostics) -> Result<usize, Refused> {
 }
 
 impl Record<'_> {
+    /// Whether it is an M3 SETUP REQUEST with a name that is not allowed.
+    fn misnamed(&self) -> bool {
+        self.kind == Kind::SetupRequest && self.name.is_some_and(|name| !name_allowed(name))
+    }
+
     /// Octets of the value of a row, none if it is absent.
     fn size(&self, number: usize, field: Field) -> Result<Option<usize>, Refused> {
         Ok(match field {
@@ -969,6 +1112,12 @@ impl Record<'_> {
             Field::Diagnostics => match &self.diagnostics {
                 Some(d) => Some(diagnostics_size(d)?),
                 None => None,
+            },
+            // Judged before.
+            Field::Name => self.name.map(|name| 2 + name.len()),
+            Field::Wait => match self.wait {
+                Some(n) if n as usize >= SECONDS.len() => return Err(Refused::Record),
+                n => n.map(|_| 1),
             },
             Field::Carried => match self.carried[number] {
                 Some(octets) if octets.is_empty() || octets.len() > LIMIT => return Err(Refused::Record),
@@ -1057,6 +1206,9 @@ impl Out<'_> {
 /// Writes a record to the front of the room; the number of octets written. The rest of the
 /// room, and all of it when refused, keeps its octets.
 pub fn write(record: &Record, room: &mut [u8]) -> Result<usize, Refused> {
+    if record.misnamed() {
+        return Err(Refused::Name);
+    }
     let rows = record.kind.table().rows;
     let mut sizes = [0; ROWS];
     let (mut body, mut count) = (3, 0);
@@ -1125,6 +1277,13 @@ pub fn write(record: &Record, room: &mut [u8]) -> Result<usize, Refused> {
                     out.diagnostics(d);
                 }
             }
+            Field::Name => {
+                if let Some(name) = record.name {
+                    out.number((name.len() as u16 - 1) << 7);
+                    out.octets(name);
+                }
+            }
+            Field::Wait => out.octet(record.wait.unwrap_or(0) << 4),
             Field::Carried => out.octets(record.carried[i].unwrap_or(&[])),
         }
     }
@@ -1139,19 +1298,23 @@ pub fn write(record: &Record, room: &mut [u8]) -> Result<usize, Refused> {
 /// identity (high first), PLMN, service, then 1 and the Session Identity, or 0 and 0.
 pub const TABLE_OCTETS: usize = 2 + MOST * ROW_OCTETS;
 pub const ROW_OCTETS: usize = 12;
-/// Octets of a lent unit: the table, and behind it marks, of which none is set yet.
+/// Octets of a lent unit: the table, and behind it marks.
 pub const UNIT_OCTETS: usize = TABLE_OCTETS + 14;
+/// The one mark that may be set: 1 if a setup request is open, else 0.
+pub const OPEN_AT: usize = 3076;
 
 const fn row_at(row: usize) -> usize {
     2 + row * ROW_OCTETS
 }
 
-/// What a call answered: number, place (for 2 and 3, else 0), octets of the reply (0: none).
+/// What a call answered: number, place (for 2 and 3, else 0), octets put at the front of the room
+/// (0: none), and beside 0 of an M3 SETUP FAILURE with Time to Wait its seconds, else 0.
 #[derive(Clone, Copy, PartialEq, Eq, Debug)]
 pub struct Done {
     pub answer: u8,
     pub offset: usize,
     pub reply: usize,
+    pub wait: u16,
 }
 
 /// Finds rows of a unit by one of their identities: open addressing, 512 places for at most
@@ -1196,6 +1359,7 @@ impl Index {
 
 struct Held {
     count: usize,
+    open: bool,
     mme: Index,
     mce: Index,
 }
@@ -1206,9 +1370,12 @@ fn held(unit: &[u8]) -> Option<Held> {
         return None;
     }
     let (table, marks) = unit.split_at(TABLE_OCTETS);
-    if marks.iter().any(|&mark| mark != 0) {
-        return None;
+    for (i, &mark) in marks.iter().enumerate() {
+        if mark > (i == OPEN_AT - TABLE_OCTETS) as u8 {
+            return None;
+        }
     }
+    let open = unit[OPEN_AT] == 1;
     let count = be16(table, 0) as usize;
     if count > MOST {
         return None;
@@ -1216,7 +1383,7 @@ fn held(unit: &[u8]) -> Option<Held> {
     if table[row_at(count)..].iter().fold(0, |all, b| all | b) != 0 {
         return None;
     }
-    let mut held = Held { count, mme: Index::new(), mce: Index::new() };
+    let mut held = Held { count, open, mme: Index::new(), mce: Index::new() };
     for (number, row) in table[2..].chunks_exact(ROW_OCTETS).take(count).enumerate() {
         if row[10] > 1 || (row[10] == 0 && row[11] != 0) {
             return None;
@@ -1261,13 +1428,13 @@ fn remove(unit: &mut [u8], count: usize, gone: &[bool; MOST]) {
 }
 
 fn bare(answer: u8) -> Done {
-    Done { answer, offset: 0, reply: 0 }
+    Done { answer, offset: 0, reply: 0, wait: 0 }
 }
 
 fn faulty(fault: Fault) -> Done {
     match fault {
-        Encoding(offset) => Done { answer: 2, offset, reply: 0 },
-        Extension(offset) => Done { answer: 3, offset, reply: 0 },
+        Encoding(offset) => Done { offset, ..bare(2) },
+        Extension(offset) => Done { offset, ..bare(3) },
     }
 }
 
@@ -1284,9 +1451,8 @@ fn finish<'a>(answer: u8, mut reply: Record<'a>, frame: &Frame, listed: Option<E
         });
     }
     match write(&reply, room) {
-        Ok(size) => Done { answer, offset: 0, reply: size },
-        Err(Refused::Room) => bare(10),
-        Err(Refused::Record) => bare(11),
+        Ok(reply) => Done { reply, ..bare(answer) },
+        Err(refused) => bare(refused.answer()),
     }
 }
 
@@ -1304,8 +1470,11 @@ pub fn call(unit: &mut [u8], message: &[u8], offered: u16, room: &mut [u8]) -> D
         Err(fault) => return faulty(fault),
     };
     let kind = match Kind::of(frame.choice, frame.procedure) {
+        Some(Kind::SetupRequest) | None => return bare(4),
+        Some(kind @ (Kind::SetupResponse | Kind::SetupFailure)) if held.open => kind,
+        Some(Kind::SetupResponse | Kind::SetupFailure) => return bare(14),
         Some(kind) if frame.choice == 0 => kind,
-        _ => return bare(4),
+        Some(_) => return bare(4),
     };
     let Reading { record, noted, rejected, .. } = match inside(message, frame.start, kind, frame.criticality) {
         Ok(reading) => reading,
@@ -1330,6 +1499,16 @@ pub fn call(unit: &mut [u8], message: &[u8], offered: u16, room: &mut [u8]) -> D
     }
 
     match kind {
+        // Neither has a reply.
+        Kind::SetupResponse => {
+            unit[..row_at(held.count)].fill(0);
+            unit[OPEN_AT] = 0;
+            bare(0)
+        }
+        Kind::SetupFailure => {
+            unit[OPEN_AT] = 0;
+            Done { wait: record.wait.map_or(0, |n| SECONDS[n as usize]), ..bare(0) }
+        }
         Kind::StartRequest => {
             // Read with no element rejected: its mandatory ones are there.
             let (Some(mme), Some(tmgi)) = (record.mme, record.tmgi) else {
@@ -1420,6 +1599,60 @@ pub fn call(unit: &mut [u8], message: &[u8], offered: u16, room: &mut [u8]) -> D
     }
 }
 
+// ---------------------------------------------------------------- setup, and the name that is shown
+
+/// Writes the M3 SETUP REQUEST of a record for C, whose values lie in `values`, to the front of the
+/// room, and opens it. Only answer 0 changes the unit or the room.
+pub fn setup(unit: &mut [u8], record: &[u8], values: &[u8], room: &mut [u8]) -> Done {
+    let Some(held) = held(unit) else {
+        return bare(21);
+    };
+    let taken = layout::taken(record, values);
+    if taken.as_ref().is_some_and(|taken| taken.record.misnamed()) {
+        return bare(12);
+    }
+    if held.open {
+        return bare(13);
+    }
+    let written = match taken.filter(|taken| taken.record.kind == Kind::SetupRequest) {
+        Some(taken) => taken.write(room),
+        None => Err(Refused::Record),
+    };
+    match written {
+        Ok(reply) => {
+            unit[OPEN_AT] = 1;
+            Done { reply, ..bare(0) }
+        }
+        Err(refused) => bare(refused.answer()),
+    }
+}
+
+/// A part of the request or of the label.
+#[derive(Clone, Copy, PartialEq, Eq, Debug)]
+pub struct Part {
+    pub of_label: bool,
+    pub from: usize,
+    pub octets: usize,
+}
+
+/// Where a part of octets begins in them.
+fn place_in(part: &[u8], octets: &[u8]) -> usize {
+    part.as_ptr() as usize - octets.as_ptr() as usize
+}
+
+/// The name to show: that of the request, if it is read with 0 as an M3 SETUP REQUEST that has one,
+/// else the first 150 octets at most of the label.
+pub fn shown(request: &[u8], label: &[u8]) -> Part {
+    match read(request) {
+        Read::Message(Reading {
+            record: Record { kind: Kind::SetupRequest, name: Some(name), .. },
+            rejected: None,
+            ..
+        }) => Part { of_label: false, from: place_in(name, request), octets: name.len() },
+        _ => Part { of_label: true, from: 0, octets: label.len().min(NAME_MOST) },
+    }
+}
+
 // ---------------------------------------------------------------- what a unit holds
 
 #[derive(Clone, Copy, PartialEq, Eq, Debug)]
@@ -1466,10 +1699,11 @@ pub struct Marks {
     pub settings: u16,
 }
 
-/// The marks of a unit: but for how many are held, those of a fresh one. None: no unit.
+/// The marks of a unit: but for how many are held and whether a request is open, those of a fresh one.
+/// None: no unit.
 pub fn marks(unit: &[u8]) -> Option<Marks> {
-    let count = held(unit)?.count;
-    Some(Marks { held: [count, 0], open: [false; 2], edition: 18, rooms: MOST as u32, next: 0, settings: 0 })
+    let Held { count, open, .. } = held(unit)?;
+    Some(Marks { held: [count, 0], open: [open, false], edition: 18, rooms: MOST as u32, next: 0, settings: 0 })
 }
 
 // ---------------------------------------------------------------- the capture program

@@ -1,13 +1,13 @@
 #![deny(warnings)]
 #![forbid(unsafe_code)]
 
-use second::text::{call_parts, call_verdict, read_verdict, unhex};
+use second::text::{case_verdict, octets_of, read_verdict};
 use second::{capture, check, make, UNIT_OCTETS};
 use std::io::{self, BufRead, BufWriter, Write};
 use std::process::ExitCode;
 
 const USAGE: &str = "usage:
-  second check WITNESSES.txt [VECTORS.jsonl ..]
+  second check WITNESSES.txt|VECTORS.jsonl ..
   second make SEED COUNT reads|calls|calls-unit|calls-binary
   second judge < LINES
   second capture FILE";
@@ -41,14 +41,15 @@ fn check_all(paths: &[&str]) -> Done {
         if path.ends_with(".jsonl") {
             check::vectors(path, &text, &mut result);
         } else {
-            check::witnesses(&text, &mut result);
+            check::witnesses(path, &text, &mut result);
         }
     }
     for difference in &result.differences {
         println!("{difference}");
     }
-    println!("read witnesses: {}", result.reads);
-    println!("call witnesses: {}", result.calls);
+    for (word, count) in check::WORDS.iter().zip(result.witnesses) {
+        println!("{word} witnesses: {count}");
+    }
     println!("messages: {} ({} over the limit)", result.messages, result.over);
     println!("differences: {}", result.differences.len());
     Ok(result.differences.is_empty())
@@ -83,12 +84,10 @@ fn judge() -> Done {
             unit.fill(0);
             writeln!(out, "table").map_err(|e| e.to_string())?;
             continue;
-        } else if let Some(text) = case.strip_prefix("call ") {
-            let (offered, room, octets) = call_parts(text).ok_or_else(|| format!("not understood: {case}"))?;
-            call_verdict(&mut unit, offered, room, &octets)
         } else {
-            let octets = unhex(case.strip_prefix("read ").unwrap_or(case));
-            read_verdict(&octets.ok_or_else(|| format!("not understood: {case}"))?)
+            case_verdict(&mut unit, case)
+                .or_else(|| octets_of(case).map(|octets| read_verdict(&octets)))
+                .ok_or_else(|| format!("not understood: {case}"))?
         };
         writeln!(out, "{shown} => {verdict}").map_err(|e| e.to_string())?;
     }

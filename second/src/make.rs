@@ -1,8 +1,9 @@
-//! Seeded cases: messages, mostly damaged, and runs of unit calls.
+//! Seeded cases: messages, mostly damaged, runs of unit calls and setup calls, and records for C.
 //! The messages are put together bit by bit here, without the writer.
 
-use crate::text::{call_verdict, hex, read_verdict};
-use crate::{call, Field, Item, Kind, CAUSES, ID_ITEM, KINDS, LIMIT, ROW_OCTETS, UNIT_OCTETS};
+use crate::layout::{read_record, RECORD_OCTETS};
+use crate::text::{call_verdict, hex, read_verdict, setup_verdict, Plate};
+use crate::{call, setup, Field, Item, Kind, CAUSES, ID_ITEM, KINDS, LIMIT, OPEN_AT, ROW_OCTETS, UNIT_OCTETS};
 use std::collections::VecDeque;
 use std::io::{self, Write};
 
@@ -44,6 +45,29 @@ impl Rng {
 
     fn octets(&mut self, n: usize) -> Vec<u8> {
         (0..n).map(|_| self.word() as u8).collect()
+    }
+
+    /// An MCE Name: mostly of a few characters, now and then of 1 or of about 150.
+    fn name(&mut self) -> Vec<u8> {
+        const CHARACTERS: &[u8; 74] = b"ABCDEFGHIJKLMNOPQRSTUVWXYZabcdefghijklmnopqrstuvwxyz0123456789 '()+,-./:=?";
+        let n = match self.below(16) {
+            0 | 1 => 1,
+            2 => 150,
+            3 => self.between(124, 150),
+            4 => self.between(20, 123),
+            _ => self.between(2, 12),
+        };
+        (0..n).map(|_| self.pick(CHARACTERS)).collect()
+    }
+
+    /// A character that a PrintableString has not: often a neighbour of one that it has.
+    fn bad_character(&mut self) -> u8 {
+        const BAD: &[u8; 24] = b"\x00\x1f!\"#$%&*;<>@[\\]^_`{|~\x7f\x80";
+        if self.percent(80) {
+            self.pick(BAD)
+        } else {
+            0x80 | self.word() as u8
+        }
     }
 
     fn shuffle<T>(&mut self, list: &mut [T]) {
@@ -351,6 +375,36 @@ impl Maker<'_> {
                 self.items(&mut bits, &items, 1);
             }
             Field::Diagnostics => return self.diagnostics(),
+            Field::Name => {
+                let mut name = self.rng.name();
+                let odd = if self.rng.one_in(6) { self.rng.below(8) } else { 8 };
+                match odd {
+                    0 => name.resize(151, b'a'),
+                    1 => name.resize(self.rng.between(152, 257), b' '),
+                    2 | 3 => {
+                        let at = self.rng.below(name.len());
+                        name[at] = self.rng.bad_character();
+                    }
+                    _ => {}
+                }
+                // A length that lies: by one, or anything.
+                let said = match odd {
+                    4 => name.len(),
+                    5 => name.len().saturating_sub(2),
+                    6 => self.rng.below(256),
+                    _ => name.len() - 1,
+                };
+                self.field(&mut bits, (odd == 7) as u64, 1);
+                self.field(&mut bits, said as u64 & 255, 8);
+                self.pad(&mut bits);
+                bits.octets.extend(name);
+            }
+            Field::Wait => {
+                let number = if self.rng.percent(85) { self.rng.below(6) } else { self.rng.below(8) };
+                let extended = self.rng.one_in(20);
+                self.field(&mut bits, extended as u64, 1);
+                self.field(&mut bits, number as u64, 3);
+            }
             Field::Carried => {
                 let n = match self.rng.below(50) {
                     0 => self.rng.between(120, 140),
@@ -553,12 +607,76 @@ impl Iterator for Reads {
     }
 }
 
+/// Records for C, many damaged, with the octets in which their values lie, without end.
+pub struct Records {
+    reads: Reads,
+}
+
+impl Records {
+    pub fn new(seed: u64) -> Self {
+        Records { reads: Reads::new(seed) }
+    }
+
+    /// Octets that the layout has something to say of: the front, the lists' numbers, their first and last rows.
+    fn place(rng: &mut Rng) -> usize {
+        match rng.below(10) {
+            0..=5 => rng.below(2 + 8 * 4),
+            6 => rng.below(100),
+            7 => rng.pick(&[98, 99, 1636, 1637]),
+            8 => rng.pick(&[100, 1638]) + rng.below(24),
+            _ => rng.below(RECORD_OCTETS),
+        }
+    }
+}
+
+impl Iterator for Records {
+    type Item = (Vec<u8>, Vec<u8>);
+
+    fn next(&mut self) -> Option<(Vec<u8>, Vec<u8>)> {
+        let mut record = vec![0; RECORD_OCTETS];
+        let mut values = loop {
+            let message = self.reads.next()?;
+            if matches!(read_record(&message, &mut record).answer, 0 | 5) {
+                break message;
+            }
+        };
+        let rng = &mut self.reads.rng;
+        if record[0] == Kind::SetupRequest as u8 + 1 && rng.percent(40) {
+            // A name that is not allowed, somewhere in the values.
+            let (from, n) = (rng.below(values.len()), rng.pick(&[0, 1, 5, 150, 151, 9000]));
+            record[10] = 1;
+            record[11..13].copy_from_slice(&(from as u16).to_be_bytes());
+            record[13..15].copy_from_slice(&(n as u16).to_be_bytes());
+        }
+        for _ in 0..rng.pick(&[0, 0, 1, 1, 1, 2, 3]) {
+            let at = Records::place(rng);
+            record[at] = match rng.below(4) {
+                0 => rng.word() as u8,
+                1 => record[at] ^ 1 << rng.below(8),
+                _ => rng.pick(&[0, 0, 1, 1, 2, 3, 5, 6, 9, 10, 11, 12, 255]),
+            };
+        }
+        match rng.below(40) {
+            0 => {
+                record.pop();
+            }
+            1 => record.push(0),
+            2 => values.truncate(rng.below(values.len())),
+            3 => values.resize(9000, 0x41),
+            _ => {}
+        }
+        Some((record, values))
+    }
+}
+
 /// A step of a run of calls.
 pub enum Step {
     /// A fresh unit.
     Fresh,
     /// A call, its verdict, and the digest of the unit afterwards.
     Call { offered: u16, room: u16, message: Vec<u8>, verdict: String, digest: u64 },
+    /// A setup call, likewise.
+    Setup { room: u16, plate: Plate, verdict: String, digest: u64 },
 }
 
 /// FNV-1a, 64 bits.
@@ -593,10 +711,11 @@ impl Calls {
 
     fn run(&mut self) {
         self.pool.span = self.rng.pick(&SPANS);
-        match self.rng.below(12) {
+        match self.rng.below(15) {
             0 => self.fill(),
             1..=3 => self.dealt(),
             4..=6 => self.swapped(),
+            7..=9 => self.setups(),
             _ => {
                 self.empty();
                 for _ in 0..self.rng.between(20, 80) {
@@ -645,8 +764,112 @@ impl Calls {
         self.pool.pair(&mut self.rng).1
     }
 
+    fn is_open(&self) -> bool {
+        self.unit[OPEN_AT] == 1
+    }
+
+    /// What a setup call is to ask for: mostly a good request.
+    fn plate(&mut self) -> Plate {
+        let rng = &mut self.rng;
+        let carried = |rng: &mut Rng| match rng.below(30) {
+            0 => None,
+            1 => Some(vec![]),
+            2 => {
+                let n = rng.between(120, 140);
+                Some(rng.octets(n))
+            }
+            _ => {
+                let n = rng.between(1, 7);
+                Some(rng.octets(n))
+            }
+        };
+        let (global, mut areas) = (carried(rng), carried(rng));
+        let name = match rng.below(24) {
+            0..=6 => None,
+            7 => Some(vec![]),
+            8 => Some(vec![b'a'; rng.pick(&[151, 151, 256, 300, 8192])]),
+            9 | 10 => {
+                let mut name = rng.name();
+                let at = rng.below(name.len());
+                name[at] = rng.bad_character();
+                Some(name)
+            }
+            _ => Some(rng.name()),
+        };
+        // Now and then at about 8,192 octets in all: with a name, its element takes 5 or 6 octets and itself.
+        if rng.one_in(60) {
+            let front = global.as_ref().map_or(0, |v| 3 + v.len() + if v.len() < 128 { 1 } else { 2 });
+            let named = name.as_ref().map_or(0, |v| 5 + v.len() + if v.len() < 126 { 1 } else { 2 });
+            let rest = (5 + 3 + 5) + front + named;
+            areas = Some(vec![rng.word() as u8; rng.between(LIMIT - 2, LIMIT + 2).saturating_sub(rest)]);
+        }
+        Plate { global, name, areas }
+    }
+
+    fn setup(&mut self) {
+        let plate = self.plate();
+        let (record, values) = plate.record();
+        let mut fresh = [0; UNIT_OCTETS];
+        let size = setup(&mut fresh, &record, &values, &mut [0; LIMIT]).reply;
+        let room = match self.rng.below(12) {
+            0 => size,
+            1 => size.saturating_sub(1),
+            2 => self.rng.below(40),
+            3 => 0,
+            // A long request is in the way of whoever reads the cases.
+            _ if size > 2000 => self.rng.pick(&[0, size - 1, size - 1]),
+            _ => LIMIT,
+        };
+        let verdict = setup_verdict(&mut self.unit, room, &plate);
+        let digest = digest(&self.unit);
+        self.steps.push_back(Step::Setup { room: room as u16, plate, verdict, digest });
+    }
+
+    /// A response or a failure, mostly a good one.
+    fn outcome(&mut self) {
+        let kind = self.rng.pick(&[Kind::SetupResponse, Kind::SetupFailure]);
+        let style = match self.rng.below(10) {
+            0 => Style { wild: self.rng.pick(&[4, 12]), missing: 20, unknown: 30, order: 20, reject: true },
+            1 => Style { wild: 0, missing: 20, unknown: 70, order: 50, reject: true },
+            2 => Style { unknown: 100, missing: 50, ..PLAIN },
+            _ => PLAIN,
+        };
+        let message = self.make(kind, Want::default(), style);
+        let room = self.room(0, &message);
+        self.play(0, room, message);
+    }
+
+    /// Setup calls, responses and failures among starts, stops and resets.
+    fn setups(&mut self) {
+        self.empty();
+        for _ in 0..self.rng.between(12, 40) {
+            match self.rng.below(20) {
+                0..=5 => self.setup(),
+                6..=11 => self.outcome(),
+                12..=16 => {
+                    let (mme, mce) = (self.pool.identity(&mut self.rng), self.pool.identity(&mut self.rng));
+                    self.start(mme, mce);
+                }
+                _ => self.any(),
+            }
+        }
+        // What a response leaves behind, from open or not.
+        if self.is_open() || self.rng.percent(30) {
+            let kind = self.rng.pick(&[Kind::SetupResponse, Kind::SetupFailure]);
+            for _ in 0..2 {
+                let message = self.make(kind, Want::default(), PLAIN);
+                self.play(0, LIMIT, message);
+            }
+        }
+    }
+
     /// Any call.
     fn any(&mut self) {
+        match self.rng.below(100) {
+            0..=4 => return self.setup(),
+            5..=8 => return self.outcome(),
+            _ => {}
+        }
         let style = match self.rng.below(10) {
             0 => Style { wild: self.rng.pick(&[15, 40]), missing: 5, unknown: 30, order: 10, reject: true },
             1 => Style { wild: 0, missing: 10, unknown: 50, order: 40, reject: true },
@@ -900,6 +1123,23 @@ pub fn calls(seed: u64, count: usize, form: Form, out: &mut impl Write) -> io::R
         match step {
             Step::Fresh if form == Form::Binary => out.write_all(&[0, 0, 0, 0, 0xff, 0xff])?,
             Step::Fresh => writeln!(out, "table")?,
+            Step::Setup { room, plate, verdict, digest } => {
+                left -= 1;
+                match form {
+                    Form::Binary => {
+                        for n in [0, room, 0xfffe] {
+                            out.write_all(&n.to_be_bytes())?;
+                        }
+                        for value in [&plate.global, &plate.name, &plate.areas] {
+                            let size = value.as_ref().map_or(0xffff, |value| value.len() as u16);
+                            out.write_all(&size.to_be_bytes())?;
+                            out.write_all(value.as_deref().unwrap_or(&[]))?;
+                        }
+                    }
+                    Form::Text => writeln!(out, "setup {room} {} => {verdict}", plate.text())?,
+                    Form::Digest => writeln!(out, "setup {room} {} => {verdict} unit={digest:016x}", plate.text())?,
+                }
+            }
             Step::Call { offered, room, message, verdict, digest } => {
                 left -= 1;
                 match form {

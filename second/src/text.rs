@@ -1,6 +1,8 @@
 //! Verdicts as text, in the form of the readings' witnesses (see README.md).
 
-use crate::{call, read, Entries, Field, Items, Kind, Read, Record, ResetType, UNIT_OCTETS};
+use crate::layout::{setup_request, write_record};
+use crate::{call, read, setup, shown, write, Done, Entries, Field, Items, Kind, Read, Record, ResetType};
+use crate::{LIMIT, OPEN_AT, UNIT_OCTETS};
 use std::fmt::Write;
 
 pub fn hex(octets: &[u8]) -> String {
@@ -23,6 +25,18 @@ pub fn unhex(text: &str) -> Option<Vec<u8>> {
     let mut octets = Vec::with_capacity(text.len() / 2);
     while let Some(high) = digits.next() {
         octets.push((high? << 4 | digits.next()??) as u8);
+    }
+    Some(octets)
+}
+
+/// Octets of a case: hexadecimal; blanks may stand between them, `41*150` is 150 such octets, and `.` none.
+pub fn octets_of(text: &str) -> Option<Vec<u8>> {
+    let mut octets = Vec::new();
+    for word in text.split_whitespace().filter(|&word| word != ".") {
+        match word.split_once('*') {
+            Some((word, times)) => octets.extend(unhex(word)?.repeat(times.parse().ok()?)),
+            None => octets.extend(unhex(word)?),
+        }
     }
     Some(octets)
 }
@@ -90,6 +104,8 @@ pub fn push_record(s: &mut String, record: &Record) {
                 }
                 None => false,
             },
+            Field::Name => record.name.map(|v| push_hex(s, v)).is_some(),
+            Field::Wait => record.wait.map(|v| write!(s, "{v}")).is_some(),
             Field::Carried => record.carried[i].map(|v| push_hex(s, v)).is_some(),
         };
         if !there {
@@ -128,21 +144,64 @@ pub fn read_verdict(octets: &[u8]) -> String {
     s
 }
 
-/// Makes a call and tells its verdict. Also holds the call to what it may touch: the rest of
-/// the room, and the unit where the answer is not 0.
-pub fn call_verdict(unit: &mut [u8], offered: u16, room: usize, message: &[u8]) -> String {
-    const FILL: u8 = 0xa5;
+const FILL: u8 = 0xa5;
+
+/// Lends a unit and room to a call and tells its verdict. Also holds the call to what it may touch:
+/// the rest of the room, and the unit where the answer is not 0.
+fn verdict(unit: &mut [u8], room: usize, call: impl FnOnce(&mut [u8], &mut [u8]) -> Done) -> String {
     let mut room = vec![FILL; room];
     let before = unit.to_vec();
-    let done = call(unit, message, offered, &mut room);
+    let done = call(unit, &mut room);
     assert!(room[done.reply..].iter().all(|&b| b == FILL), "room touched behind the reply");
     assert!(done.answer == 0 || before == unit, "unit changed");
-    let offset = match done.answer {
-        2 | 3 => done.offset.to_string(),
-        _ => "-".into(),
+    let number = |there: bool, n: usize| if there { n.to_string() } else { "-".into() };
+    let offset = number(matches!(done.answer, 2 | 3), done.offset);
+    let wait = number(done.wait > 0, done.wait as usize);
+    let (held, open) = match unit.len() {
+        UNIT_OCTETS => (u16::from_be_bytes([unit[0], unit[1]]), unit[OPEN_AT]),
+        _ => (0, 0),
     };
-    let held = if unit.len() == UNIT_OCTETS { u16::from_be_bytes([unit[0], unit[1]]) } else { 0 };
-    format!("answer={} offset={offset} reply={} held={held}", done.answer, hex(&room[..done.reply]))
+    let reply = hex(&room[..done.reply]);
+    format!("answer={} offset={offset} reply={reply} held={held} open={open} wait={wait}", done.answer)
+}
+
+/// Makes a unit call and tells its verdict.
+pub fn call_verdict(unit: &mut [u8], offered: u16, room: usize, message: &[u8]) -> String {
+    verdict(unit, room, |unit, room| call(unit, message, offered, room))
+}
+
+/// The values of an M3 SETUP REQUEST: Global MCE ID, MCE Name, MBMS Service Area List.
+#[derive(Clone, Debug)]
+pub struct Plate {
+    pub global: Option<Vec<u8>>,
+    pub name: Option<Vec<u8>>,
+    pub areas: Option<Vec<u8>>,
+}
+
+impl Plate {
+    /// The record for C, and the octets in which its values lie.
+    pub fn record(&self) -> (Vec<u8>, Vec<u8>) {
+        setup_request(self.global.as_deref(), self.name.as_deref(), self.areas.as_deref())
+    }
+
+    /// `GLOBAL NAME AREAS`, the words of a case.
+    pub fn text(&self) -> String {
+        let word = |value: &Option<Vec<u8>>| match value.as_deref() {
+            None => "-".to_string(),
+            Some([]) => ".".to_string(),
+            Some([first, rest @ ..]) if rest.len() > 300 && rest.iter().all(|b| b == first) => {
+                format!("{first:02x}*{}", rest.len() + 1)
+            }
+            Some(octets) => hex(octets),
+        };
+        format!("{} {} {}", word(&self.global), word(&self.name), word(&self.areas))
+    }
+}
+
+/// Makes a setup call and tells its verdict.
+pub fn setup_verdict(unit: &mut [u8], room: usize, plate: &Plate) -> String {
+    let (record, values) = plate.record();
+    verdict(unit, room, |unit, room| setup(unit, &record, &values, room))
 }
 
 /// The parts of a line `call OFFERED ROOM HEX`, without the word `call`.
@@ -150,21 +209,64 @@ pub fn call_parts(text: &str) -> Option<(u16, usize, Vec<u8>)> {
     let mut parts = text.trim().splitn(3, ' ');
     let offered = parts.next()?.parse().ok()?;
     let room = parts.next()?.parse().ok()?;
-    let octets = unhex(parts.next().unwrap_or(""))?;
+    let octets = octets_of(parts.next().unwrap_or(""))?;
     Some((offered, room, octets))
 }
 
-/// Runs a witness, `read HEX => VERDICT` or `call OFFERED ROOM HEX => VERDICT` on a fresh
-/// unit: the verdict it gives and ours. None if the line is no witness.
-pub fn witness(line: &str) -> Option<(String, String)> {
-    let (case, given) = line.trim().split_once(" => ")?;
-    let ours = if let Some(text) = case.strip_prefix("read ") {
-        read_verdict(&unhex(text)?)
-    } else if let Some(text) = case.strip_prefix("call ") {
-        let (offered, room, octets) = call_parts(text)?;
-        call_verdict(&mut [0; UNIT_OCTETS], offered, room, &octets)
-    } else {
+/// The parts of a line `setup ROOM GLOBAL NAME AREAS`, without the word `setup`; likewise of `written`.
+pub fn setup_parts(text: &str) -> Option<(usize, Plate)> {
+    let words: Vec<&str> = text.split_whitespace().collect();
+    let [room, global, name, areas] = words[..] else {
         return None;
     };
-    Some((given.trim().to_string(), ours))
+    let value = |word| if word == "-" { Some(None) } else { octets_of(word).map(Some) };
+    Some((room.parse().ok()?, Plate { global: value(global)?, name: value(name)?, areas: value(areas)? }))
+}
+
+/// What is written into the room, by `write`.
+fn written(room: usize, write: impl FnOnce(&mut [u8]) -> (u8, usize)) -> String {
+    let mut room = vec![FILL; room];
+    let (answer, size) = write(&mut room);
+    assert!(room[size..].iter().all(|&b| b == FILL), "room touched behind the message");
+    format!("answer={answer} octets={}", hex(&room[..size]))
+}
+
+/// Runs a case on a unit: its verdict. None if the case is not understood. The cases:
+/// `read HEX`, `write HEX`, `written ROOM GLOBAL NAME AREAS`, `call OFFERED ROOM HEX`,
+/// `setup ROOM GLOBAL NAME AREAS`, `shown HEX LABEL`.
+pub fn case_verdict(unit: &mut [u8], case: &str) -> Option<String> {
+    let (word, text) = case.split_once(' ').unwrap_or((case, ""));
+    Some(match word {
+        "read" => read_verdict(&octets_of(text)?),
+        "write" => match read(&octets_of(text)?) {
+            Read::Message(reading) if reading.rejected.is_none() => {
+                written(LIMIT, |room| write(&reading.record, room).map_or_else(|no| (no.answer(), 0), |n| (0, n)))
+            }
+            _ => return None,
+        },
+        "written" => {
+            let (room, plate) = setup_parts(text)?;
+            let (record, values) = plate.record();
+            written(room, |room| {
+                let done = write_record(&record, &values, room);
+                (done.answer, done.reply)
+            })
+        }
+        "call" => {
+            let (offered, room, octets) = call_parts(text)?;
+            call_verdict(unit, offered, room, &octets)
+        }
+        "setup" => {
+            let (room, plate) = setup_parts(text)?;
+            setup_verdict(unit, room, &plate)
+        }
+        "shown" => {
+            let (request, label) = text.trim().rsplit_once(' ')?;
+            let (request, label) = (octets_of(request)?, octets_of(label)?);
+            let part = shown(&request, &label);
+            let of = if part.of_label { &label } else { &request };
+            format!("shown={}", hex(&of[part.from..part.from + part.octets]))
+        }
+        _ => return None,
+    })
 }

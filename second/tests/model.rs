@@ -2,8 +2,9 @@
 #![deny(warnings)]
 
 use second::make::{Calls, Reads, Step};
-use second::text::{hex, read_verdict};
-use second::{call, count_in, marks, read, row_in, write, Association, Marks, Read, Tmgi, UNIT_OCTETS};
+use second::text::{hex, read_verdict, Plate};
+use second::{call, count_in, marks, read, row_in, setup, shown, write};
+use second::{Association, Marks, Part, Read, Tmgi, UNIT_OCTETS};
 
 type Pair = (Option<u16>, Option<u16>);
 type Note = (u8, u16, u8);
@@ -19,12 +20,18 @@ enum Value {
     Part(Vec<Pair>),
     Acknowledged(Vec<Pair>),
     Diagnostics(Option<u8>, Option<u8>, Option<u8>, Option<Vec<Note>>),
+    /// Where the characters begin, and they.
+    Name(usize, Vec<u8>),
+    Wait(u8),
     Carried(Vec<u8>),
 }
+
+const PRINTABLE: &str = "ABCDEFGHIJKLMNOPQRSTUVWXYZ abcdefghijklmnopqrstuvwxyz 0123456789 '()+,-./:=?";
 
 struct Message {
     name: &'static str,
     frame: u8,
+    kind: u8,
     procedure: u8,
     elements: Vec<(u16, Value)>,
     noted: Vec<Note>,
@@ -40,7 +47,7 @@ enum Verdict {
 }
 
 /// kind, procedure, frame's criticality, name, elements (id, presence, criticality).
-const TABLES: [(u64, u64, u8, &str, &str); 8] = [
+const TABLES: [(u64, u64, u8, &str, &str); 11] = [
     (0, 0, 0, "StartRequest", "0mr 2mr 3oi 4mr 5mr 6mr 16mr 7mr 21oi 23oi 24oi 25or"),
     (1, 0, 0, "StartResponse", "0mi 1mi 8oi"),
     (2, 0, 0, "StartFailure", "0mi 9mi 8oi"),
@@ -49,6 +56,9 @@ const TABLES: [(u64, u64, u8, &str, &str); 8] = [
     (0, 4, 0, "Reset", "9mi 13mr"),
     (1, 4, 0, "ResetAcknowledge", "15oi 8oi"),
     (0, 2, 1, "ErrorIndication", "0oi 1oi 9oi 8oi"),
+    (0, 7, 0, "SetupRequest", "18mr 19oi 20mr"),
+    (1, 7, 0, "SetupResponse", "8oi"),
+    (2, 7, 0, "SetupFailure", "9mi 12oi 8oi"),
 ];
 
 fn rows(text: &str) -> Vec<(u16, bool, u8)> {
@@ -233,6 +243,30 @@ fn value(id: u16, mut c: Cursor) -> Result<Value, Bad> {
             }
             Value::Diagnostics(parts.0, parts.1, parts.2, parts.3)
         }
+        19 => {
+            c.extension()?;
+            let at = c.at();
+            let n = c.below(8, 150)? as usize + 1;
+            // Characters begin with a whole octet; a length that reaches past the value is at fault.
+            if c.bit.div_ceil(8) + n > c.end {
+                return Err((2, at));
+            }
+            c.align()?;
+            let first = c.at();
+            let mut characters = Vec::new();
+            for at in first..first + n {
+                let character = c.take(8)? as u8;
+                if !PRINTABLE.as_bytes().contains(&character) {
+                    return Err((2, at));
+                }
+                characters.push(character);
+            }
+            Value::Name(first, characters)
+        }
+        12 => {
+            c.extension()?;
+            Value::Wait(c.below(3, 6)?)
+        }
         _ => {
             let octets = c.o[c.at()..c.end].to_vec();
             c.bit = 8 * c.end;
@@ -243,7 +277,8 @@ fn value(id: u16, mut c: Cursor) -> Result<Value, Bad> {
     Ok(value)
 }
 
-fn model_read(o: &[u8], requests_only: bool) -> Verdict {
+/// What the reader says; with `open`, what a call says on a unit of that mark.
+fn model_read(o: &[u8], open: Option<bool>) -> Verdict {
     if o.len() > 8192 {
         return Verdict::Bare(1);
     }
@@ -266,8 +301,13 @@ fn model_read(o: &[u8], requests_only: bool) -> Verdict {
     let Some(&(.., own, name, table)) = TABLES.iter().find(|t| t.0 == kind && t.1 == procedure) else {
         return Verdict::Bare(4);
     };
-    if requests_only && kind != 0 {
-        return Verdict::Bare(4);
+    if let Some(open) = open {
+        match name {
+            "SetupResponse" | "SetupFailure" if open => {}
+            "SetupResponse" | "SetupFailure" => return Verdict::Bare(14),
+            "StartRequest" | "StopRequest" | "Reset" | "ErrorIndication" => {}
+            _ => return Verdict::Bare(4),
+        }
     }
     let rows = rows(table);
 
@@ -336,7 +376,8 @@ fn model_read(o: &[u8], requests_only: bool) -> Verdict {
         && elements.iter().all(|e| e.2.is_some_and(|row| rows[row].2 == e.1))
         && items_plain;
     let elements = before.iter().filter_map(|e| e.3.clone().map(|value| (e.0, value))).collect();
-    Verdict::Message(Message { name, frame: criticality, procedure: procedure as u8, elements, noted, rejected, plain })
+    let (kind, procedure) = (kind as u8, procedure as u8);
+    Verdict::Message(Message { name, frame: criticality, kind, procedure, elements, noted, rejected, plain })
 }
 
 fn length(o: &[u8], at: usize) -> (usize, usize) {
@@ -377,6 +418,8 @@ fn show_value(value: &Value) -> String {
             let list = list.as_ref().map(|list| show_notes(list));
             format!("{{{},{},{},{}}}", show(*a), show(*b), show(*c), show(list))
         }
+        Value::Name(_, o) => hex(o),
+        Value::Wait(n) => n.to_string(),
         Value::Carried(o) => hex(o),
     }
 }
@@ -401,11 +444,28 @@ fn show_verdict(verdict: &Verdict) -> String {
 
 #[test]
 fn reads_agree() {
-    let mut rewritten = 0;
+    let (mut rewritten, mut names) = (0, 0);
     for seed in 0..10 {
         for octets in Reads::new(seed).take(4000) {
-            let verdict = model_read(&octets, false);
+            let verdict = model_read(&octets, None);
             assert_eq!(show_verdict(&verdict), read_verdict(&octets), "{}", hex(&octets));
+            // The name that is shown, beside labels of 0 to 151 octets.
+            let label = vec![0xff; octets.len() % 152];
+            let part = match &verdict {
+                Verdict::Message(Message { name: "SetupRequest", rejected: None, elements, .. }) => {
+                    elements.iter().find_map(|(_, value)| match value {
+                        Value::Name(from, characters) => Some((*from, characters.len())),
+                        _ => None,
+                    })
+                }
+                _ => None,
+            };
+            let wanted = match part {
+                Some((from, octets)) => Part { of_label: false, from, octets },
+                None => Part { of_label: true, from: 0, octets: label.len().min(150) },
+            };
+            assert_eq!(shown(&octets, &label), wanted, "{}", hex(&octets));
+            names += part.is_some() as usize;
             let (Verdict::Message(model), Read::Message(reading)) = (verdict, read(&octets)) else { continue };
             let mut room = [0x77; 8192];
             let written = write(&reading.record, &mut room);
@@ -424,15 +484,21 @@ fn reads_agree() {
             }
         }
     }
-    assert!(rewritten > 3000, "{rewritten}");
+    assert!(rewritten > 3000 && names > 300, "{rewritten} {names}");
 }
 
 /// An association: MME and MCE identity, TMGI, Session Identity.
 type Held = (u16, u16, Vec<u8>, Option<u8>);
 
-fn lent(state: &[Held]) -> Vec<u8> {
-    let mut o = (state.len() as u16).to_be_bytes().to_vec();
-    for (mme, mce, tmgi, session) in state {
+#[derive(Clone, Default)]
+struct State {
+    held: Vec<Held>,
+    open: bool,
+}
+
+fn lent(state: &State) -> Vec<u8> {
+    let mut o = (state.held.len() as u16).to_be_bytes().to_vec();
+    for (mme, mce, tmgi, session) in &state.held {
         o.extend(mme.to_be_bytes());
         o.extend(mce.to_be_bytes());
         o.extend(tmgi);
@@ -441,12 +507,16 @@ fn lent(state: &[Held]) -> Vec<u8> {
             None => [0, 0],
         });
     }
+    o.resize(3076, 0);
+    o.push(state.open as u8);
     o.resize(UNIT_OCTETS, 0);
     o
 }
 
 /// What a unit says of the state: its rows and none behind them, counts by TMGI, marks.
-fn seen_in(unit: &[u8], state: &[Held]) {
+fn seen_in(unit: &[u8], state: &State) {
+    let open = [state.open, false];
+    let state = &state.held;
     let tmgi = |o: &[u8]| Tmgi { plmn: o[..3].try_into().unwrap(), service: o[3..].try_into().unwrap() };
     let n = state.len();
     for (k, held) in state.iter().enumerate() {
@@ -458,13 +528,13 @@ fn seen_in(unit: &[u8], state: &[Held]) {
     for k in [n as u32, 256, 65536, u32::MAX] {
         assert_eq!(row_in(unit, k), Some((n, None)));
     }
-    let fresh = Marks { held: [n, 0], open: [false; 2], edition: 18, rooms: 256, next: 0, settings: 0 };
-    assert_eq!(marks(unit), Some(fresh));
+    let seen = Marks { held: [n, 0], open, edition: 18, rooms: 256, next: 0, settings: 0 };
+    assert_eq!(marks(unit), Some(seen));
 }
 
-fn element(id: u16, value: &[u8], out: &mut Vec<u8>) {
+fn element(id: u16, criticality: u8, value: &[u8], out: &mut Vec<u8>) {
     out.extend(id.to_be_bytes());
-    out.push(0x40);
+    out.push(criticality << 6);
     sized(value, out);
 }
 
@@ -476,18 +546,19 @@ fn sized(value: &[u8], out: &mut Vec<u8>) {
     out.extend(value);
 }
 
-/// Replies hold ignore elements only, in the order given.
+/// Elements in the order given, of ignore but for two of an M3 SETUP REQUEST.
 fn message(first: u8, procedure: u8, criticality: u8, elements: &[(u16, Vec<u8>)]) -> Vec<u8> {
     let mut body = vec![0, 0, elements.len() as u8];
     for (id, value) in elements {
-        element(*id, value, &mut body);
+        element(*id, ![18, 20].contains(id) as u8, value, &mut body);
     }
     let mut out = vec![first, procedure, criticality];
     sized(&body, &mut out);
     out
 }
 
-fn bits_of(notes: &[Note], frame: Option<(u8, u8)>) -> Vec<u8> {
+/// Diagnostics: of an ERROR INDICATION with code, triggering message and criticality.
+fn bits_of(notes: &[Note], frame: Option<(u8, u8, u8)>) -> Vec<u8> {
     let mut bits = String::new();
     let align = |bits: &mut String| {
         while !bits.len().is_multiple_of(8) {
@@ -496,7 +567,9 @@ fn bits_of(notes: &[Note], frame: Option<(u8, u8)>) -> Vec<u8> {
     };
     let list = if notes.is_empty() { "00" } else { "10" };
     match frame {
-        Some((procedure, criticality)) => bits += &format!("0111{list}00{procedure:08b}00{criticality:02b}"),
+        Some((procedure, trigger, criticality)) => {
+            bits += &format!("0111{list}00{procedure:08b}{trigger:02b}{criticality:02b}")
+        }
         None => bits += &format!("0000{list}"),
     }
     if !notes.is_empty() {
@@ -524,19 +597,21 @@ fn acknowledged(items: &[Pair]) -> Vec<u8> {
             o[0] |= 0x20;
             o.extend(mce.to_be_bytes());
         }
-        element(14, &o, &mut value);
+        element(14, 1, &o, &mut value);
     }
     value
 }
 
-/// The model's call: answer, offset, reply.
-fn model_call(state: &mut Vec<Held>, offered: u16, room: usize, o: &[u8]) -> (u8, usize, Vec<u8>) {
-    let m = match model_read(o, true) {
-        Verdict::Bare(answer) => return (answer, 0, vec![]),
-        Verdict::At((answer, at)) => return (answer, at, vec![]),
+/// The model's call: answer, offset, reply, seconds to wait.
+fn model_call(unit: &mut State, offered: u16, room: usize, o: &[u8]) -> (u8, usize, Vec<u8>, u16) {
+    let m = match model_read(o, Some(unit.open)) {
+        Verdict::Bare(answer) => return (answer, 0, vec![], 0),
+        Verdict::At((answer, at)) => return (answer, at, vec![], 0),
         Verdict::Message(m) => m,
     };
+    let state = &unit.held;
     let mut new = state.clone();
+    let (mut open, mut wait) = (unit.open, 0);
     let find = |id| m.elements.iter().find(|e| e.0 == id).map(|e| e.1.clone());
     let number = |id| match find(id) {
         Some(Value::Identity(n)) => Some(n),
@@ -555,7 +630,7 @@ fn model_call(state: &mut Vec<Held>, offered: u16, room: usize, o: &[u8]) -> (u8
     let indication = |cause: u8, always: bool| {
         let mut elements: Vec<_> = vec![named(0, mme), named(1, mce), Some((9, vec![cause]))];
         if always || !m.noted.is_empty() {
-            elements.push(Some((8, bits_of(&m.noted, Some((m.procedure, m.frame))))));
+            elements.push(Some((8, bits_of(&m.noted, Some((m.procedure, m.kind, m.frame))))));
         }
         let elements: Vec<_> = elements.into_iter().flatten().collect();
         message(0, 2, 0x40, &elements)
@@ -615,54 +690,124 @@ fn model_call(state: &mut Vec<Held>, offered: u16, room: usize, o: &[u8]) -> (u8
                 }
                 _ => panic!(),
             },
+            "SetupResponse" => {
+                new.clear();
+                open = false;
+                (0, vec![])
+            }
+            "SetupFailure" => {
+                open = false;
+                if let Some(Value::Wait(n)) = find(12) {
+                    wait = [1, 2, 5, 10, 20, 60][n as usize];
+                }
+                (0, vec![])
+            }
             _ => (0, vec![]),
         }
     };
     if reply.len() > room {
-        return (10, 0, vec![]);
+        return (10, 0, vec![], 0);
     }
     if answer == 0 {
-        *state = new;
+        *unit = State { held: new, open };
     }
-    (answer, 0, reply)
+    (answer, 0, reply, wait)
+}
+
+/// The model's setup call: answer and request.
+fn model_setup(unit: &mut State, room: usize, plate: &Plate) -> (u8, Vec<u8>) {
+    let named = plate.name.as_ref();
+    if named.is_some_and(|o| o.is_empty() || o.len() > 150 || o.iter().any(|c| !PRINTABLE.as_bytes().contains(c))) {
+        return (12, vec![]);
+    }
+    if unit.open {
+        return (13, vec![]);
+    }
+    let there = |value: &Option<Vec<u8>>| value.clone().filter(|o| !o.is_empty());
+    let (Some(global), Some(areas)) = (there(&plate.global), there(&plate.areas)) else {
+        return (11, vec![]);
+    };
+    let named = named.map(|o| {
+        let length = (o.len() - 1) * 128;
+        (19, [&[(length / 256) as u8, (length % 256) as u8], &o[..]].concat())
+    });
+    let elements: Vec<_> = [Some((18, global)), named, Some((20, areas))].into_iter().flatten().collect();
+    let request = message(0, 7, 0, &elements);
+    if request.len() > 8192 {
+        return (11, vec![]);
+    }
+    if request.len() > room {
+        return (10, vec![]);
+    }
+    unit.open = true;
+    (0, request)
+}
+
+/// Every reply and request is a message of ours, read with 0 and written alike.
+fn well_formed(message: &[u8]) {
+    let Read::Message(reading) = read(message) else { panic!("{}", hex(message)) };
+    assert!(reading.rejected.is_none() && reading.noted.is_empty());
+    let mut again = vec![0; message.len()];
+    assert_eq!(write(&reading.record, &mut again), Ok(message.len()));
+    assert_eq!(again, message);
 }
 
 #[test]
 fn calls_agree() {
-    let mut seen = [0usize; 11];
+    // By answer; setup calls; seconds handed back.
+    let (mut seen, mut set_up, mut waits) = ([0usize; 15], [0usize; 15], [0usize; 61]);
     for seed in 0..8 {
-        let mut state = Vec::new();
+        let mut state = State::default();
         let mut unit = vec![0; UNIT_OCTETS];
-        for step in Calls::new(seed).take(4000) {
-            let Step::Call { offered, room, message, .. } = step else {
-                state.clear();
-                unit.fill(0);
-                continue;
+        for (number, step) in Calls::new(seed).take(6000).enumerate() {
+            let before = state.held.len();
+            let put = match step {
+                Step::Fresh => {
+                    state = State::default();
+                    unit.fill(0);
+                    continue;
+                }
+                Step::Call { offered, room, message, .. } => {
+                    let (answer, offset, reply, wait) = model_call(&mut state, offered, room as usize, &message);
+                    let mut lend = vec![0xa5; room as usize];
+                    let done = call(&mut unit, &message, offered, &mut lend);
+                    let case = || format!("{offered} {room} {}", hex(&message));
+                    assert_eq!((answer, offset, wait), (done.answer, done.offset, done.wait), "{}", case());
+                    assert_eq!(hex(&reply), hex(&lend[..done.reply]), "{}", case());
+                    assert!(lend[done.reply..].iter().all(|&b| b == 0xa5));
+                    seen[answer as usize] += 1;
+                    waits[wait as usize] += 1;
+                    reply
+                }
+                Step::Setup { room, plate, .. } => {
+                    let (answer, request) = model_setup(&mut state, room as usize, &plate);
+                    let mut lend = vec![0xa5; room as usize];
+                    let (record, values) = plate.record();
+                    let done = setup(&mut unit, &record, &values, &mut lend);
+                    assert_eq!((answer, 0, 0), (done.answer, done.offset, done.wait), "{room} {plate:?}");
+                    assert_eq!(hex(&request), hex(&lend[..done.reply]), "{room} {plate:?}");
+                    assert!(lend[done.reply..].iter().all(|&b| b == 0xa5));
+                    set_up[answer as usize] += 1;
+                    request
+                }
             };
-            let before = state.len();
-            let (answer, offset, reply) = model_call(&mut state, offered, room as usize, &message);
-            let mut lend = vec![0xa5; room as usize];
-            let done = call(&mut unit, &message, offered, &mut lend);
-            assert_eq!((answer, offset), (done.answer, done.offset), "{offered} {room} {}", hex(&message));
-            assert_eq!(hex(&reply), hex(&lend[..done.reply]), "{offered} {room} {}", hex(&message));
-            assert!(lend[done.reply..].iter().all(|&b| b == 0xa5));
-            assert_eq!(lent(&state), unit, "{before} {}", hex(&message));
-            if seen.iter().sum::<usize>() % 50 == 0 {
+            assert_eq!(lent(&state), unit, "{before}");
+            if number % 50 == 0 {
                 seen_in(&unit, &state);
             }
-            seen[answer as usize] += 1;
-            if !reply.is_empty() {
-                // Every reply is a message of ours, read with 0 and written alike.
-                let Read::Message(reading) = read(&reply) else { panic!("{}", hex(&reply)) };
-                assert!(reading.rejected.is_none() && reading.noted.is_empty());
-                let mut again = vec![0; reply.len()];
-                assert_eq!(write(&reading.record, &mut again), Ok(reply.len()));
-                assert_eq!(again, reply);
+            if !put.is_empty() {
+                well_formed(&put);
             }
         }
     }
-    for answer in [0, 2, 3, 4, 5, 6, 7, 8, 9, 10] {
+    for answer in [0, 2, 3, 4, 5, 6, 7, 8, 9, 10, 14] {
         assert!(seen[answer] > 20, "answer {answer}: {}", seen[answer]);
+    }
+    for answer in [0, 10, 11, 12, 13] {
+        assert!(set_up[answer] > 20, "setup, answer {answer}: {}", set_up[answer]);
+    }
+    for seconds in [1, 2, 5, 10, 20, 60] {
+        assert!(waits[seconds] > 5, "{seconds} seconds: {}", waits[seconds]);
     }
 }
 
@@ -673,17 +818,46 @@ fn binary_form() {
     calls(7, 3000, Form::Text, &mut text).unwrap();
     calls(7, 3000, Form::Binary, &mut binary).unwrap();
     let mut rest = &binary[..];
+    let mut setups = 0;
     for line in std::str::from_utf8(&text).unwrap().lines() {
-        let n = |i: usize| u16::from_be_bytes([rest[i], rest[i + 1]]);
-        let (offered, room, size) = (n(0), n(2), n(4));
-        rest = &rest[6..];
+        let number = |rest: &mut &[u8]| {
+            let (n, behind) = rest.split_at(2);
+            *rest = behind;
+            u16::from_be_bytes([n[0], n[1]])
+        };
+        let (offered, room, size) = (number(&mut rest), number(&mut rest), number(&mut rest));
         if size == 0xffff {
             assert_eq!((line, offered, room), ("table", 0, 0));
+            continue;
+        }
+        if size == 0xfffe {
+            let mut value = || match number(&mut rest) {
+                0xffff => None,
+                n => {
+                    let (value, behind) = rest.split_at(n as usize);
+                    rest = behind;
+                    Some(value.to_vec())
+                }
+            };
+            let plate = Plate { global: value(), name: value(), areas: value() };
+            assert_eq!(offered, 0);
+            assert!(line.starts_with(&format!("setup {room} {} => ", plate.text())), "{line}");
+            setups += 1;
             continue;
         }
         let (message, behind) = rest.split_at(size as usize);
         rest = behind;
         assert!(line.starts_with(&format!("call {offered} {room} {} => ", hex(message))));
     }
-    assert!(rest.is_empty());
+    assert!(rest.is_empty() && setups > 50, "{setups}");
+}
+
+/// The cases that are kept are what README.md says.
+#[test]
+fn kept_cases() {
+    use second::make::{calls, reads, Form};
+    let (mut messages, mut runs) = (Vec::new(), Vec::new());
+    reads(7, 400, &mut messages).unwrap();
+    calls(3, 1500, Form::Text, &mut runs).unwrap();
+    assert!(messages == include_bytes!("../cases/reads.txt") && runs == include_bytes!("../cases/calls.txt"));
 }

@@ -1,23 +1,57 @@
-//! The witnesses of tools/witnesses.txt, and the scope paper's bench examples.
+//! The witnesses, the outside encoder's messages, the scope paper's bench examples, and what no case of these reaches.
 #![deny(warnings)]
 
 use second::check;
-use second::text::{call_verdict, hex, read_verdict, unhex};
+use second::layout::{read_record, setup_request, write_record, RECORD_OCTETS};
+use second::text::{call_verdict, hex, octets_of, read_verdict, unhex};
 use second::*;
 
 #[test]
 fn witnesses() {
-    let text = include_str!("../../tools/witnesses.txt");
-    let mut result = check::Result::default();
-    check::witnesses(text, &mut result);
-    assert!(result.differences.is_empty(), "{:#?}", result.differences);
-    assert_eq!((result.reads, result.calls), (51, 15));
+    let run = |text: &str| {
+        let mut result = check::Result::default();
+        check::witnesses("witnesses", text, &mut result);
+        result
+    };
+    let first = include_str!("../../tools/witnesses.txt");
+    let second = include_str!("../../tools/witnesses-02.txt");
+    for (text, counts) in [(first, [53, 0, 0, 15, 0, 0]), (second, [13, 1, 4, 21, 24, 4])] {
+        let result = run(text);
+        assert!(result.differences.is_empty(), "{:#?}", result.differences);
+        assert_eq!(result.witnesses, counts);
+        // And a changed verdict is seen, on each line.
+        for (i, line) in text.lines().enumerate() {
+            let changed = [("=> answer=1", "=> answer=2"), ("=> answer=", "=> answer=1"), ("=> shown=", "=> shown=00")];
+            if let Some((from, to)) = changed.into_iter().find(|(from, _)| line.contains(from)) {
+                let lines: Vec<String> = text
+                    .lines()
+                    .enumerate()
+                    .map(|(k, l)| if k == i { l.replace(from, to) } else { l.into() })
+                    .collect();
+                assert_eq!(run(&lines.join("\n")).differences.len(), 1, "{line}");
+            }
+        }
+        for (from, to) in [(" offset=", " offset=1"), (" held=", " held=1"), (" reply=", " reply=00")] {
+            assert!(!run(&text.replace(from, to)).differences.is_empty());
+        }
+    }
+    for (from, to) in [(" open=0", " open=1"), (" wait=-", " wait=1"), (" octets=", " octets=00"), ("table", "# ")] {
+        assert!(!run(&second.replace(from, to)).differences.is_empty());
+    }
+}
 
-    // And a changed verdict is seen.
-    let changed = text.replace("=> answer=2 offset=1", "=> answer=2 offset=2");
+#[test]
+fn vectors() {
     let mut result = check::Result::default();
-    check::witnesses(&changed, &mut result);
-    assert!(!result.differences.is_empty());
+    for (name, text) in [
+        ("base", include_str!("../../tools/outside/base.jsonl")),
+        ("big", include_str!("../../tools/outside/big.jsonl")),
+        ("setup", include_str!("../../tools/outside/setup.jsonl")),
+    ] {
+        check::vectors(name, text, &mut result);
+    }
+    assert!(result.differences.is_empty(), "{:#?}", result.differences);
+    assert_eq!((result.messages, result.over), (484, 1));
 }
 
 fn h(text: &str) -> Vec<u8> {
@@ -50,10 +84,10 @@ fn bench() {
         unit[3] = 1;
         unit[5] = mce;
         let verdict = call_verdict(&mut unit, 0, 21, &h(RESET_1_2));
-        assert_eq!(verdict, format!("answer=0 offset=- reply={reply} held={held}"));
+        assert_eq!(verdict, format!("answer=0 offset=- reply={reply} held={held} open=0 wait=-"));
     }
     let verdict = call_verdict(&mut [0; UNIT_OCTETS], 0, 20, &h(RESET_1_2));
-    assert_eq!(verdict, "answer=10 offset=- reply= held=0");
+    assert_eq!(verdict, "answer=10 offset=- reply= held=0 open=0 wait=-");
 }
 
 #[test]
@@ -135,6 +169,22 @@ fn no_units() {
         assert_eq!(row_in(unit, 0).is_some(), good);
         assert_eq!(count_in(unit, Tmgi { plmn: [9; 3], service: [8; 3] }).is_some(), good);
         assert_eq!(marks(unit).is_some(), good);
+        let (record, values) = setup_request(Some(b"g"), Some(b"n"), Some(b"a"));
+        let set_up = setup(&mut after, &record, &values, &mut room).answer;
+        assert_eq!(
+            set_up,
+            if good && marks(unit).unwrap().open[0] {
+                13
+            } else if good {
+                10
+            } else {
+                21
+            }
+        );
+        // 21 before 12.
+        let (record, values) = setup_request(None, Some(b"@"), None);
+        let set_up = setup(&mut after, &record, &values, &mut room).answer;
+        assert_eq!((set_up, unit, [0xa5; 7]), (if good { 12 } else { 21 }, &after[..], room));
         done.answer
     };
     assert_eq!(answer(&good), 0);
@@ -144,13 +194,13 @@ fn no_units() {
         // A count of 3 names a row of zeros, which is one: identities 0 and 0.
         assert_eq!(answer(&unit), if (at, value) == (1, 3) { 0 } else { 21 }, "{at} {value}");
     }
-    // No mark may be set, on a fresh unit or another.
+    // No mark may be set but that of an open request, to 1, on a fresh unit or another.
     for at in TABLE_OCTETS..UNIT_OCTETS {
         for unit in [&good, &vec![0; UNIT_OCTETS]] {
-            for value in [1, 128, 255] {
+            for value in [1, 2, 3, 128, 129, 255] {
                 let mut unit = unit.clone();
                 unit[at] = value;
-                assert_eq!(answer(&unit), 21, "{at} {value}");
+                assert_eq!(answer(&unit), if (at, value) == (OPEN_AT, 1) { 0 } else { 21 }, "{at} {value}");
             }
         }
     }
@@ -168,7 +218,7 @@ fn no_units() {
 
 #[test]
 fn what_a_unit_holds() {
-    let unit = two_held();
+    let mut unit = two_held();
     let tmgi = Tmgi { plmn: [9; 3], service: [8; 3] };
     let first = Association { mme: 1, mce: 1, tmgi, session: Some(0) };
     let second = Association { mme: 2, mce: 2, tmgi, session: None };
@@ -188,6 +238,275 @@ fn what_a_unit_holds() {
     let marked = Marks { held: [0, 0], open: [false; 2], edition: 18, rooms: 256, next: 0, settings: 0 };
     assert_eq!(marks(&fresh), Some(marked));
     assert_eq!(marks(&unit), Some(Marks { held: [2, 0], ..marked }));
+    for (unit, held) in [(&mut unit[..], 2), (&mut [0; UNIT_OCTETS], 0)] {
+        unit[OPEN_AT] = 1;
+        assert_eq!(marks(unit), Some(Marks { held: [held, 0], open: [true, false], ..marked }));
+        assert_eq!(row_in(unit, 0).unwrap().0, held);
+    }
+}
+
+/// A SETUP REQUEST with this value of its name.
+fn named(value: &[u8]) -> Vec<u8> {
+    let elements = [&h("0012 00 01 aa 0013 40")[..], &length(value.len()), value, &h("0014 00 01 aa")].concat();
+    [&h("00 07 00")[..], &length(3 + elements.len()), &h("00 00 03"), &elements].concat()
+}
+
+fn length(n: usize) -> Vec<u8> {
+    if n < 128 {
+        vec![n as u8]
+    } else {
+        vec![128 + (n / 256) as u8, (n % 256) as u8]
+    }
+}
+
+#[test]
+fn names() {
+    let allowed = "abcdefghijklmnopqrstuvwxyzABCDEFGHIJKLMNOPQRSTUVWXYZ0123456789 '()+,-./:=?";
+    assert_eq!(allowed.len(), 74);
+    // Each character, alone and as the last of 150; read where it is written, refused where it is not.
+    for c in 0..=255u8 {
+        let good = allowed.as_bytes().contains(&c);
+        for n in [1, 2, 150] {
+            let mut name = vec![b'x'; n];
+            name[n - 1] = c;
+            let (record, values) = setup_request(Some(&[0xaa]), Some(&name), Some(&[0xaa]));
+            let mut room = [0; 400];
+            let done = write_record(&record, &values, &mut room);
+            assert_eq!(done.answer, if good { 0 } else { 12 }, "{c} {n}");
+            let length = ((n as u16 - 1) << 7).to_be_bytes();
+            let request = named(&[&length, &name[..]].concat());
+            let front = request.len() - 5 - n;
+            if good {
+                assert_eq!(room[..done.reply], request);
+                let part = Part { of_label: false, from: front, octets: n };
+                assert_eq!(shown(&request, b"label"), part);
+            } else {
+                assert_eq!(read_verdict(&request), format!("answer=2 offset={}", front + n - 1));
+                assert!(shown(&request, b"label").of_label);
+            }
+        }
+    }
+    // The length less 1: 0 to 149, each with as many characters; beside fewer and more.
+    for said in 0..256usize {
+        for n in [said, said + 1, said + 2] {
+            let value = [&((said as u16) << 7).to_be_bytes(), &vec![b'x'; n][..]].concat();
+            let request = named(&value);
+            let at = request.len() - 5 - value.len();
+            let wanted = match n as i32 - said as i32 {
+                _ if said > 149 => format!("answer=2 offset={at}"),
+                0 => format!("answer=2 offset={at}"),
+                1 => format!("answer=0 SetupRequest frame=0 18:aa 19:{} 20:aa noted=[]", "78".repeat(n)),
+                _ => format!("answer=2 offset={}", at + 3 + said),
+            };
+            assert_eq!(read_verdict(&request), wanted, "{said} {n}");
+        }
+    }
+    // Cut in its length; pad; the extension bit first, a length that reaches past before the pad, this before a
+    // character.
+    let fault = |value: &str| {
+        let request = named(&h(value));
+        let at = request.len() - 5 - h(value).len();
+        read_verdict(&request).replace(&format!("offset={at}"), "0").replace(&format!("offset={}", at + 1), "1")
+    };
+    for (value, wanted) in [
+        ("00", "answer=2 0"),
+        ("80", "answer=3 0"),
+        ("ff ff", "answer=3 0"),
+        ("7f ff", "answer=2 0"),
+        ("00 01 41", "answer=2 1"),
+        ("00 40 41", "answer=2 1"),
+        ("00 01", "answer=2 0"),
+        ("00 81 41", "answer=2 0"),
+        ("00 01 40", "answer=2 1"),
+        ("00 00", "answer=2 0"),
+    ] {
+        assert_eq!(fault(value), wanted, "{value}");
+    }
+}
+
+#[test]
+fn waits() {
+    let failure = |value: &str| [&h("40 07 00 0d 00 00 02 00 09 40 01 42 00 0c 40 01")[..], &h(value)].concat();
+    for b in 0..=255u8 {
+        let message = failure(&hex(&[b]));
+        let mut unit = [0; UNIT_OCTETS];
+        assert_eq!(call(&mut unit, &message, 0, &mut []).answer, 14);
+        unit[OPEN_AT] = 1;
+        let done = call(&mut unit, &message, 0, &mut []);
+        let seconds = [1, 2, 5, 10, 20, 60].get(b as usize / 16).filter(|_| b % 16 == 0);
+        let (answer, offset) = match (seconds, b) {
+            (Some(_), _) => (0, 0),
+            (None, 128..) => (3, 16),
+            _ => (2, 16),
+        };
+        let wait = seconds.copied().unwrap_or(0);
+        assert_eq!(done, Done { answer, offset, reply: 0, wait }, "{b}");
+        assert_eq!(unit[OPEN_AT], (answer != 0) as u8);
+    }
+    let mut record = Record::new(Kind::SetupFailure);
+    record.cause = Some(Cause { group: 4, number: 2 });
+    for n in 0..=255 {
+        record.wait = Some(n);
+        let wanted = if n < 6 { Ok(hex(&failure(&format!("{n}0")))) } else { Err(Refused::Record) };
+        assert_eq!(written(&record), wanted);
+    }
+}
+
+#[test]
+fn setups() {
+    let (good, values) = setup_request(Some(b"global"), Some(b"name"), Some(b"areas"));
+    let (misnamed, bad_values) = setup_request(Some(b"global"), Some(b"n@me"), Some(b"areas"));
+    let fresh = vec![0; UNIT_OCTETS];
+    let mut open = two_held();
+    open[OPEN_AT] = 1;
+    // On a fresh unit, and on one that has a request open; what is written alone.
+    let answers = |record: &[u8], values: &[u8], size: usize| {
+        let answer = |unit: &[u8]| {
+            let (mut after, mut room) = (unit.to_vec(), vec![0xa5; size]);
+            let done = setup(&mut after, record, values, &mut room);
+            assert_eq!((done.offset, done.wait), (0, 0));
+            if done.answer == 0 {
+                assert_eq!(done.reply, size);
+                assert_eq!((after[OPEN_AT], unit[OPEN_AT]), (1, 0));
+                after[OPEN_AT] = 0;
+            } else {
+                assert_eq!((done.reply, room), (0, vec![0xa5; size]));
+            }
+            assert_eq!(after, unit);
+            done.answer
+        };
+        let mut room = vec![0xa5; size];
+        let done = write_record(record, values, &mut room);
+        assert!(done.answer == 0 || room.iter().all(|&b| b == 0xa5));
+        [answer(&fresh), answer(&open), done.answer]
+    };
+    let size = 3 + 1 + 3 + 4 + 6 + 4 + 6 + 4 + 5;
+    assert_eq!(answers(&good, &values, size), [0, 13, 0]);
+    assert_eq!(answers(&good, &values, size - 1), [10, 13, 10]);
+    assert_eq!(answers(&misnamed, &bad_values, size), [12; 3]);
+    assert_eq!(answers(&misnamed, &bad_values, 0), [12; 3]);
+    let changed = |record: &[u8], at: usize, value: u8| {
+        let mut record = record.to_vec();
+        record[at] = value;
+        record
+    };
+    // A record that is refused with 11 has its name looked at first: a value that is absent or lies outside, a
+    // criticality over 2.
+    for (at, value) in [(3, 255), (20, 255), (1, 3), (1, 255)] {
+        assert_eq!(answers(&changed(&good, at, value), &values, size), [11, 13, 11], "{at}");
+        assert_eq!(answers(&changed(&misnamed, at, value), &bad_values, size), [12; 3], "{at}");
+    }
+    for row in [0, 2] {
+        let absent = |record: &[u8]| {
+            let mut record = record.to_vec();
+            record[2 + 8 * row..10 + 8 * row].fill(0);
+            record
+        };
+        assert_eq!(answers(&absent(&good), &values, size), [11, 13, 11]);
+        assert_eq!(answers(&absent(&misnamed), &bad_values, size), [12; 3]);
+    }
+    // A name that lies outside the values is one of no octets.
+    for (at, value) in [(11, 1), (12, 15), (13, 1), (14, 10), (14, 0)] {
+        assert_eq!(answers(&changed(&good, at, value), &values, size), [12; 3], "{at}");
+    }
+    // Octets that are no record have no name.
+    let mut none: Vec<Vec<u8>> = [&good, &misnamed].iter().map(|r| [&r[..], &[0]].concat()).collect();
+    none.extend([&good, &misnamed].iter().map(|r| r[..RECORD_OCTETS - 1].to_vec()));
+    none.push(vec![]);
+    for (at, value) in
+        [(0, 0), (0, 12), (0, 255), (2, 2), (7, 1), (10, 2), (15, 1), (17, 1), (18, 3), (23, 1), (26, 1), (97, 1)]
+    {
+        none.extend([changed(&good, at, value), changed(&misnamed, at, value)]);
+    }
+    for at in [98, 99, 100, 1635, 1636, 1637, 1638, RECORD_OCTETS - 1] {
+        none.extend([changed(&good, at, 1), changed(&misnamed, at, 1)]);
+    }
+    for record in &none {
+        assert_eq!(answers(record, &values, size), [11, 13, 11]);
+        assert_eq!(answers(record, &bad_values, 0), [11, 13, 11]);
+    }
+    // Records of other messages, which are written.
+    for message in [RESET_1_2, ACKNOWLEDGE_1_2, "20 07 00 03 00 00 00", "40 07 00 08 00 00 01 00 09 40 01 42"] {
+        let message = h(message);
+        let mut record = vec![0; RECORD_OCTETS];
+        assert_eq!(read_record(&message, &mut record).answer, 0);
+        assert_eq!(answers(&record, &message, message.len()), [11, 13, 0]);
+    }
+    // 8,192 and 8,193 octets in all.
+    for (areas, answer) in [(8174, 0), (8175, 11), (16_384, 11), (60_000, 11)] {
+        let (record, values) = setup_request(Some(&[0xaa]), None, Some(&vec![0; areas]));
+        assert_eq!(answers(&record, &values, 8192), [answer, 13, answer]);
+    }
+    // A record has room, or 10 takes the place of 0 and 5.
+    for (message, answer) in [("20 07 00 03 00 00 00", 0), ("00 04 00 03 00 00 00", 5)] {
+        let mut room = [0xa5; RECORD_OCTETS + 1];
+        let done = read_record(&h(message), &mut room);
+        assert_eq!((done.answer, done.reply, room[RECORD_OCTETS]), (answer, RECORD_OCTETS, 0xa5));
+        let mut room = [0xa5; RECORD_OCTETS - 1];
+        let done = read_record(&h(message), &mut room);
+        assert_eq!((done.answer, done.reply, room), (10, 0, [0xa5; RECORD_OCTETS - 1]));
+    }
+}
+
+/// A response to two held associations, an open request and any room.
+#[test]
+fn outcomes() {
+    let response = h("20 07 00 03 00 00 00");
+    let mut open = two_held();
+    open[OPEN_AT] = 1;
+    let run = |message: &[u8], room: usize| {
+        let (mut unit, mut lend) = (open.clone(), vec![0xa5; room]);
+        let done = call(&mut unit, message, 9, &mut lend);
+        assert!(lend[done.reply..].iter().all(|&b| b == 0xa5));
+        (done.answer, done.reply, unit)
+    };
+    for room in [0, 8192] {
+        assert_eq!(run(&response, room), (0, 0, vec![0; UNIT_OCTETS]));
+        assert_eq!(run(&h("40 07 00 03 00 00 00"), room), (0, 0, two_held()));
+    }
+    // A criticality in the frame other than the procedure's is not looked at.
+    assert_eq!(run(&h("20 07 80 03 00 00 00"), 0).0, 0);
+    // 5: what is replied needs room, and nothing else changes.
+    let rejected = octets_of("20 07 00 08 00 00 01 00 63 00 01 ff").unwrap();
+    assert_eq!(run(&rejected, 24), (5, 24, open.clone()));
+    assert_eq!(run(&rejected, 23), (10, 0, open.clone()));
+    // Without the mark: 14, before faults inside; the frame's before it.
+    let mut unit = two_held();
+    for (message, answer) in
+        [("20 07 00 01 80", 14), ("40 07 00 01 ff", 14), ("00 07 00 01 80", 4), ("20 07 00 00", 2), ("60 07", 2)]
+    {
+        assert_eq!(call(&mut unit, &h(message), 0, &mut []).answer, answer, "{message}");
+    }
+    assert_eq!(unit, two_held());
+    // A request that is open stays so, whatever else comes.
+    for message in [RESET_1_2, "00 04 00 08 00 00 01 00 0d 00 01 00", "00 02 40 03 00 00 00", "20 04 00 03 00 00 00"] {
+        assert_eq!(run(&h(message), 8192).2[OPEN_AT], 1);
+    }
+}
+
+#[test]
+fn labels() {
+    for n in [0, 1, 149, 150, 151, 8193] {
+        let label = vec![0xff; n];
+        let part = Part { of_label: true, from: 0, octets: n.min(150) };
+        // No message; not read; another message; without a name; not accepted: an element repeated, one missing,
+        // one not understood.
+        for request in [
+            "",
+            "00 07 00 16 00 00 03 00 12 00 01 aa 00 13 40 05 01 00 41 42 40 00 14 00 01 aa",
+            "20 07 00 03 00 00 00",
+            "00 07 00 0d 00 00 02 00 12 00 01 aa 00 14 00 01 aa",
+            "00 07 00 1a 00 00 04 00 12 00 01 aa 00 13 40 04 00 80 41 42 00 14 00 01 aa 00 14 00 01 aa",
+            "00 07 00 10 00 00 02 00 12 00 01 aa 00 13 40 04 00 80 41 42",
+            "00 07 00 1a 00 00 04 00 12 00 01 aa 00 13 40 04 00 80 41 42 00 14 00 01 aa 00 63 00 01 aa",
+        ] {
+            assert_eq!(shown(&h(request), &label), part, "{request}");
+        }
+        // An unknown element that is dropped, and another criticality than the table's, are no matter.
+        let request = h("00 07 40 1a 00 00 04 00 63 80 01 aa 00 12 40 01 aa 00 13 00 04 00 80 41 42 00 14 00 01 aa");
+        assert_eq!(shown(&request, &label), Part { of_label: false, from: 23, octets: 2 });
+        assert_eq!(&request[23..25], b"AB");
+    }
 }
 
 #[test]
@@ -214,4 +533,10 @@ fn captures() {
          message=3 answer=0 reply=21 held=0 messages=3 cut=0 "
     );
     assert_eq!(play(&long[..8000]), "messages=0 cut=1 ");
+    // Nothing opens a setup request in a capture.
+    let setups =
+        ["20 07 00 03 00 00 00", "40 07 00 08 00 00 01 00 09 40 01 42", "00 07 00 01 00"].map(|m| entry(0, &h(m)));
+    let answers: Vec<String> =
+        play(&setups.concat()).split(' ').filter(|l| l.starts_with("answer")).map(String::from).collect();
+    assert_eq!(answers, ["answer=14", "answer=14", "answer=4"]);
 }

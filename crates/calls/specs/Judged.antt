@@ -1,13 +1,21 @@
 -- The judging of a message: a refusal with its answer and reply, or a request of which nothing is absent. The unit is not looked at.
 use Prim.Native.Nat.{ℕ}
+use mathlib.Core.Bool.{Bool, false, not, _&&_}
 use mathlib.Core.List.{List, []}
+use lib.Dec.{ltb}
+use lib.ListN.{length}
+use Rattle.octets.specs.Read.{Read, got, stop}
 use Rattle.identity.specs.declared.Item.{Item}
 use Rattle.entries.specs.declared.Entry.{Entry}
 use Rattle.frames.specs.declared.Frame.{Frame}
+use Rattle.frames.specs.Frame.{frameAt}
 use Rattle.editions.specs.declared.Edition.{Edition}
+use Rattle.editions.specs.declared.Named.{Named}
+use Rattle.editions.specs.declared.Named.the-variants as named
+use Rattle.editions.specs.Editions.{namedBy}
 use Rattle.verdicts.specs.Verdict.{Verdict, refused, understood, Understood, readOf}
 use Rattle.requests.specs.declared.Request.{Request}
-use Rattle.requests.specs.Requests.{askOf, asks, seen, itemsIn}
+use Rattle.requests.specs.Requests.{askOf, asks, answersSetup, seen, itemsIn}
 use Rattle.replies.specs.Replies.{Replied, silent, replied}
 use Rattle.carry.specs.declared.Answer.{Answer}
 use Rattle.carry.specs.declared.Answer.the-variants as answer
@@ -42,3 +50,16 @@ module _ (e : Edition) where
 
   abbrev pub judged : List ℕ → Judged
   judged s = judgedBy (verdict s)
+
+  -- ---- a message that by its frame answers a setup request, whatever is inside
+
+  abbrev pub isAnswer : Named → Bool
+  isAnswer (named.Is m) = answersSetup (askOf m)
+  isAnswer named.Other = false
+
+  abbrev pub framedAnswer : Read Frame → Bool
+  framedAnswer (got f) = isAnswer (namedBy e (f .kind) (f .code))
+  framedAnswer (stop x) = false
+
+  unfoldable pub setupAnswer : List ℕ → Bool
+  setupAnswer s = not (ltb 8192 (length s)) && framedAnswer (frameAt s)

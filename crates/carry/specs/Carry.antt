@@ -46,6 +46,8 @@ rejection ask.Start x why = startRejected (x .mme) why
 rejection ask.Stop x why = reply.Rejection (x .mme) (x .mce) why
 rejection ask.Reset x why = reply.Rejection mme.Absent mce.Absent why
 rejection ask.Indication x why = reply.None
+rejection ask.SetupResponse x why = reply.Rejection mme.Absent mce.Absent why
+rejection ask.SetupFailure x why = reply.Rejection mme.Absent mce.Absent why
 rejection ask.Nothing x why = reply.None
 
 -- a mandatory element that is missing is rejected
@@ -80,6 +82,8 @@ asked c (request.Stop m x) = record { mme = mme.Is m; mce = mce.Is x }
 asked c request.Whole = emptyItem
 asked c request.Part = emptyItem
 asked c request.Indication = emptyItem
+asked c request.SetupResponse = emptyItem
+asked c (request.SetupFailure w) = emptyItem
 
 -- k is what is held of the identities that the request asks about
 module _ (k : Standing) where
@@ -95,13 +99,16 @@ module _ (k : Standing) where
   unfoldable pub stopped : MmeId → MceId → Decision
   stopped m c = pick (k .pair) (deciding (change.Stops m c) (reply.StopResponse m c)) (stays answer.PairNotHeld (reply.PairNotHeld m c))
 
-  -- whole reset empties the table; partial reset removes what the items name; ERROR INDICATION changes nothing and gets no reply
+  -- whole reset empties the table; partial reset removes what the items name; ERROR INDICATION changes nothing and gets no reply;
+  -- an accepted setup empties the table, a failure keeps it and hands back Time to Wait, and both close the request without a reply
   abbrev pub carriedOut : MceId → Request → Decision
   carriedOut c (request.Start m t s) = started c m t s
   carriedOut c (request.Stop m x) = stopped m x
   carriedOut c request.Whole = deciding change.Empties reply.Acknowledge
   carriedOut c request.Part = deciding change.Resets reply.AcknowledgeItems
   carriedOut c request.Indication = stays answer.CarriedOut reply.None
+  carriedOut c request.SetupResponse = deciding change.SetsUp reply.None
+  carriedOut c (request.SetupFailure w) = deciding (change.SetupFails w) reply.None
 
 -- ---- both in turn, as the code has them: of a refusal nothing is asked, and nothing changes
 

@@ -11,6 +11,7 @@ use identity::Tmgi;
 use octets::Stop;
 use replies::Reply;
 use requests::Ask;
+use requests::MaybeWait;
 use requests::Request;
 use requests::Seen;
 use requests::Wanted;
@@ -26,7 +27,7 @@ pub enum Answer {
     TooLong,
     // 2 or 3: an encoding fault, or an extension
     Stopped(Stop),
-    // 4: none of the eight, or one that asks for nothing
+    // 4: none of the messages, or one that asks for nothing
     NoRequest,
     // 5: elements rejected
     Rejected,
@@ -40,6 +41,10 @@ pub enum Answer {
     Full,
     // 10: the reply would not fit the lent room
     NoRoom,
+    // 14: the answer to a setup request, and none is open
+    NoneOpen,
+    // 0, of a setup that failed: how long to wait
+    SetupFailed(MaybeWait),
     // 21: octets of no unit
     NoUnit,
 }
@@ -59,6 +64,10 @@ pub enum Change {
     Empties,
     // a partial reset
     Resets,
+    // a setup request is accepted: nothing is held any more, and no request is open
+    SetsUp,
+    // it failed: no request is open
+    SetupFails(MaybeWait),
 }
 
 // What becomes of the table, and the reply.
@@ -152,6 +161,8 @@ fn rejection(a: Ask, x: Seen, why: Cause) -> Reply
         Ask::Stop => Reply::Rejection(mme, mce, why),
         Ask::Reset => Reply::Rejection(Mme::Absent, Mce::Absent, why),
         Ask::Indication => Reply::None,
+        Ask::SetupResponse => Reply::Rejection(Mme::Absent, Mce::Absent, why),
+        Ask::SetupFailure => Reply::Rejection(Mme::Absent, Mce::Absent, why),
         Ask::Nothing => Reply::None,
     }
 }
@@ -193,6 +204,14 @@ fn carry_out(k: Standing, c: MceId, q: Request) -> Decision
             reply: Reply::AcknowledgeItems,
         },
         Request::Indication => stays(Answer::CarriedOut, Reply::None),
+        Request::SetupResponse => Decision {
+            change: Change::SetsUp,
+            reply: Reply::None,
+        },
+        Request::SetupFailure(w) => Decision {
+            change: Change::SetupFails(w),
+            reply: Reply::None,
+        },
     }
 }
 
@@ -222,6 +241,8 @@ fn asked_by_request(c: MceId, q: Request) -> Item
         Request::Whole => NOBODY,
         Request::Part => NOBODY,
         Request::Indication => NOBODY,
+        Request::SetupResponse => NOBODY,
+        Request::SetupFailure(_) => NOBODY,
     }
 }
 

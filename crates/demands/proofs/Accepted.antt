@@ -17,7 +17,8 @@ use Rattle.octets.specs.declared.Span.{Span}
 use Rattle.octets.specs.Span.{noSpan, present}
 use Rattle.octets.proofs.Chain.{same-got}
 use Rattle.octets.specs.Many.{Each}
-use Rattle.values.specs.Values.{mmeAt, mceAt, tmgiAt, sessionAt, causeAt}
+use Rattle.values.specs.Values.{mmeAt, mceAt, tmgiAt, sessionAt, causeAt, waitAt}
+use Rattle.names.specs.Names.{nameAt}
 use Rattle.items.specs.Items.{itemsAt, resetAt}
 use Rattle.entries.specs.declared.Entry.{Entry}
 use Rattle.diagnostics.specs.Diagnostics.{diagnosticsAt}
@@ -174,6 +175,8 @@ read-kind kind.Mce s p q = of-read (λ v. valueKind v ≡ kind.Mce) value.mce (m
 read-kind kind.Tmgi s p q = of-read (λ v. valueKind v ≡ kind.Tmgi) value.tmgi (tmgiAt (take (p .to) s) (p .from)) q (λ a h. refl)
 read-kind kind.Session s p q = of-read (λ v. valueKind v ≡ kind.Session) value.session (sessionAt (take (p .to) s) (p .from)) q (λ a h. refl)
 read-kind kind.Cause s p q = of-read (λ v. valueKind v ≡ kind.Cause) value.cause (causeAt (take (p .to) s) (p .from)) q (λ a h. refl)
+read-kind kind.Wait s p q = of-read (λ v. valueKind v ≡ kind.Wait) value.wait (waitAt (take (p .to) s) (p .from)) q (λ a h. refl)
+read-kind kind.Name s p q = of-read (λ v. valueKind v ≡ kind.Name) value.name (nameAt (take (p .to) s) (p .from)) q (λ a h. refl)
 read-kind kind.ResetType s p q = of-read (λ v. valueKind v ≡ kind.ResetType) value.reset (resetAt (take (p .to) s) (p .from)) q (λ a h. refl)
 read-kind kind.Acknowledged s p q = of-read (λ v. valueKind v ≡ kind.Acknowledged) value.list (itemsAt (take (p .to) s) (p .from)) q (λ a h. refl)
 read-kind kind.Diagnostics s p q = of-read (λ v. valueKind v ≡ kind.Diagnostics) value.diagnostics (diagnosticsAt (take (p .to) s) (p .from)) q (λ a h. refl)
@@ -249,6 +252,9 @@ complete Release18 message.StartResponse s n at a q o = not-asked a
 complete Release18 message.StartFailure s n at a q o = not-asked a
 complete Release18 message.StopResponse s n at a q o = not-asked a
 complete Release18 message.ResetAcknowledge s n at a q o = not-asked a
+complete Release18 message.SetupRequest s n at a q o = not-asked a
+complete Release18 message.SetupResponse s n at a q o = tt
+complete Release18 message.SetupFailure s n at a q o = tt
 
 pub accepted-complete : (e : Edition) (s : List ℕ) (u : Understood) → readOf e asks s ≡ understood u → u .outcome ≡ outcome.Accepted
     → Complete (requestOf (askOf (u .what .message)) (seen (u .what .values)))

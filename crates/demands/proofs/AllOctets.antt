@@ -16,7 +16,7 @@ use Rattle.octets.specs.Many.{eachOctets}
 use Rattle.table.specs.declared.Association.{Association}
 use Rattle.table.specs.Table.{State}
 use Rattle.lent.specs.Lent.{rowOctets, rowsOctets}
-use Rattle.units.specs.Unit.{Unit, unitOctets}
+use Rattle.units.specs.Unit.{Unit, openOctet, markOctets, unitOctets}
 
 -- Octets, as a record, so that the list is read off
 pub record All (vs : List ℕ) : Type 0 where
@@ -94,13 +94,20 @@ module _ (u : Unit) where
   abbrev rest : List ℕ
   rest = replicate (3074 - length front) 0
 
+  all-marks : All (markOctets u)
+  all-marks = all-join {vs = 0 ∷ 0 ∷ []} (all-zeros 2) (all-join {vs = openOctet (u .isOpen) ∷ []} (mark (u .isOpen)) (all-zeros 11))
+    where
+      mark : (b : Bool) → All (openOctet b ∷ [])
+      mark true = all-more (omega arith) all-none
+      mark false = all-zeros 1
+
   pub octets-unit : ((a : Association) → List·Memᴰ a (u .held) → Octets (rowOctets a)) → Octets (unitOctets u)
   unfolding unitOctets
-  octets-unit h = all-join {vs = front ++ rest} (all-join {vs = front} (all-join (all-number 2 (length (u .held))) (all-rows (u .held) h)) (all-zeros (3074 - length front))) (all-zeros 14) .octets
+  octets-unit h = all-join {vs = front ++ rest} (all-join {vs = front} (all-join (all-number 2 (length (u .held))) (all-rows (u .held) h)) (all-zeros (3074 - length front))) all-marks .octets
 
   pub octets-held : Octets (unitOctets u) → (a : Association) → List·Memᴰ a (u .held) → Octets (rowOctets a)
   unfolding unitOctets
   octets-held o =
-      let t = all-split (front ++ rest) (replicate 14 0) (record { octets = o }) .0 in
+      let t = all-split (front ++ rest) (markOctets u) (record { octets = o }) .0 in
       let f = all-split front rest t .0 in
       all-row (u .held) (all-split (numberOctets 2 (length (u .held))) (rowsOctets (u .held)) f .1)

@@ -2,8 +2,10 @@
 -- Assumes nothing.
 use Prim.Native.Nat.{ℕ}
 use mathlib.Core.Path.{_≡_, _∙_, refl, sym, ap, subst}
+use mathlib.Core.Bool.{Bool, true, false, not, _&&_}
 use mathlib.Core.List.{List}
 use native.Mathlib.Omega.{arith}
+use Rattle.lists.specs.Lists.{pick}
 use Rattle.identity.specs.declared.MmeId.{MmeId}
 use Rattle.identity.specs.declared.MceId.{MceId}
 use Rattle.identity.specs.declared.Mme.{Mme}
@@ -26,14 +28,16 @@ use Rattle.requests.specs.declared.Request.the-variants as request
 use Rattle.requests.specs.declared.Wanted.{Wanted}
 use Rattle.requests.specs.declared.Wanted.the-variants as wanted
 use Rattle.requests.specs.declared.Seen.{Seen}
+use Rattle.replies.specs.Replies.{silent}
 use Rattle.requests.specs.Requests.{askOf, startOf, stopOf, resetOf, requestOf, seen}
 use Rattle.carry.specs.declared.Ruling.{Ruling}
 use Rattle.carry.specs.declared.Ruling.the-variants.{Granted, Refused}
+use Rattle.carry.specs.declared.Answer.the-variants as answer
 use Rattle.carry.specs.Carry.{ruling}
 use Rattle.answers.specs.Answers.{numbered}
-use Rattle.calls.specs.Judged.{Accepted, Judged, refuses, accepts, ruled, judgedBy, judged, verdict}
-use Rattle.calls.specs.Decided.{decided}
-use Rattle.calls.specs.Call.{Call, onUnit, call}
+use Rattle.calls.specs.Judged.{Accepted, Judged, refuses, accepts, ruled, judgedBy, judged, verdict, setupAnswer}
+use Rattle.calls.specs.Decided.{keeps, decided}
+use Rattle.calls.specs.Call.{Call, decidedOn, onUnit, call}
 use Rattle.demands.specs.Answered.{numberOf}
 use Rattle.demands.specs.Words.{Asks, PartialReset}
 use Rattle.demands.specs.Resets.{NoneLeftOut}
@@ -67,10 +71,19 @@ module _ (e : Edition) where
     abbrev s : List ℕ
     s = c .message
 
+    -- what is answered 0 is not answered 14
+    judged-0 : (u : Unit) → number (decidedOn e u c) ≡ 0 → number (decided e u (c .offered) (judged e s)) ≡ 0
+    unfolding decidedOn
+    judged-0 u = by (setupAnswer e s && not (u .isOpen))
+      where
+        by : (b : Bool) → number (pick b (keeps answer.NoneOpen silent) (decided e u (c .offered) (judged e s))) ≡ 0 → number (decided e u (c .offered) (judged e s)) ≡ 0
+        by true h = absurd (omega arith)
+        by false h = h
+
     accepted : (a : Accepted) × (judged e s ≡ accepts a)
     accepted =
         let k = is-unit t c h in
-        let n = done e t c (k .0) (k .1) h .answer in
+        let n = judged-0 (k .0) (done e t c (k .0) (k .1) h .answer) in
         let a = was-accepted (k .0) (c .offered) v (subst (λ (x : Verdict). number (decided e (k .0) (c .offered) (judgedBy e x)) ≡ 0) q n) in
         (a .0, ap (judgedBy e) q ∙ a .1)
 

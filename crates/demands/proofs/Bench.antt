@@ -2,7 +2,7 @@
 -- Assumes nothing.
 use Prim.Native.Nat.{ℕ}
 use mathlib.Core.Path.{_≡_, _∙_, refl}
-use mathlib.Core.Bool.{true}
+use mathlib.Core.Bool.{true, false}
 use mathlib.Core.List.{List, [], _∷_}
 use native.Mathlib.Omega.{arith}
 use borrow.Author.Tests.{le-leb}
@@ -36,9 +36,9 @@ use Rattle.round_trips.specs.Examples.{partialReset}
 use Rattle.requests.specs.Requests.{seen}
 use Rattle.replies.specs.Replies.{valueOf, listOnly, replied, replyOctets}
 use Rattle.carry.specs.declared.Answer.the-variants as answer
-use Rattle.calls.specs.Judged.{judgedBy, judged}
+use Rattle.calls.specs.Judged.{judgedBy, setupAnswer}
 use Rattle.calls.specs.Decided.{Decided, decided}
-use Rattle.calls.specs.Call.{replyOf, answerOf, unitAfter, fits, settled}
+use Rattle.calls.specs.Call.{decidedOn, replyOf, answerOf, unitAfter, fits, settled}
 use Rattle.demands.specs.Occur.{holding, offer, pair, whole, emptyReset, Does, BenchCalls, Demand2}
 use Rattle.demands.proofs.Decisions.{none-good}
 use Rattle.demands.proofs.UnitOut.{call-on}
@@ -49,17 +49,17 @@ use Rattle.round_trips.proofs.Back.{read-back}
 use Rattle.round_trips.proofs.Again.{rewritten}
 
 abbrev made : State → List ℕ → Decided
-made l s = decided Release18 (record { held = l }) offer (judged Release18 s)
+made l s = decidedOn Release18 (record { held = l; isOpen = false }) (record { message = s; offered = offer; room = [] })
 
 does : (l : State) (s : List ℕ) {os : List ℕ} (l′ : State) → Good l → answerOf (made l s) ≡ answer.CarriedOut
     → replyOf Release18 (made l s) ≡ os → unitAfter (holding l) (made l s) ≡ holding l′ → Does l s os l′
-unfolding settled
+unfolding settled decidedOn
 does l s l′ g a r t d h =
     let f : fits Release18 d (made l s) ≡ true = le-leb (length (replyOf Release18 (made l s))) (length d) (rw r h) in
-    call-on Release18 (holding l) (record { message = s; offered = offer; room = d }) (record { held = l }) (one-unit .back (record { held = l }) (record { held = g })) ∙ rw (f, a, r, t)
+    call-on Release18 (holding l) (record { message = s; offered = offer; room = d }) (record { held = l; isOpen = false }) (one-unit .back (record { held = l; isOpen = false }) (record { held = g })) ∙ rw (f, a, r, t)
 
 pub bench-calls : BenchCalls
-unfolding decided judgedBy unitOctets readOf frameAt kindAt countAt openedAt elementsAt elements.judgedOf front find readInto unknownOf missingOf scanAt headsAt envelopeAt criticalityAt valueAt resetAt causeAt readAs valueIn valuesIn seen listsOf release18 firstOf namedBy flagAt plainAt choiceAt padAt numberAt openAt lengthAt longLengthAt endsAt sameAt bitsOf cutShort noMeaning leftOver extended _>>=_ numberOctets replyOctets encoded replied listOnly valueOf elementsGood elementsOctets messageOctets insideOctets howMany lengthOctets packedIn itemsAt several.many itemElementAt itemAt marksAt without named hasOctets octetsOf itemsOctets itemElementOctets itemOctets
+unfolding decidedOn setupAnswer decided judgedBy unitOctets readOf frameAt kindAt countAt openedAt elementsAt elements.judgedOf front find readInto unknownOf missingOf scanAt headsAt envelopeAt criticalityAt valueAt resetAt causeAt readAs valueIn valuesIn seen listsOf release18 firstOf namedBy flagAt plainAt choiceAt padAt numberAt openAt lengthAt longLengthAt endsAt sameAt bitsOf cutShort noMeaning leftOver extended _>>=_ numberOctets replyOctets encoded replied listOnly valueOf elementsGood elementsOctets messageOctets insideOctets howMany lengthOctets packedIn itemsAt several.many itemElementAt itemAt marksAt without named hasOctets octetsOf itemsOctets itemElementOctets itemOctets
 bench-calls = record {
   named = does (pair 1 2 ∷ []) partialReset [] (one-good 1 2 (omega arith) (omega arith)) refl refl refl;
   unknown = does [] partialReset [] none-good refl refl refl;

@@ -10,7 +10,7 @@ use Rattle.editions.specs.declared.Edition.{Edition}
 use Rattle.verdicts.specs.Verdict.{Understood, Verdict, understood}
 use Rattle.table.specs.Table.{State}
 use Rattle.table.proofs.Rules.{resets}
-use Rattle.units.specs.Unit.{Unit, isUnit, readUnit, unitOctets, GoodUnit}
+use Rattle.units.specs.Unit.{Unit, isUnit, readUnit, unitOctets, withHeld, GoodUnit}
 use Rattle.requests.specs.Requests.{itemsIn}
 use Rattle.replies.specs.Replies.{hasIdentity}
 use Rattle.calls.specs.Call.{Call, call}
@@ -58,7 +58,7 @@ module _ (e : Edition) where
     left = resets .left;
     order = resets .order;
     octets = λ {t} {u} {cs} {is} r. ends r;
-    afresh = λ {t} {u} {cs} {ds} {is} {js} r s d. ends r ∙ ap (λ (l : State). unitOctets (record { held = l })) (resets .any-order d (u .held)) ∙ sym (ends s);
+    afresh = λ {t} {u} {cs} {ds} {is} {js} r s d. ends r ∙ ap (λ (l : State). unitOctets (withHeld (λ y. l) u)) (resets .any-order d (u .held)) ∙ sym (ends s);
     acknowledged = λ {t} {u} {cs} {is} r. lists r;
     alike = λ {t} {s} {u} {v} {cs} {ds} {is} {js} {ks} r q a b. one-joined a (lists r) ∙ one-joined (lists q) b;
   }

@@ -50,7 +50,7 @@ use Rattle.carry.specs.declared.Ruling.{Ruling}
 use Rattle.carry.specs.declared.Ruling.the-variants.{Granted, Refused}
 use Rattle.carry.specs.Carry.{startRejected, rejection, ruledBy, ruling, started, stopped, carriedOut, asked}
 use Rattle.calls.specs.Judged.{ruled, judgedBy}
-use Rattle.calls.specs.Decided.{Decided, keeps, changes, changed, decided}
+use Rattle.calls.specs.Decided.{Decided, keeps, changes, fails, changed, decided}
 use Rattle.demands.proofs.Written.{GoodMme, GoodMce, GoodReply, Spoken, spoken}
 use Rattle.demands.proofs.Seen.{GoodSeen}
 use Rattle.demands.proofs.Sound.{Sound}
@@ -105,6 +105,8 @@ rejection-good ask.Start x why g k = started-rejected (x .mme) why (g .mme) k
 rejection-good ask.Stop x why g k = (g .mme, g .mce, k)
 rejection-good ask.Reset x why g k = (tt, tt, k)
 rejection-good ask.Indication x why g k = tt
+rejection-good ask.SetupResponse x why g k = (tt, tt, k)
+rejection-good ask.SetupFailure x why g k = (tt, tt, k)
 rejection-good ask.Nothing x why g k = tt
 
 -- the identities of a request
@@ -114,6 +116,8 @@ GoodRequest (request.Stop m c) = (m .0 < 65536) × (c .0 < 65536)
 GoodRequest request.Whole = Unit
 GoodRequest request.Part = Unit
 GoodRequest request.Indication = Unit
+GoodRequest request.SetupResponse = Unit
+GoodRequest (request.SetupFailure w) = Unit
 
 abbrev pub GoodRuling : Ruling → Type 0
 GoodRuling (Granted q) = GoodRequest q
@@ -139,6 +143,8 @@ asked-good ask.Start x r g k = start-good (x .mme) (x .tmgi) (x .session) r (g .
 asked-good ask.Stop x r g k = stop-good (x .mme) (x .mce) r (g .mme) (g .mce) k
 asked-good ask.Reset x r g k = reset-good (x .reset) r k
 asked-good ask.Indication x r g k = tt
+asked-good ask.SetupResponse x r g k = tt
+asked-good ask.SetupFailure x r g k = tt
 asked-good ask.Nothing x r g k = k
 
 pub ruling-good : (a : Ask) (x : Seen) (o : Outcome) → GoodSeen x → GoodRuling (ruling a x o)
@@ -150,6 +156,7 @@ ruling-good a x outcome.Rejected g = rejection-good a x abstractSyntax g (omega 
 abbrev pub Sure : Edition → Decided → Type 0
 Sure e (keeps a r) = Spoken e r
 Sure e (changes u r) = Spoken e r × GoodUnit u
+Sure e (fails u w r) = Spoken e r × GoodUnit u
 
 module _ (u : units.Unit) (t : GoodUnit u) where
   -- only a start asks for something
@@ -159,6 +166,8 @@ module _ (u : units.Unit) (t : GoodUnit u) where
   GoodChange (change.Stops m c) = Unit
   GoodChange change.Empties = Unit
   GoodChange change.Resets = Unit
+  GoodChange change.SetsUp = Unit
+  GoodChange (change.SetupFails w) = Unit
 
   abbrev GoodDecision : Decision → Type 0
   GoodDecision d = GoodReply (d .reply) × GoodChange (d .change)
@@ -169,6 +178,8 @@ module _ (u : units.Unit) (t : GoodUnit u) where
   changed-sure e items r s (change.Stops m c) g = (s, record { held = stopping-good (u .held) (t .held) m c })
   changed-sure e items r s change.Empties g = (s, record { held = none-good })
   changed-sure e items r s change.Resets g = (s, record { held = without-good (u .held) (t .held) items })
+  changed-sure e items r s change.SetsUp g = (s, record { held = none-good })
+  changed-sure e items r s (change.SetupFails w) g = (s, record { held = t .held })
 
   -- of a message that asks about two identities
   abbrev about : Mme → Mce → Standing
@@ -192,6 +203,8 @@ module _ (u : units.Unit) (t : GoodUnit u) where
     carried-good request.Whole g = (tt, tt)
     carried-good request.Part g = (tt, tt)
     carried-good request.Indication g = (tt, tt)
+    carried-good request.SetupResponse g = (tt, tt)
+    carried-good (request.SetupFailure w) g = (tt, tt)
 
     ruled-sure : (e : Edition) (w : Understood) → Sound w → (r : Ruling) → GoodRuling r → Sure e (decided e u c (ruled e w r))
     unfolding decided

@@ -10,9 +10,9 @@ use Rattle.meaning.specs.Value.{Said}
 use Rattle.round_trips.specs.Ties.{ReadAs}
 use Rattle.units.specs.Unit.{Unit, MaybeUnit, isUnit, noUnit, readUnit}
 use Rattle.replies.specs.Replies.{Replied, silent, says, replyOctets}
-use Rattle.calls.specs.Decided.{Decided, keeps, changes}
-use Rattle.calls.specs.Call.{Call, settledIf, fits, settled, onUnit, call, repliedIn}
-use Rattle.demands.specs.Answered.{Handed, ReadsBack, decidedOn, Demand1}
+use Rattle.calls.specs.Decided.{Decided, keeps, changes, fails}
+use Rattle.calls.specs.Call.{Call, settledIf, fits, settled, onUnit, call, repliedIn, decidedOn}
+use Rattle.demands.specs.Answered.{Handed, ReadsBack, Demand1}
 use Rattle.demands.proofs.Settle.{answered, none-said}
 use Rattle.demands.proofs.Written.{Spoken}
 use Rattle.demands.proofs.Decisions.{Sure}
@@ -26,6 +26,7 @@ module _ (e : Edition) where
   settled-back : (t d : List ℕ) (b : Bool) (x : Decided) → Sure e x → (settledIf e b t d x .reply ≡ [] → ⊥) → ReadsBack e (settledIf e b t d x .reply)
   settled-back t d true (keeps a r) s h = reads-back r s h
   settled-back t d true (changes l r) s h = reads-back r (s .0) h
+  settled-back t d true (fails l v r) s h = reads-back r (s .0) h
   settled-back t d false x s h = absurd (h refl)
 
   reply-back : (t : List ℕ) (c : Call) → Handed t c → (call e t c .reply ≡ [] → ⊥) → ReadsBack e (call e t c .reply)
@@ -46,6 +47,7 @@ module _ (e : Edition) where
   unfolding settled
   settled-says t d (keeps a r) w s f h = rw f (says-back r w s h)
   settled-says t d (changes l r) w s f h = rw f (says-back r w (s .0) h)
+  settled-says t d (fails l v r) w s f h = rw f (says-back r w (s .0) h)
 
   reply-says : (t : List ℕ) (c : Call) (u : Unit) (w : Said) → Handed t c → readUnit t ≡ isUnit u → fits e (c .room) (decidedOn e u c) ≡ true → repliedIn (decidedOn e u c) ≡ says w
       → ReadAs e (call e t c .reply) w

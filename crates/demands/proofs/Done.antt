@@ -26,12 +26,13 @@ use Rattle.replies.specs.Replies.{hasIdentity, Replied, replied}
 use Rattle.carry.specs.declared.Decision.{Decision}
 use Rattle.carry.specs.Carry.{started, stopped}
 use Rattle.answers.specs.Answers.{numbered}
-use Rattle.calls.specs.Judged.{Accepted, Judged}
+use Rattle.calls.specs.Judged.{Accepted, judged}
 use Rattle.calls.specs.Decided.{Decided, changes, applied, decided}
-use Rattle.calls.specs.Call.{Call, Back, call, settled, settledIf, fits, replyOf, answerOf, unitAfter}
-use Rattle.demands.specs.Answered.{numberOf, decidedOn}
+use Rattle.calls.specs.Call.{Call, Back, call, settled, settledIf, fits, replyOf, answerOf, unitAfter, decidedOn}
+use Rattle.demands.specs.Answered.{numberOf}
 use Rattle.demands.specs.Words.{resetBy, Asks, PartialReset}
 use Rattle.demands.proofs.UnitOut.{call-on}
+use Rattle.demands.proofs.SetupAnswers.{as-judged}
 
 -- there is room for one more
 few : (l : State) → full l ≡ false → length l < 256
@@ -46,11 +47,12 @@ module _ (e : Edition) where
 
   pub record Does (t : List ℕ) (b : Back) (x : Decided) : Type 0 where
     pub answer : number x ≡ 0
+    pub given : b .answer ≡ answerOf x
     pub unit : b .unit ≡ unitAfter t x
     pub reply : b .reply ≡ replyOf e x
 
   settles : (t d : List ℕ) (x : Decided) (b : Bool) → numbered (settledIf e b t d x .answer) .number ≡ 0 → Does t (settledIf e b t d x) x
-  settles t d x true h = record { answer = h; unit = refl; reply = refl }
+  settles t d x true h = record { answer = h; given = refl; unit = refl; reply = refl }
   settles t d x false h = absurd (omega arith)
 
   module _ (t : List ℕ) (c : Call) (u : Unit) (q : readUnit t ≡ isUnit u) where
@@ -83,18 +85,18 @@ module _ (e : Edition) where
   abbrev pub stoppedOn : Unit → Accepted → MmeId → MceId → Decided
   stoppedOn u w m y = meaning u w (stopped (standing (record { mme = mme.Is m; mce = mce.Is y }) (u .held)) m y)
 
-  module _ (u : Unit) (x : MceId) (j : Judged) where
-    pub reset-decided : {items : List Item} (p : PartialReset j items) → decided e u x j ≡ changes (resetBy items u) (replyTo (p .asks .what) reply.AcknowledgeItems)
+  module _ (u : Unit) (c : Call) where
+    pub reset-decided : {items : List Item} (p : PartialReset (judged e (c .message)) items) → decidedOn e u c ≡ changes (resetBy items u) (replyTo (p .asks .what) reply.AcknowledgeItems)
     unfolding decided
-    reset-decided p = rw (p .asks .accepted, p .asks .request, p .items)
+    reset-decided p = as-judged e u c request.Part (p .asks) refl ∙ rw (p .asks .accepted, p .asks .request, p .items)
 
-    pub start-decided : {m : MmeId} {t : Tmgi} {s : Session} (p : Asks j (request.Start m t s)) → decided e u x j ≡ startedOn u (p .what) x m t s
+    pub start-decided : {m : MmeId} {t : Tmgi} {s : Session} (p : Asks (judged e (c .message)) (request.Start m t s)) → decidedOn e u c ≡ startedOn u (p .what) (c .offered) m t s
     unfolding decided
-    start-decided p = rw (p .accepted, p .request)
+    start-decided {m} {t} {s} p = as-judged e u c (request.Start m t s) p refl ∙ rw (p .accepted, p .request)
 
-    pub stop-decided : {m : MmeId} {y : MceId} (p : Asks j (request.Stop m y)) → decided e u x j ≡ stoppedOn u (p .what) m y
+    pub stop-decided : {m : MmeId} {y : MceId} (p : Asks (judged e (c .message)) (request.Stop m y)) → decidedOn e u c ≡ stoppedOn u (p .what) m y
     unfolding decided
-    stop-decided p = rw (p .accepted, p .request)
+    stop-decided {m} {y} p = as-judged e u c (request.Stop m y) p refl ∙ rw (p .accepted, p .request)
 
   -- an accepted start: neither identity is held, and there is room
   pub record Started (u : Unit) (w : Accepted) (a : Association) : Type 0 where

@@ -13,9 +13,9 @@ use Rattle.editions.specs.Editions.{tableOf}
 use Rattle.meaning.specs.Written.{messageOctets, elementsGood, isWritten, encoded}
 use Rattle.units.specs.Unit.{Unit, isUnit, readUnit}
 use Rattle.replies.specs.Replies.{Replied, silent, says, replyOctets}
-use Rattle.calls.specs.Decided.{Decided, keeps, changes}
-use Rattle.calls.specs.Call.{Call, replyOf}
-use Rattle.demands.specs.Answered.{numberOf, decidedOn}
+use Rattle.calls.specs.Decided.{Decided, keeps, changes, fails}
+use Rattle.calls.specs.Call.{Call, replyOf, decidedOn}
+use Rattle.demands.specs.Answered.{numberOf}
 use Rattle.demands.proofs.Done.{number, fitting}
 
 module _ (e : Edition) where
@@ -31,6 +31,7 @@ module _ (e : Edition) where
   reply-small : (x : Decided) → length (replyOf e x) ≤ 8192
   reply-small (keeps a r) = said-small r
   reply-small (changes u r) = said-small r
+  reply-small (fails u w r) = said-small r
 
   pub granted : (t : List ℕ) (c : Call) (u : Unit) → readUnit t ≡ isUnit u → 8192 ≤ length (c .room)
       → {x : Decided} → decidedOn e u c ≡ x → number x ≡ 0 → numberOf e t c ≡ 0

@@ -94,6 +94,8 @@ is-part ask.Start x q = absurd (no-start (x .mme) (x .tmgi) (x .session) q)
 is-part ask.Stop x q = absurd (no-stop (x .mme) (x .mce) q)
 is-part ask.Reset x q = part-of (x .reset) q
 is-part ask.Indication x q = absurd (let z : _≡_ {A = ℕ} 0 1 = cc in omega arith)
+is-part ask.SetupResponse x q = absurd (let z : _≡_ {A = ℕ} 0 1 = cc in omega arith)
+is-part ask.SetupFailure x q = absurd (let z : _≡_ {A = ℕ} 0 1 = cc in omega arith)
 is-part ask.Nothing x q = absurd (let z : _≡_ {A = ℕ} 0 1 = cc in omega arith)
 
 -- ---- in range

@@ -7,6 +7,7 @@ pub mod Verdicts
 pub mod Sound
 pub mod Decisions
 pub mod JudgedSound
+pub mod SetupAnswers
 pub mod UnitOut
 pub mod Demand
 pub mod Accepted

@@ -29,29 +29,27 @@ use Rattle.editions.specs.Editions.{release18, firstOf, namedBy}
 use Rattle.frames.specs.Frame.{kindAt, frameAt, countAt}
 use Rattle.meaning.specs.Reading.{readAs, valueIn, valuesIn}
 use Rattle.meaning.specs.Written.{elementsOctets, howMany, insideOctets, messageOctets, elementsGood, encoded}
-use Rattle.verdicts.specs.declared.Refusal.the-variants as refusal
-use Rattle.verdicts.specs.Verdict.{openedAt, Verdict, refused, readOf}
+use Rattle.verdicts.specs.Verdict.{openedAt, readOf}
 use Rattle.layout.specs.Record.{listsOf}
 use Rattle.table.specs.declared.Association.{Association}
 use Rattle.table.specs.Table.{State, full, holdsMme, holdsMce, distinctHeld}
 use Rattle.lent.specs.Lent.{rowsOctets, rowsOf, same, InRange, Good}
 use Rattle.units.specs.Unit.{Unit, fresh, unitOctets, MaybeUnit, isUnit, noUnit, readUnit, GoodUnit}
 use Rattle.units.proofs.OneForm.{one-unit}
-use Rattle.requests.specs.Requests.{seen, asks}
+use Rattle.requests.specs.Requests.{seen}
 use Rattle.replies.specs.Replies.{valueOf, listOnly, Replied, silent, says, replied, replyOctets}
 use Rattle.carry.specs.declared.Answer.{Answer}
 use Rattle.carry.specs.declared.Answer.the-variants as answer
 use Rattle.carry.specs.Carry.{rejection, started, stopped}
 use Rattle.answers.specs.Answers.{numbered}
-use Rattle.calls.specs.Judged.{judgedBy, verdict, judged}
-use Rattle.calls.specs.Decided.{Decided, keeps, changes, decided}
-use Rattle.calls.specs.Call.{Back, replyOf, answerOf, fits, settled, onUnit, call}
-use Rattle.demands.specs.Occur.{offer, Gives, pair, many, start, stop, whole, error, numberOf, EveryAnswer}
+use Rattle.calls.specs.Judged.{judgedBy, setupAnswer}
+use Rattle.calls.specs.Decided.{Decided, keeps, changes, fails, decided}
+use Rattle.calls.specs.Call.{Call, decidedOn, Back, replyOf, answerOf, fits, settled, onUnit, call}
+use Rattle.demands.specs.Occur.{offer, Gives, pair, many, start, stop, whole, error, response, cutResponse, numberOf, EveryAnswer}
 use Rattle.demands.proofs.Settle.{none-said}
 use Rattle.demands.proofs.Written.{Spoken}
-use Rattle.demands.proofs.Sound.{read-sound}
-use Rattle.demands.proofs.Decisions.{none-good, Sure, decided-sure}
-use Rattle.demands.proofs.UnitOut.{call-on}
+use Rattle.demands.proofs.Decisions.{none-good, Sure}
+use Rattle.demands.proofs.UnitOut.{decided-on-sure, call-on}
 
 -- ---- a room of 3,200 octets is enough
 
@@ -66,15 +64,17 @@ module _ (e : Edition) where
   decided-small : (x : Decided) → Sure e x → length (replyOf e x) ≤ 3200
   decided-small (keeps a r) s = reply-small r s
   decided-small (changes u r) s = reply-small r (s .0)
+  decided-small (fails u w r) s = reply-small r (s .0)
 
   pub with-room : (u : Unit) (s : List ℕ) (o : MceId) (d : List ℕ) → GoodUnit u → Octets s → o .0 < 65536 → 3200 ≤ length d
-      → numbered (call e (unitOctets u) (record { message = s; offered = o; room = d }) .answer) .number ≡ number (decided e u o (judged e s))
+      → numbered (call e (unitOctets u) (record { message = s; offered = o; room = d }) .answer) .number ≡ number (decidedOn e u (record { message = s; offered = o; room = d }))
   unfolding settled
   with-room u s o d g m w h =
-      let x : Decided = decided e u o (judged e s) in
-      let k = decided-small x (decided-sure e u o (verdict e s) g w (read-sound e s m asks)) in
+      let c : Call = record { message = s; offered = o; room = d } in
+      let x : Decided = decidedOn e u c in
+      let k = decided-small x (decided-on-sure e u c g m w) in
       let f : fits e d x ≡ true = le-leb (length (replyOf e x)) (length d) (omega arith) in
-      ap (λ (b : Back). numbered (b .answer) .number) (call-on e (unitOctets u) (record { message = s; offered = o; room = d }) u (one-unit .back u g)) ∙ rw f
+      ap (λ (b : Back). numbered (b .answer) .number) (call-on e (unitOctets u) c u (one-unit .back u g)) ∙ rw f
 
 -- ---- octets, by a test
 
@@ -83,8 +83,16 @@ octets-by [] e i = omega arith
 octets-by (x ∷ s) e zero = ltb-true x 256 (not-false (ltb x 256) (or-left (not (ltb x 256)) (some (λ (y : ℕ). not (ltb y 256)) s) e))
 octets-by (x ∷ s) e (suc i) = octets-by s (or-right (not (ltb x 256)) (some (λ (y : ℕ). not (ltb y 256)) s) e) i
 
-gives : (l : State) (s : List ℕ) {n : ℕ} → Good l → some (λ (x : ℕ). not (ltb x 256)) s ≡ false → number (decided Release18 (record { held = l }) offer (judged Release18 s)) ≡ n → Gives l s n
-gives l s g m e d h = with-room Release18 (record { held = l }) s offer d (record { held = g }) (octets-by s m) (omega arith) h ∙ e
+-- on a unit that holds these, with no request open; whatever the room
+abbrev with : State → Unit
+with l = record { held = l; isOpen = false }
+
+abbrev of : List ℕ → Call
+of s = record { message = s; offered = offer; room = [] }
+
+gives : (l : State) (s : List ℕ) {n : ℕ} → Good l → some (λ (x : ℕ). not (ltb x 256)) s ≡ false → number (decidedOn Release18 (with l) (of s)) ≡ n → Gives l s n
+unfolding decidedOn
+gives l s g m e d h = with-room Release18 (with l) s offer d (record { held = g }) (octets-by s m) (omega arith) h ∙ e
 
 pub one-good : (m c : ℕ) → m < 65536 → c < 65536 → Good (pair m c ∷ [])
 unfolding distinctHeld
@@ -106,31 +114,33 @@ unfolding settled
 silent-number t d a = rw (none-said Release18, le-leb 0 (length d) (omega arith))
 
 long-number : (t s d : List ℕ) (u : Unit) → readUnit t ≡ isUnit u → 8192 < length s → numberOf t s d ≡ 1
-unfolding decided judgedBy readOf
+unfolding decidedOn decided judgedBy readOf setupAnswer
 long-number t s d u q h =
-    let e : verdict Release18 s ≡ refused refusal.TooLong = rw (lt-ltb 8192 (length s) h) in
+    let e : decidedOn Release18 u (record { message = s; offered = offer; room = d }) ≡ keeps answer.TooLong silent = rw (lt-ltb 8192 (length s) h) in
     ap (λ (b : Back). numbered (b .answer) .number) (call-on Release18 t (record { message = s; offered = offer; room = d }) u q)
-    ∙ (ap (λ (v : Verdict). numbered (settled Release18 t d (decided Release18 u offer (judgedBy Release18 v)) .answer) .number) e ∙ silent-number t d answer.TooLong)
+    ∙ (ap (λ (x : Decided). numbered (settled Release18 t d x .answer) .number) e ∙ silent-number t d answer.TooLong)
 
 none-number : (t s d : List ℕ) → readUnit t ≡ noUnit → numberOf t s d ≡ 21
 unfolding call
 none-number t s d q = ap (λ (x : MaybeUnit). numbered (onUnit Release18 t (record { message = s; offered = offer; room = d }) x .answer) .number) q
 
-pub room-number : (s : List ℕ) {n : ℕ} → length (replyOf Release18 (decided Release18 fresh offer (judged Release18 s))) ≡ n → (d : List ℕ) → length d < n → numberOf (unitOctets fresh) s d ≡ 10
-unfolding settled
+pub room-number : (s : List ℕ) {n : ℕ} → length (replyOf Release18 (decidedOn Release18 fresh (of s))) ≡ n → (d : List ℕ) → length d < n → numberOf (unitOctets fresh) s d ≡ 10
+unfolding settled decidedOn
 room-number s k d h =
-    let f : fits Release18 d (decided Release18 fresh offer (judged Release18 s)) ≡ false = lt-leb _ (length d) (omega arith) in
+    let f : fits Release18 d (decidedOn Release18 fresh (of s)) ≡ false = lt-leb _ (length d) (omega arith) in
     ap (λ (b : Back). numbered (b .answer) .number) (call-on Release18 (unitOctets fresh) (record { message = s; offered = offer; room = d }) fresh (one-unit .back fresh (record { held = none-good }))) ∙ rw f
 
 -- the rest is computed
 pub every-answer : EveryAnswer
-unfolding many decided judgedBy rejection started stopped full readOf frameAt kindAt countAt openedAt elementsAt elements.judgedOf front find readInto unknownOf missingOf scanAt headsAt envelopeAt criticalityAt valueAt mmeAt mceAt tmgiAt resetAt readAs valueIn valuesIn seen listsOf release18 firstOf namedBy flagAt plainAt choiceAt padAt numberAt stringAt openAt lengthAt longLengthAt endsAt bitsOf cutShort noMeaning leftOver extended _>>=_ readUnit unitOctets same rowsOf rowsOctets numberOctets distinctHeld replyOctets encoded replied listOnly valueOf elementsGood elementsOctets messageOctets insideOctets howMany lengthOctets packedIn
+unfolding many decidedOn setupAnswer decided judgedBy rejection started stopped full readOf frameAt kindAt countAt openedAt elementsAt elements.judgedOf front find readInto unknownOf missingOf scanAt headsAt envelopeAt criticalityAt valueAt mmeAt mceAt tmgiAt resetAt readAs valueIn valuesIn seen listsOf release18 firstOf namedBy flagAt plainAt choiceAt padAt numberAt stringAt openAt lengthAt longLengthAt endsAt bitsOf cutShort noMeaning leftOver extended _>>=_ readUnit unitOctets same rowsOf rowsOctets numberOctets distinctHeld replyOctets encoded replied listOnly valueOf elementsGood elementsOctets messageOctets insideOctets howMany lengthOctets packedIn
 every-answer = record {
   carried-out = gives [] start none-good refl refl;
   too-long = long-number;
   fault = gives [] [] none-good refl refl;
   extension = gives [] (0x80 ∷ []) none-good refl refl;
   no-request = gives [] (0x00 ∷ 0x03 ∷ 0x00 ∷ 0x01 ∷ 0x00 ∷ []) none-good refl refl;
+  none-open = gives [] response none-good refl refl;
+  none-open-cut = gives [] cutResponse none-good refl refl;
   rejected = gives [] error none-good refl refl;
   mme-held = gives (pair 5 1 ∷ []) start (one-good 5 1 (omega arith) (omega arith)) refl refl;
   offer-held = gives (pair 1 9 ∷ []) start (one-good 1 9 (omega arith) (omega arith)) refl refl;
@@ -142,5 +152,5 @@ every-answer = record {
   not-a-unit = (refl, refl);
 }
   where
-    nine : (l : State) → length l ≡ 256 → holdsMme (record { 0 = 5 }) l ≡ false → holdsMce offer l ≡ false → number (decided Release18 (record { held = l }) offer (judged Release18 start)) ≡ 9
+    nine : (l : State) → length l ≡ 256 → holdsMme (record { 0 = 5 }) l ≡ false → holdsMce offer l ≡ false → number (decidedOn Release18 (with l) (of start)) ≡ 9
     nine l n h k = rw (h, k, n)

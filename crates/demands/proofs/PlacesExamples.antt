@@ -1,6 +1,7 @@
 -- Changing places on a small unit: of the pairs 1, 11 and 2, 12 the first is reset, next to a start of 3, 13 and next to a stop of 2, 12.
 -- Assumes nothing.
 use Prim.Native.Nat.{ℕ}
+use mathlib.Core.Bool.{false}
 use mathlib.Core.Path.{_≡_, refl, sym, subst}
 use mathlib.Core.List.{List, [], _∷_, List·Memᴰ, List·Memᴰ·head, List·Memᴰ·tail, List·Memᴰ·not-nil}
 use native.Mathlib.Omega.{arith}
@@ -32,7 +33,7 @@ pair m c = record {
 }
 
 abbrev two : Unit
-two = record { held = pair 1 11 ∷ pair 2 12 ∷ [] }
+two = record { held = pair 1 11 ∷ pair 2 12 ∷ []; isOpen = false }
 
 -- the item that names MME identity 1
 abbrev items : List Item

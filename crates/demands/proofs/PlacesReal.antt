@@ -38,8 +38,7 @@ use Rattle.replies.specs.Replies.{Replied}
 use Rattle.carry.specs.Carry.{started, stopped}
 use Rattle.calls.specs.Judged.{Accepted, judged}
 use Rattle.calls.specs.Decided.{changes}
-use Rattle.calls.specs.Call.{Call, call}
-use Rattle.demands.specs.Answered.{decidedOn}
+use Rattle.calls.specs.Call.{Call, call, decidedOn}
 use Rattle.demands.specs.Words.{Lends, resetBy, someNamed, AllAccepted}
 use Rattle.demands.specs.Resets.{SomeNeighbours, ChangingPlacesIsReal}
 use Rattle.demands.proofs.Done.{done, replyTo, startedOn, stoppedOn, start-decided, stop-decided}
@@ -134,8 +133,8 @@ module _ (e : Edition) where
       let c = start-carries e (a .mme) (a .tmgi) (a .session) (r .mme) (tmgi-range a o) (session-range a o) in
       let w : Accepted = c .what in
       let k = always .reset-size items (u .held) in
-      let x = start-decided e u (a .mce) (judged e m) c ∙ start-fits u w a b q f in
-      let y = start-decided e (resetBy items u) (a .mce) (judged e m) c
+      let x = start-decided e u s c ∙ start-fits u w a b q f in
+      let y = start-decided e (resetBy items u) s c
       ∙ start-fits (resetBy items u) w a (omega arith) (still-none (hasMme (a .mme)) items (u .held) q) (still-none (hasMce (a .mce)) items (u .held) f) in
       record {
         s = s;
@@ -174,8 +173,8 @@ module _ (e : Edition) where
       let r = lent-good h .held .each a m in
       let c = stop-carries e (a .mme) (a .mce) (r .mme) (r .mce) in
       let w : Accepted = c .what in
-      let x = stop-decided e u (s .offered) (judged e o) c ∙ stop-fits u w (a .mme) (a .mce) (some-at (hasPair (a .mme) (a .mce)) m (own-pair a)) in
-      let y = stop-decided e (resetBy items u) (s .offered) (judged e o) c
+      let x = stop-decided e u s c ∙ stop-fits u w (a .mme) (a .mce) (some-at (hasPair (a .mme) (a .mce)) m (own-pair a)) in
+      let y = stop-decided e (resetBy items u) s c
       ∙ stop-fits (resetBy items u) w (a .mme) (a .mce) (some-at (hasPair (a .mme) (a .mce)) (resets .left items (u .held) a .1 (m, n)) (own-pair a)) in
       record {
         s = s;

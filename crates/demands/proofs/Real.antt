@@ -38,7 +38,7 @@ module _ (e : Edition) where
   -- ---- a run for any lists of items
 
   pub reset-granted : (t : List ℕ) (c : Call) (u : Unit) (items : List Item) → readUnit t ≡ isUnit u → Resets e c items → 8192 ≤ length (c .room) → numberOf e t c ≡ 0
-  reset-granted t c u items q p b = granted e t c u q b (reset-decided e u (c .offered) (judged e (c .message)) p) refl
+  reset-granted t c u items q p b = granted e t c u q b (reset-decided e u c p) refl
 
   abbrev pub someCall : List Item → Call
   someCall items = record { message = resetMessage e someCause items; offered = record { 0 = 0 }; room = replicate 8192 0 }

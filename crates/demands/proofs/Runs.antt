@@ -8,7 +8,7 @@ use Rattle.identity.specs.declared.Item.{Item}
 use Rattle.editions.specs.declared.Edition.{Edition}
 use Rattle.table.specs.Table.{State, named, without}
 use Rattle.table.proofs.Rules.{resets}
-use Rattle.units.specs.Unit.{Unit, isUnit, readUnit, unitOctets, GoodUnit}
+use Rattle.units.specs.Unit.{Unit, isUnit, readUnit, unitOctets, withHeld, GoodUnit}
 use Rattle.units.proofs.OneForm.{one-unit}
 use Rattle.replies.specs.declared.Reply.the-variants as reply
 use Rattle.replies.specs.Replies.{Replied, silent, replyOctets}
@@ -23,8 +23,8 @@ none-without : (l : State) → without [] l ≡ l
 unfolding named
 none-without l = resets .none-named [] l (λ a m. refl)
 
-with-held : (u : Unit) {l : State} → l ≡ u .held → _≡_ {A = Unit} (record { held = l }) u
-with-held u q = ap (λ (x : State). record { held = x }) q
+with-held : (u : Unit) {l : State} → l ≡ u .held → withHeld (λ x. l) u ≡ u
+with-held u q = ap (λ (x : State). withHeld (λ y. x) u) q
 
 module _ (e : Edition) where
   -- the reply to a message, if that is a partial reset
@@ -37,11 +37,11 @@ module _ (e : Edition) where
 
   module _ (t : List ℕ) (c : Call) (u : Unit) (items : List Item) (g : GoodUnit u) (q : readUnit t ≡ isUnit u) (p : Resets e c items) (h : numberOf e t c ≡ 0) where
     pub reset-unit : call e t c .unit ≡ unitOctets (resetBy items u)
-    reset-unit = rw (reset-decided e u (c .offered) (judged e (c .message)) p) at (done e t c u q h .unit)
+    reset-unit = rw (reset-decided e u c p) at (done e t c u q h .unit)
 
     pub reset-reply : call e t c .reply ≡ acknowledgement (c .message)
     reset-reply =
-        let r : call e t c .reply ≡ replyOctets e (replyTo e (p .asks .what) reply.AcknowledgeItems) = rw (reset-decided e u (c .offered) (judged e (c .message)) p) at (done e t c u q h .reply) in
+        let r : call e t c .reply ≡ replyOctets e (replyTo e (p .asks .what) reply.AcknowledgeItems) = rw (reset-decided e u c p) at (done e t c u q h .reply) in
         r ∙ sym (ap (λ (j : Judged). replyOctets e (acknowledging j)) (p .asks .accepted))
 
     pub reset-read : readUnit (call e t c .unit) ≡ isUnit (resetBy items u)
@@ -53,4 +53,4 @@ module _ (e : Edition) where
   run-octets none t u g q a = sym (one-unit .again t u q) ∙ ap unitOctets (sym (with-held u (none-without (u .held))))
   run-octets (more {c = c} {cs = cs} {ks = ks} {js = js} o p rest) t u g q a =
       run-octets rest (call e t c .unit) (resetBy ks u) (reset-good u g ks) (reset-read t c u ks g q p (a .0)) (a .1)
-      ∙ ap (λ (x : State). unitOctets (record { held = x })) (resets .joined ks js (u .held))
+      ∙ ap (λ (x : State). unitOctets (withHeld (λ y. x) u)) (resets .joined ks js (u .held))

@@ -43,6 +43,8 @@ module _ {C D : Type 0} (f : C → D) where
       by (value.tmgi t) q = ap (seeing {C = C} (value.tmgi t)) q
       by (value.session s) q = ap (seeing {C = C} (value.session s)) q
       by (value.cause c) q = q
+      by (value.wait v) q = ap (seeing {C = C} (value.wait v)) q
+      by (value.name c) q = q
       by (value.reset whole) q = ap (seeing {C = C} (value.reset whole)) q
       by (value.reset (part items)) q = ap (seeing {C = C} (value.reset (part items))) q
       by (value.list items) q = q
@@ -61,6 +63,8 @@ module _ {C D : Type 0} (f : C → D) where
       by (value.tmgi t) q = q
       by (value.session s) q = q
       by (value.cause c) q = q
+      by (value.wait v) q = q
+      by (value.name c) q = q
       by (value.reset whole) q = q
       by (value.reset (part items)) q = refl
       by (value.list items) q = refl
@@ -95,6 +99,8 @@ GoodValue (value.carried c) = Unit
 GoodValue (value.tmgi t) = Unit
 GoodValue (value.session s) = Unit
 GoodValue (value.cause c) = Unit
+GoodValue (value.wait v) = Unit
+GoodValue (value.name c) = Unit
 GoodValue (value.diagnostics d) = Unit
 
 abbrev pub GoodGiven : {C : Type 0} → Given C → Type 0
@@ -119,6 +125,8 @@ module _ {C : Type 0} where
       by (value.tmgi t) h k = record { mme = k .mme; mce = k .mce }
       by (value.session s) h k = record { mme = k .mme; mce = k .mce }
       by (value.cause c) h k = k
+      by (value.wait v) h k = record { mme = k .mme; mce = k .mce }
+      by (value.name c) h k = k
       by (value.reset whole) h k = record { mme = k .mme; mce = k .mce }
       by (value.reset (part items)) h k = record { mme = k .mme; mce = k .mce }
       by (value.list items) h k = k
@@ -142,6 +150,8 @@ module _ {C : Type 0} where
       by (value.tmgi t) h k = record { list = k .list; some = k .some }
       by (value.session s) h k = record { list = k .list; some = k .some }
       by (value.cause c) h k = record { list = k .list; some = k .some }
+      by (value.wait v) h k = record { list = k .list; some = k .some }
+      by (value.name c) h k = record { list = k .list; some = k .some }
       by (value.reset whole) h k = record { list = k .list; some = λ q. let z : _≡_ {A = ℕ} 0 1 = cc in absurd (omega arith) }
       by (value.reset (part items)) h k = record { list = record { few = h .1; each = h .2 }; some = λ q. h .0 }
       by (value.list items) h k = record { list = record { few = h .1; each = h .2 }; some = λ q. h .0 }
@@ -175,6 +185,8 @@ Has kind.ResetType x = IsReset (x .reset)
 Has kind.Carried x = Unit
 Has kind.Session x = Unit
 Has kind.Cause x = Unit
+Has kind.Wait x = Unit
+Has kind.Name x = Unit
 Has kind.Acknowledged x = Unit
 Has kind.Diagnostics x = Unit
 
@@ -193,6 +205,8 @@ has-kept kind.ResetType q h = q .reset h
 has-kept kind.Carried q h = tt
 has-kept kind.Session q h = tt
 has-kept kind.Cause q h = tt
+has-kept kind.Wait q h = tt
+has-kept kind.Name q h = tt
 has-kept kind.Acknowledged q h = tt
 has-kept kind.Diagnostics q h = tt
 
@@ -204,6 +218,8 @@ module _ {C : Type 0} where
   seeing-has (value.tmgi t) x = tt
   seeing-has (value.session s) x = tt
   seeing-has (value.cause c) x = tt
+  seeing-has (value.wait v) x = tt
+  seeing-has (value.name c) x = tt
   seeing-has (value.reset whole) x = tt
   seeing-has (value.reset (part items)) x = tt
   seeing-has (value.list items) x = tt
@@ -216,6 +232,8 @@ module _ {C : Type 0} where
   seeing-kept (value.tmgi t) x = record { mme = λ h. h; mce = λ h. h; tmgi = λ h. tt; reset = λ h. h }
   seeing-kept (value.session s) x = record { mme = λ h. h; mce = λ h. h; tmgi = λ h. h; reset = λ h. h }
   seeing-kept (value.cause c) x = record { mme = λ h. h; mce = λ h. h; tmgi = λ h. h; reset = λ h. h }
+  seeing-kept (value.wait v) x = record { mme = λ h. h; mce = λ h. h; tmgi = λ h. h; reset = λ h. h }
+  seeing-kept (value.name c) x = record { mme = λ h. h; mce = λ h. h; tmgi = λ h. h; reset = λ h. h }
   seeing-kept (value.reset whole) x = record { mme = λ h. h; mce = λ h. h; tmgi = λ h. h; reset = λ h. tt }
   seeing-kept (value.reset (part items)) x = record { mme = λ h. h; mce = λ h. h; tmgi = λ h. h; reset = λ h. tt }
   seeing-kept (value.list items) x = record { mme = λ h. h; mce = λ h. h; tmgi = λ h. h; reset = λ h. h }

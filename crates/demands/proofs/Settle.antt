@@ -3,7 +3,7 @@
 -- Assumes nothing.
 use Prim.Native.Nat.{ℕ, _≤_}
 use mathlib.Core.Path.{_≡_, refl, ap, _∙_}
-use mathlib.Core.Bool.{Bool, true, false}
+use mathlib.Core.Bool.{Bool, true, false, not, _&&_}
 use mathlib.Core.List.{List, [], _++_}
 use native.Mathlib.Omega.{arith}
 use borrow.Author.Tests.{leb-true}
@@ -35,9 +35,9 @@ use Rattle.carry.specs.declared.Ruling.{Ruling}
 use Rattle.carry.specs.declared.Ruling.the-variants.{Granted, Refused}
 use Rattle.carry.specs.Carry.{started, stopped, carriedOut, asked, ruling}
 use Rattle.answers.specs.Answers.{numbered}
-use Rattle.calls.specs.Decided.{Decided, keeps, changes, applied, decided}
-use Rattle.calls.specs.Judged.{ruled, judgedBy, verdict, judged}
-use Rattle.calls.specs.Call.{Call, Back, replyOf, answerOf, settledIf, fits, settled, onUnit, call}
+use Rattle.calls.specs.Decided.{Decided, keeps, changes, fails, applied, decided}
+use Rattle.calls.specs.Judged.{ruled, judgedBy, verdict, setupAnswer}
+use Rattle.calls.specs.Call.{Call, Back, replyOf, answerOf, settledIf, fits, settled, decidedOn, onUnit, call}
 use Rattle.demands.specs.Answered.{isAmong, numbers, silentNumbers, Answered}
 
 -- ---- answers
@@ -54,6 +54,8 @@ listed answer.OfferHeld = refl
 listed answer.PairNotHeld = refl
 listed answer.Full = refl
 listed answer.NoRoom = refl
+listed answer.NoneOpen = refl
+listed (answer.SetupFailed w) = refl
 listed answer.NoUnit = refl
 
 pub no-place : (a : Answer) → (numbered a .number ≡ 2 → ⊥) → (numbered a .number ≡ 3 → ⊥) → numbered a .place ≡ 0
@@ -68,7 +70,25 @@ no-place answer.OfferHeld h k = refl
 no-place answer.PairNotHeld h k = refl
 no-place answer.Full h k = refl
 no-place answer.NoRoom h k = refl
+no-place answer.NoneOpen h k = refl
+no-place (answer.SetupFailed w) h k = refl
 no-place answer.NoUnit h k = refl
+
+no-wait : (a : Answer) → (numbered a .number ≡ 0 → ⊥) → numbered a .wait ≡ 0
+no-wait answer.CarriedOut h = refl
+no-wait answer.TooLong h = refl
+no-wait (answer.Stopped (Fault p)) h = refl
+no-wait (answer.Stopped (Extension p)) h = refl
+no-wait answer.NoRequest h = refl
+no-wait answer.Rejected h = refl
+no-wait answer.MmeHeld h = refl
+no-wait answer.OfferHeld h = refl
+no-wait answer.PairNotHeld h = refl
+no-wait answer.Full h = refl
+no-wait answer.NoRoom h = refl
+no-wait answer.NoneOpen h = refl
+no-wait (answer.SetupFailed w) h = absurd (h refl)
+no-wait answer.NoUnit h = refl
 
 -- ---- settling, for any decision
 
@@ -80,6 +100,7 @@ module _ (e : Edition) where
     refused-unit : (b : Bool) (x : Decided) → (number (settledIf e b t d x) ≡ 0 → ⊥) → settledIf e b t d x .unit ≡ t
     refused-unit true (keeps a r) h = refl
     refused-unit true (changes u r) h = absurd (h refl)
+    refused-unit true (fails u w r) h = absurd (h refl)
     refused-unit false x h = refl
 
     reply-fits : (b : Bool) (x : Decided) → fits e d x ≡ b → length (settledIf e b t d x .reply) ≤ length d
@@ -131,6 +152,8 @@ module _ (e : Edition) where
       carried-silent request.Whole = λ e. cc
       carried-silent request.Part = λ e. cc
       carried-silent request.Indication = λ e. none
+      carried-silent request.SetupResponse = λ e. none
+      carried-silent (request.SetupFailure w) = λ e. none
 
   ruled-silent : (u : Unit) (c : MceId) (w : Understood) (r : Ruling) → Silent (decided e u c (ruled e w r))
   unfolding decided
@@ -141,6 +164,10 @@ module _ (e : Edition) where
   unfolding judgedBy decided
   decided-silent u c (refused x) = λ q. none-said
   decided-silent u c (understood w) = ruled-silent u c w (ruling (askOf (w .what .message)) (seen (w .what .values)) (w .outcome))
+
+  decided-on-silent : (u : Unit) (c : Call) → Silent (decidedOn e u c)
+  unfolding decidedOn
+  decided-on-silent u c = on-pick Silent (setupAnswer e (c .message) && not (u .isOpen)) (λ q. none-said) (decided-silent u (c .offered) (verdict e (c .message)))
 
   -- ---- the call
 
@@ -154,13 +181,13 @@ module _ (e : Edition) where
     left : (x : MaybeUnit) → Left (onUnit e t c x)
     unfolding settled
     left (isUnit u) =
-        let x : Decided = decided e u (c .offered) (judged e (c .message)) in
+        let x : Decided = decidedOn e u c in
         let b : Bool = fits e (c .room) x in
         record {
           refused = refused-unit t (c .room) b x;
           fits = reply-fits t (c .room) b x refl;
           room = reply-front t (c .room) b x;
-          silent = no-reply t (c .room) b x (decided-silent u (c .offered) (verdict e (c .message)));
+          silent = no-reply t (c .room) b x (decided-on-silent u c);
         }
     left noUnit = record { refused = λ h. refl; fits = omega arith; room = refl; silent = λ e. refl }
 
@@ -175,4 +202,5 @@ module _ (e : Edition) where
           room = x .room;
           silent = λ q. (x .silent q, x .room ∙ ap (λ (r : List ℕ). r ++ drop (length r) (c .room)) (x .silent q));
           place = no-place (call e t c .answer);
+          wait = no-wait (call e t c .answer);
         }

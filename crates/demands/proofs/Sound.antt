@@ -18,7 +18,8 @@ use Rattle.octets.proofs.Got.{number-got, choice-got}
 use Rattle.octets.proofs.Again.{value-below}
 use Rattle.octets.proofs.Stood.{octets-front}
 use Rattle.octets.specs.Many.{Each}
-use Rattle.values.specs.Values.{mmeAt, mceAt, tmgiAt, sessionAt, causeAt}
+use Rattle.values.specs.Values.{mmeAt, mceAt, tmgiAt, sessionAt, causeAt, waitAt}
+use Rattle.names.specs.Names.{nameAt}
 use Rattle.values.proofs.Good.{mme-good, mce-good}
 use Rattle.items.specs.Items.{itemsAt, resetAt}
 use Rattle.items.proofs.Good.{items-good, reset-good}
@@ -173,6 +174,8 @@ module _ (s : List ℕ) (o : Octets s) where
     read-good kind.Tmgi q = of-read GoodValue value.tmgi (tmgiAt (take (p .to) s) (p .from)) q (λ a h. tt)
     read-good kind.Session q = of-read GoodValue value.session (sessionAt (take (p .to) s) (p .from)) q (λ a h. tt)
     read-good kind.Cause q = of-read GoodValue value.cause (causeAt (take (p .to) s) (p .from)) q (λ a h. tt)
+    read-good kind.Wait q = of-read GoodValue value.wait (waitAt (take (p .to) s) (p .from)) q (λ a h. tt)
+    read-good kind.Name q = of-read GoodValue value.name (nameAt (take (p .to) s) (p .from)) q (λ a h. tt)
     read-good kind.ResetType q = of-read GoodValue value.reset (resetAt (take (p .to) s) (p .from)) q (λ a h. reset-good (take (p .to) s) (p .from) cut h)
     read-good kind.Acknowledged q = of-read GoodValue value.list (itemsAt (take (p .to) s) (p .from)) q (λ a h. items-good (take (p .to) s) (p .from) cut h)
     read-good kind.Diagnostics q = of-read GoodValue value.diagnostics (diagnosticsAt (take (p .to) s) (p .from)) q (λ a h. tt)

@@ -16,19 +16,17 @@ use Rattle.verdicts.specs.Verdict.{Understood, understood, every, readOf}
 use Rattle.round_trips.specs.Ties.{ReadAs}
 use Rattle.replies.specs.Replies.{says}
 use Rattle.answers.specs.Answers.{numbered}
-use Rattle.calls.specs.Judged.{judged}
-use Rattle.calls.specs.Decided.{Decided, decided}
-use Rattle.calls.specs.Call.{Call, fits, call, repliedIn}
+use Rattle.calls.specs.Call.{Call, fits, decidedOn, call, repliedIn}
 
 abbrev pub isAmong : List ℕ → ℕ → Bool
 isAmong ns n = some (eqb n) ns
 
--- the numbers of 01's list that the table call can give, and those that never have a reply
+-- the numbers of 01's and 02's lists that the table call can give, and those that never have a reply
 abbrev pub numbers : List ℕ
-numbers = 0 ∷ 1 ∷ 2 ∷ 3 ∷ 4 ∷ 5 ∷ 6 ∷ 7 ∷ 8 ∷ 9 ∷ 10 ∷ 21 ∷ []
+numbers = 0 ∷ 1 ∷ 2 ∷ 3 ∷ 4 ∷ 5 ∷ 6 ∷ 7 ∷ 8 ∷ 9 ∷ 10 ∷ 14 ∷ 21 ∷ []
 
 abbrev pub silentNumbers : List ℕ
-silentNumbers = 1 ∷ 2 ∷ 3 ∷ 4 ∷ 7 ∷ 10 ∷ 21 ∷ []
+silentNumbers = 1 ∷ 2 ∷ 3 ∷ 4 ∷ 7 ∷ 10 ∷ 14 ∷ 21 ∷ []
 
 -- what the types let anyone hand over
 pub record Handed (t : List ℕ) (c : Call) : Type 0 where
@@ -42,7 +40,7 @@ module _ (e : Edition) where
     numberOf = numbered (call e t c .answer) .number
 
     pub record Answered : Type 0 where
-      -- one answer of 01's list
+      -- one answer of the list
       pub answer : isAmong numbers numberOf ≡ true
       -- answers other than 0 leave the unit as it was
       pub refused : (numberOf ≡ 0 → ⊥) → call e t c .unit ≡ t
@@ -53,6 +51,8 @@ module _ (e : Edition) where
       pub silent : isAmong silentNumbers numberOf ≡ true → (call e t c .reply ≡ []) × (call e t c .room ≡ c .room)
       -- places stand beside 2 and 3 only
       pub place : (numberOf ≡ 2 → ⊥) → (numberOf ≡ 3 → ⊥) → numbered (call e t c .answer) .place ≡ 0
+      -- and a time to wait beside 0 only
+      pub wait : (numberOf ≡ 0 → ⊥) → numbered (call e t c .answer) .wait ≡ 0
 
   -- a unit in is a unit out: never 21 after an accepted call; and its first two octets say how many are held
   pub record UnitOut (t : List ℕ) (c : Call) : Type 0 where
@@ -67,13 +67,10 @@ module _ (e : Edition) where
     pub accepted : what .outcome ≡ outcome.Accepted
     pub noted : what .noted ≡ []
 
-  abbrev pub decidedOn : Unit → Call → Decided
-  decidedOn u c = decided e u (c .offered) (judged e (c .message))
-
   pub record Demand1 : Type 0 where
     pub answered : (t : List ℕ) (c : Call) → Answered t c
     pub unit : (t : List ℕ) (c : Call) (u : Unit) → Handed t c → readUnit t ≡ isUnit u → UnitOut t c
     pub reply : (t : List ℕ) (c : Call) → Handed t c → (call e t c .reply ≡ [] → ⊥) → ReadsBack (call e t c .reply)
     -- a reply that the rules give is sent where it fits, and reads back as what they say
-    pub spoken : (t : List ℕ) (c : Call) (u : Unit) (w : Said) → Handed t c → readUnit t ≡ isUnit u → fits e (c .room) (decidedOn u c) ≡ true → repliedIn (decidedOn u c) ≡ says w
+    pub spoken : (t : List ℕ) (c : Call) (u : Unit) (w : Said) → Handed t c → readUnit t ≡ isUnit u → fits e (c .room) (decidedOn e u c) ≡ true → repliedIn (decidedOn e u c) ≡ says w
         → ReadAs e (call e t c .reply) w

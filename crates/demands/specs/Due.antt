@@ -1,4 +1,4 @@
--- 01's table of answers once more, in 01's order: each number, when it is given, and which message is its reply. The first that is due is given;
+-- 01's table of answers once more, in 01's order, with 02's row 14 directly after 4: each number, when it is given, and which message is its reply. The first that is due is given;
 -- 10 takes its place where the reply does not fit. Each row's test says what 01's row says, and nothing of the other rows.
 use Prim.Native.Nat.{ℕ, _+_}
 use mathlib.Core.Path.{_≡_}
@@ -33,11 +33,9 @@ use Rattle.units.specs.Unit.{MaybeUnit, isUnit, noUnit, readUnit}
 use Rattle.requests.specs.declared.Ask.{Ask}
 use Rattle.requests.specs.declared.Ask.the-variants as ask
 use Rattle.requests.specs.declared.Seen.{Seen}
-use Rattle.requests.specs.Requests.{askOf, isAsked, seen}
+use Rattle.requests.specs.Requests.{askOf, isAsked, answersSetup, seen}
 use Rattle.answers.specs.Answers.{numbered}
-use Rattle.calls.specs.Judged.{judged}
-use Rattle.calls.specs.Decided.{decided}
-use Rattle.calls.specs.Call.{Call, fits, call}
+use Rattle.calls.specs.Call.{Call, fits, decidedOn, call}
 use Rattle.demands.specs.Answered.{Handed}
 
 -- which message the reply is
@@ -106,13 +104,17 @@ abbrev pub of : (Inside → Bool) → MaybeInside → Bool
 of p (inside x) = p x
 of p nowhere = false
 
-abbrev isThere : MaybeUnit → Bool
-isThere (isUnit u) = true
-isThere noUnit = false
+abbrev pub isLent : MaybeUnit → Bool
+isLent (isUnit u) = true
+isLent noUnit = false
 
 abbrev held : (State → Bool) → MaybeUnit → Bool
 held p (isUnit u) = p (u .held)
 held p noUnit = false
+
+abbrev pub isOpenIn : MaybeUnit → Bool
+isOpenIn (isUnit u) = u .isOpen
+isOpenIn noUnit = false
 
 abbrev pub notAccepted : Outcome → Bool
 notAccepted outcome.Accepted = false
@@ -124,6 +126,8 @@ isStart ask.Start = true
 isStart ask.Stop = false
 isStart ask.Reset = false
 isStart ask.Indication = false
+isStart ask.SetupResponse = false
+isStart ask.SetupFailure = false
 isStart ask.Nothing = false
 
 abbrev isStop : Ask → Bool
@@ -131,6 +135,8 @@ isStop ask.Start = false
 isStop ask.Stop = true
 isStop ask.Reset = false
 isStop ask.Indication = false
+isStop ask.SetupResponse = false
+isStop ask.SetupFailure = false
 isStop ask.Nothing = false
 
 -- ---- the replies of 0 and of 5
@@ -140,6 +146,8 @@ carriedReply ask.Start = sends message.StartResponse
 carriedReply ask.Stop = sends message.StopResponse
 carriedReply ask.Reset = sends message.ResetAcknowledge
 carriedReply ask.Indication = none
+carriedReply ask.SetupResponse = none
+carriedReply ask.SetupFailure = none
 carriedReply ask.Nothing = none
 
 -- START FAILURE if a start's MME identity was read
@@ -153,6 +161,8 @@ rejectedReply ask.Start x = startReply (x .mme)
 rejectedReply ask.Stop x = sends message.ErrorIndication
 rejectedReply ask.Reset x = sends message.ErrorIndication
 rejectedReply ask.Indication x = none
+rejectedReply ask.SetupResponse x = sends message.ErrorIndication
+rejectedReply ask.SetupFailure x = sends message.ErrorIndication
 rejectedReply ask.Nothing x = none
 
 abbrev to : (Inside → Reply) → MaybeInside → Reply
@@ -163,11 +173,12 @@ to r nowhere = none
 
 abbrev pub refusals : MaybeUnit → List ℕ → Read Frame → MaybeInside → MceId → List Due
 refusals u s f i c =
-    21 when not (isThere u) reply none
+    21 when not (isLent u) reply none
     ∷ 1 when ltb 8192 (length s) reply none
     ∷ 2 when faulty f reply none
     ∷ 3 when extended f reply none
     ∷ 4 when not (of (λ x. isAsked (x .ask)) i) reply none
+    ∷ 14 when of (λ x. answersSetup (x .ask)) i && not (isOpenIn u) reply none
     ∷ 2 when of (λ x. faulty (x .opened)) i reply none
     ∷ 3 when of (λ x. extended (x .opened)) i reply none
     ∷ 5 when of (λ x. notAccepted (x .outcome)) i reply to (λ x. rejectedReply (x .ask) (x .seen)) i
@@ -188,7 +199,7 @@ module _ (e : Edition) where
   due u c = dueFor u (c .message) (frameAt (c .message)) (insideBy e (c .message) (frameAt (c .message))) (c .offered)
 
   abbrev pub fitsIn : MaybeUnit → Call → Bool
-  fitsIn (isUnit u) c = fits e (c .room) (decided e u (c .offered) (judged e (c .message)))
+  fitsIn (isUnit u) c = fits e (c .room) (decidedOn e u c)
   fitsIn noUnit c = true
 
   -- the first that is due, or 10 where its reply does not fit

@@ -23,7 +23,7 @@ use Rattle.demands.specs.WhatIsDone.{WhatIsDone}
 -- ---- on a unit that holds these, with the MCE identity 9 offered
 
 abbrev pub holding : State → List ℕ
-holding l = unitOctets (record { held = l })
+holding l = unitOctets (record { held = l; isOpen = false })
 
 abbrev pub offer : MceId
 offer = record { 0 = 9 }
@@ -67,6 +67,16 @@ whole = 0x00 ∷ 0x04 ∷ 0x00 ∷ 0x08 ∷ 0x00 ∷ 0x00 ∷ 0x01 ∷ 0x00 ∷ 
 abbrev pub error : List ℕ
 error = 0x00 ∷ 0x02 ∷ 0x40 ∷ 0x08 ∷ 0x00 ∷ 0x00 ∷ 0x01 ∷ 0x00 ∷ 0x62 ∷ 0x00 ∷ 0x01 ∷ 0xff ∷ []
 
+-- M3 SETUP RESPONSE of no elements, and what is inside it cut short; M3 SETUP FAILURE with a Time to Wait of 60 seconds
+abbrev pub response : List ℕ
+response = 0x20 ∷ 0x07 ∷ 0x00 ∷ 0x03 ∷ 0x00 ∷ 0x00 ∷ 0x00 ∷ []
+
+abbrev pub cutResponse : List ℕ
+cutResponse = 0x20 ∷ 0x07 ∷ 0x00 ∷ 0x03 ∷ 0x00 ∷ 0x00 ∷ 0x01 ∷ []
+
+abbrev pub failure : List ℕ
+failure = 0x40 ∷ 0x07 ∷ 0x00 ∷ 0x08 ∷ 0x00 ∷ 0x00 ∷ 0x01 ∷ 0x00 ∷ 0x0C ∷ 0x40 ∷ 0x01 ∷ 0x50 ∷ []
+
 -- ---- every answer
 
 abbrev pub numberOf : List ℕ → List ℕ → List ℕ → ℕ
@@ -82,6 +92,9 @@ pub record EveryAnswer : Type 0 where
   pub extension : Gives [] (0x80 ∷ []) 3
   -- a procedure code that none of the messages has
   pub no-request : Gives [] (0x00 ∷ 0x03 ∷ 0x00 ∷ 0x01 ∷ 0x00 ∷ []) 4
+  -- the answer to a setup request, where none is open: also if it is cut short
+  pub none-open : Gives [] response 14
+  pub none-open-cut : Gives [] cutResponse 14
   -- ERROR INDICATION with an unknown element of reject
   pub rejected : Gives [] error 5
   -- the start, where its MME identity is held, or only the offered one is

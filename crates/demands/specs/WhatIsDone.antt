@@ -1,7 +1,7 @@
--- 01's "What is done", line by line: what a call that is answered 0 leaves in the unit. Nothing else of it changes.
+-- 01's "What is done", line by line, and what 02 adds to it: what a call that is answered 0 leaves in the unit. Nothing else of it changes.
 use Prim.Native.Nat.{ℕ}
 use mathlib.Core.Path.{_≡_}
-use mathlib.Core.Bool.{not}
+use mathlib.Core.Bool.{true, false, not}
 use mathlib.Core.List.{List, [], _∷_, _++_}
 use Rattle.lists.specs.Lists.{keep}
 use Rattle.identity.specs.declared.MmeId.{MmeId}
@@ -12,9 +12,11 @@ use Rattle.identity.specs.declared.Item.{Item}
 use Rattle.editions.specs.declared.Edition.{Edition}
 use Rattle.table.specs.declared.Association.{Association}
 use Rattle.table.specs.Table.{State, hasPair, named}
-use Rattle.units.specs.Unit.{Unit, isUnit, readUnit, unitOctets, withHeld}
+use Rattle.units.specs.Unit.{Unit, isUnit, readUnit, unitOctets, withHeld, withOpen}
+use Rattle.requests.specs.declared.MaybeWait.{MaybeWait}
 use Rattle.requests.specs.declared.Request.{Request}
 use Rattle.requests.specs.declared.Request.the-variants as request
+use Rattle.answers.specs.Answers.{numbered, waitOf}
 use Rattle.calls.specs.Judged.{judged}
 use Rattle.calls.specs.Call.{Call, call}
 use Rattle.demands.specs.Answered.{numberOf}
@@ -37,5 +39,11 @@ module _ (e : Edition) where
     -- "All named are removed, the others keep their order."
     pub part : (t : List ℕ) (c : Call) (u : Unit) (items : List Item) → readUnit t ≡ isUnit u → PartialReset (judged e (c .message)) items → numberOf e t c ≡ 0
         → call e t c .unit ≡ unitOctets (withHeld (keep (λ (a : Association). not (named items a))) u)
+    -- "An accepted response empties the table", "Only answer 0 opens or closes a request."
+    pub setup : (t : List ℕ) (c : Call) (u : Unit) → readUnit t ≡ isUnit u → Asks (judged e (c .message)) request.SetupResponse → numberOf e t c ≡ 0
+        → (u .isOpen ≡ true) × (call e t c .unit ≡ unitOctets (withOpen false (withHeld (λ l. []) u)))
+    -- "a failure keeps it and hands back Time to Wait"
+    pub failed : (t : List ℕ) (c : Call) (u : Unit) (w : MaybeWait) → readUnit t ≡ isUnit u → Asks (judged e (c .message)) (request.SetupFailure w) → numberOf e t c ≡ 0
+        → (u .isOpen ≡ true) × (call e t c .unit ≡ unitOctets (withOpen false u)) × (numbered (call e t c .answer) .wait ≡ waitOf w)
     -- "ERROR INDICATION changes nothing and gets no reply."
     pub indication : (t : List ℕ) (c : Call) (u : Unit) → readUnit t ≡ isUnit u → Asks (judged e (c .message)) request.Indication → (call e t c .unit ≡ t) × (call e t c .reply ≡ [])

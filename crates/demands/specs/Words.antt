@@ -62,6 +62,8 @@ OfSession (request.Stop m x) = Unit
 OfSession request.Whole = ⊥
 OfSession request.Part = ⊥
 OfSession request.Indication = ⊥
+OfSession request.SetupResponse = ⊥
+OfSession (request.SetupFailure w) = ⊥
 
 -- what a reply acknowledges, as it is read: these items; a reply without a list, none
 pub record Acknowledgement (v : Verdict) (l : List Item) : Type 0 where

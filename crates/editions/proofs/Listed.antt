@@ -27,6 +27,9 @@ number-names Release18 message.StopResponse = refl
 number-names Release18 message.Reset = refl
 number-names Release18 message.ResetAcknowledge = refl
 number-names Release18 message.ErrorIndication = refl
+number-names Release18 message.SetupRequest = refl
+number-names Release18 message.SetupResponse = refl
+number-names Release18 message.SetupFailure = refl
 
 -- the first that passes is one of them
 first-listed : (p : Message → Bool) (m : Message) (ms : List Message) → firstOf p ms ≡ Is m → List·Memᴰ m ms

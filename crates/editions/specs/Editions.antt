@@ -7,18 +7,18 @@ use lib.Dec.{eqb}
 use lib.ListN.{length}
 use Rattle.lists.specs.Lists.{pick, fill}
 use Rattle.rows.specs.declared.Kind.{Kind}
-use Rattle.rows.specs.declared.Kind.the-variants.{Carried, Mme, Mce, Tmgi, Session, Cause, ResetType, Acknowledged, Diagnostics}
+use Rattle.rows.specs.declared.Kind.the-variants.{Carried, Mme, Mce, Tmgi, Session, Cause, Wait, Name, ResetType, Acknowledged, Diagnostics}
 use Rattle.rows.specs.declared.Row.{Row}
 use Rattle.rows.specs.declared.Rows.{Rows}
 use Rattle.rows.specs.Table.{noRow}
 use Rattle.editions.specs.declared.Message.{Message}
-use Rattle.editions.specs.declared.Message.the-variants.{StartRequest, StartResponse, StartFailure, StopRequest, StopResponse, Reset, ResetAcknowledge, ErrorIndication}
+use Rattle.editions.specs.declared.Message.the-variants.{StartRequest, StartResponse, StartFailure, StopRequest, StopResponse, Reset, ResetAcknowledge, ErrorIndication, SetupRequest, SetupResponse, SetupFailure}
 use Rattle.editions.specs.declared.Code.{Code}
 use Rattle.editions.specs.declared.Named.{Named}
 use Rattle.editions.specs.declared.Named.the-variants.{Is, Other}
 use Rattle.editions.specs.declared.Edition.{Edition}
 use Rattle.editions.specs.declared.Edition.the-variants.{Release18}
-use Rattle.editions.specs.Ids.{id-MME-MBMS-M3AP-ID, id-MCE-MBMS-M3AP-ID, id-TMGI, id-MBMS-Session-ID, id-MBMS-E-RAB-QoS-Parameters, id-MBMS-Session-Duration, id-MBMS-Service-Area, id-TNL-Information, id-CriticalityDiagnostics, id-Cause, id-ResetType, id-MBMS-Service-associatedLogicalM3-ConnectionListResAck, id-MinimumTimeToMBMSDataTransfer, id-Time-ofMBMS-DataTransfer, id-Time-ofMBMS-DataStop, id-Reestablishment, id-Alternative-TNL-Information, id-MBMS-Cell-List}
+use Rattle.editions.specs.Ids.{id-MME-MBMS-M3AP-ID, id-MCE-MBMS-M3AP-ID, id-TMGI, id-MBMS-Session-ID, id-MBMS-E-RAB-QoS-Parameters, id-MBMS-Session-Duration, id-MBMS-Service-Area, id-TNL-Information, id-CriticalityDiagnostics, id-Cause, id-TimeToWait, id-ResetType, id-MBMS-Service-associatedLogicalM3-ConnectionListResAck, id-MinimumTimeToMBMSDataTransfer, id-Global-MCE-ID, id-MCEname, id-MBMSServiceAreaList, id-Time-ofMBMS-DataTransfer, id-Time-ofMBMS-DataStop, id-Reestablishment, id-Alternative-TNL-Information, id-MBMS-Cell-List}
 
 abbrev reject : ℕ
 reject = 0
@@ -85,6 +85,16 @@ form18 ErrorIndication = form 8 (frame 0 2 ignore)
     ∷ optional id-MCE-MBMS-M3AP-ID ignore Mce
     ∷ optional id-Cause ignore Cause
     ∷ optional id-CriticalityDiagnostics ignore Diagnostics ∷ [])
+form18 SetupRequest = form 9 (frame 0 7 reject)
+    (mandatory id-Global-MCE-ID reject Carried
+    ∷ optional id-MCEname ignore Name
+    ∷ mandatory id-MBMSServiceAreaList reject Carried ∷ [])
+form18 SetupResponse = form 10 (frame 1 7 reject)
+    (optional id-CriticalityDiagnostics ignore Diagnostics ∷ [])
+form18 SetupFailure = form 11 (frame 2 7 reject)
+    (mandatory id-Cause ignore Cause
+    ∷ optional id-TimeToWait ignore Wait
+    ∷ optional id-CriticalityDiagnostics ignore Diagnostics ∷ [])
 
 -- the same, shut: what is shown of a message shows no table
 unfoldable pub release18 : Message → Form
@@ -94,7 +104,7 @@ abbrev pub formOf : Edition → Message → Form
 formOf Release18 m = release18 m
 
 abbrev pub messagesOf : Edition → List Message
-messagesOf Release18 = StartRequest ∷ StartResponse ∷ StartFailure ∷ StopRequest ∷ StopResponse ∷ Reset ∷ ResetAcknowledge ∷ ErrorIndication ∷ []
+messagesOf Release18 = StartRequest ∷ StartResponse ∷ StartFailure ∷ StopRequest ∷ StopResponse ∷ Reset ∷ ResetAcknowledge ∷ ErrorIndication ∷ SetupRequest ∷ SetupResponse ∷ SetupFailure ∷ []
 
 abbrev pub tableOf : Edition → Message → List Row
 tableOf e m = formOf e m .rows

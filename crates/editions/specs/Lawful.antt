@@ -24,6 +24,8 @@ fills kind.Cause = 5
 fills kind.ResetType = 6
 fills kind.Acknowledged = 6
 fills kind.Diagnostics = 7
+fills kind.Wait = 8
+fills kind.Name = 9
 
 abbrev pub lawful : List Row → Bool
 lawful t =

@@ -22,6 +22,9 @@ pub enum Message {
     Reset,
     ResetAcknowledge,
     ErrorIndication,
+    SetupRequest,
+    SetupResponse,
+    SetupFailure,
 }
 
 // One of an edition's messages, or another.
@@ -215,6 +218,34 @@ const CELLS: Row = Row {
     mandatory: false,
 };
 
+const GLOBAL_ID: Row = Row {
+    id: 18,
+    crit: REJECT,
+    kind: Kind::Carried,
+    mandatory: true,
+};
+
+const NAME: Row = Row {
+    id: 19,
+    crit: IGNORE,
+    kind: Kind::Name,
+    mandatory: false,
+};
+
+const AREAS: Row = Row {
+    id: 20,
+    crit: REJECT,
+    kind: Kind::Carried,
+    mandatory: true,
+};
+
+const WAIT: Row = Row {
+    id: 12,
+    crit: IGNORE,
+    kind: Kind::Wait,
+    mandatory: false,
+};
+
 const START_REQUEST: [Row; 12] = [
     MME_R,
     TMGI_R,
@@ -232,7 +263,7 @@ const START_REQUEST: [Row; 12] = [
 
 // ---- Release 18: of each message its name, its number and frame, and its table. head_18 and rows_18 are proved with no proof written, so a message is said only here.
 
-const COUNT: usize = 8;
+const COUNT: usize = 11;
 
 const MESSAGES: [Message; COUNT] = [
     Message::StartRequest,
@@ -243,6 +274,9 @@ const MESSAGES: [Message; COUNT] = [
     Message::Reset,
     Message::ResetAcknowledge,
     Message::ErrorIndication,
+    Message::SetupRequest,
+    Message::SetupResponse,
+    Message::SetupFailure,
 ];
 
 // Number for C, kind, procedure code, criticality.
@@ -260,6 +294,9 @@ fn head_18(m: Message) -> Head
         Message::Reset => Head(6, 0, 4, REJECT),
         Message::ResetAcknowledge => Head(7, 1, 4, REJECT),
         Message::ErrorIndication => Head(8, 0, 2, IGNORE),
+        Message::SetupRequest => Head(9, 0, 7, REJECT),
+        Message::SetupResponse => Head(10, 1, 7, REJECT),
+        Message::SetupFailure => Head(11, 2, 7, REJECT),
     }
 }
 
@@ -297,6 +334,9 @@ fn rows_18(m: Message) -> Rows
         Message::Reset => few(m, Message::Reset, CAUSE_M, RESET_R, NO, NO, 2),
         Message::ResetAcknowledge => few(m, Message::ResetAcknowledge, ITEMS, DIAG, NO, NO, 2),
         Message::ErrorIndication => few(m, Message::ErrorIndication, MME, MCE, CAUSE, DIAG, 4),
+        Message::SetupRequest => few(m, Message::SetupRequest, GLOBAL_ID, NAME, AREAS, NO, 3),
+        Message::SetupResponse => few(m, Message::SetupResponse, DIAG, NO, NO, NO, 1),
+        Message::SetupFailure => few(m, Message::SetupFailure, CAUSE_M, WAIT, DIAG, NO, 3),
     }
 }
 

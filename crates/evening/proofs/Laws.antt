@@ -12,10 +12,9 @@ use lib.Seq.{drop-drop}
 use Rattle.lists.specs.Lists.{pick}
 use Rattle.units.specs.Unit.{fresh, unitOctets, MaybeUnit, isUnit, noUnit, readUnit}
 use Rattle.editions.specs.declared.Edition.the-variants.{Release18}
-use Rattle.calls.specs.Judged.{judged}
-use Rattle.calls.specs.Decided.{Decided, decided}
+use Rattle.calls.specs.Decided.{Decided}
 use Rattle.answers.specs.Answers.{numbered}
-use Rattle.calls.specs.Call.{Back, replyOf, settledIf, fits, settled, onUnit, call}
+use Rattle.calls.specs.Call.{Back, decidedOn, replyOf, settledIf, fits, settled, onUnit, call}
 use Rattle.evening.specs.declared.Turn.{Turn}
 use Rattle.evening.specs.declared.Played as own
 use Rattle.evening.specs.Capture.{sizeIn, whole, callIn, heldIn, turnOf, Played, behind, nothing, playedIn, captured, Plays}
@@ -93,12 +92,12 @@ settled-same true t d e x h = record { answer = refl; reply = refl; unit = refl;
 settled-same false t d e x h = record { answer = refl; reply = refl; unit = refl; room = h }
 
 call-same : (s t d e : List ℕ) → length d ≡ length e → Same (call Release18 t (callIn s d)) (call Release18 t (callIn s e))
-unfolding call settled callIn
+unfolding call settled callIn decidedOn
 call-same s t d e h = by (readUnit t)
   where
     by : (u : MaybeUnit) → Same (onUnit Release18 t (callIn s d) u) (onUnit Release18 t (callIn s e) u)
     by (isUnit u) =
-        let x : Decided = decided Release18 u (callIn s d .offered) (judged Release18 (callIn s d .message)) in
+        let x : Decided = decidedOn Release18 u (callIn s d) in
         let f : fits Release18 d x ≡ fits Release18 e x = ap (leb (length (replyOf Release18 x))) h in
         rw f (settled-same (fits Release18 e x) t d e x h)
     by noUnit = record { answer = refl; reply = refl; unit = refl; room = h }

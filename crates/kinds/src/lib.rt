@@ -1,7 +1,9 @@
 // How the value of an element is read, by what 9.3.4 says that it is.
 ghost use mathlib.Core.Path.{_≡_};
 ghost use Rattle.octets.specs.Found.{foundGate};
+ghost use Rattle.rows.specs.declared.Kind.the-variants.{Wait, Name};
 ghost use Rattle.kinds.specs.Kinds.{valueAt};
+use names::NameRead;
 use octets::Gate;
 use rows::Kind;
 use values::CauseRead;
@@ -9,6 +11,25 @@ use values::MceRead;
 use values::MmeRead;
 use values::SessionRead;
 use values::TmgiRead;
+use values::WaitRead;
+
+fn wait_gate(s: &[u8], at: usize) -> Gate
+    ensures { λ r. ⌜ foundGate r ≡ valueAt Wait (now (s .entry)) at ⌝ }
+{
+    match values::wait_at(s, at) {
+        WaitRead::Is(_) => Gate::Pass,
+        WaitRead::Stop(x) => Gate::Stop(x),
+    }
+}
+
+fn name_gate(s: &[u8], at: usize) -> Gate
+    ensures { λ r. ⌜ foundGate r ≡ valueAt Name (now (s .entry)) at ⌝ }
+{
+    match names::name_at(s, at) {
+        NameRead::Is(_) => Gate::Pass,
+        NameRead::Stop(x) => Gate::Stop(x),
+    }
+}
 
 // A value of a kind can be read, or why not. Nothing is kept of it.
 pub fn value_at(kind: Kind, s: &[u8], at: usize) -> Gate
@@ -36,6 +57,8 @@ pub fn value_at(kind: Kind, s: &[u8], at: usize) -> Gate
             CauseRead::Is(_) => Gate::Pass,
             CauseRead::Stop(x) => Gate::Stop(x),
         },
+        Kind::Wait => wait_gate(s, at),
+        Kind::Name => name_gate(s, at),
         Kind::ResetType => item_words::reset_gate(s, at),
         Kind::Acknowledged => item_words::items_gate(s, at),
         Kind::Diagnostics => entry_words::diagnostics_gate(s, at),

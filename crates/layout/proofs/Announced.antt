@@ -19,7 +19,7 @@ use Rattle.rows.specs.declared.Kind.{Kind}
 use Rattle.rows.specs.declared.Row.{Row}
 use Rattle.editions.specs.Lawful.{fills, lawful}
 use Rattle.editions.proofs.Tables.{lawful-rest, lawful-first}
-use Rattle.meaning.specs.Value.{Value, Given, given, absent, carried, mme, mce, tmgi, session, cause, reset, list, diagnostics}
+use Rattle.meaning.specs.Value.{Value, Given, given, absent, carried, mme, mce, tmgi, session, cause, wait, name, reset, list, diagnostics}
 use Rattle.meaning.specs.Ranges.{valueKind}
 use Rattle.layout.specs.Record.{Lists, announced, listsOf}
 use Rattle.layout.specs.Held.{ItemsFit, EntriesFit, DiagnosticsFit, Fits, RowsFit}
@@ -35,6 +35,8 @@ other-items (mce x) is l h a = a
 other-items (tmgi x) is l h a = a
 other-items (session x) is l h a = a
 other-items (cause x) is l h a = a
+other-items (wait x) is l h a = a
+other-items (name x) is l h a = a
 other-items (reset whole) is l h a = a
 other-items (reset (part js)) is l h a = absurd (h (omega arith) refl)
 other-items (list js) is l h a = absurd (h (omega arith) refl)
@@ -48,6 +50,8 @@ other-entries (mce x) es l h a = a
 other-entries (tmgi x) es l h a = a
 other-entries (session x) es l h a = a
 other-entries (cause x) es l h a = a
+other-entries (wait x) es l h a = a
+other-entries (name x) es l h a = a
 other-entries (reset whole) es l h a = a
 other-entries (reset (part js)) es l h a = a
 other-entries (list js) es l h a = a
@@ -61,6 +65,8 @@ in-front (mce x) w l h a = a
 in-front (tmgi x) w l h a = a
 in-front (session x) w l h a = a
 in-front (cause x) w l h a = a
+in-front (wait x) w l h a = a
+in-front (name x) w l h a = a
 in-front (reset whole) w l h a = a
 in-front (reset (part is)) w l h a = other-items w is l (h (omega arith)) a
 in-front (list is) w l h a = other-items w is l (h (omega arith)) a
@@ -78,6 +84,8 @@ own (mce x) l f = tt
 own (tmgi x) l f = tt
 own (session x) l f = tt
 own (cause x) l f = tt
+own (wait x) l f = tt
+own (name x) l f = tt
 own (reset whole) l f = tt
 own (reset (part is)) l f = refl
 own (list is) l f = refl
@@ -120,6 +128,8 @@ announced-fit (mce x) l f g = g
 announced-fit (tmgi x) l f g = g
 announced-fit (session x) l f g = g
 announced-fit (cause x) l f g = g
+announced-fit (wait x) l f g = g
+announced-fit (name x) l f g = g
 announced-fit (reset whole) l f g = g
 announced-fit (reset (part is)) l f g = record { items = f; entries = g .entries }
 announced-fit (list is) l f g = record { items = f; entries = g .entries }

@@ -21,11 +21,11 @@ use Rattle.diagnostics.specs.declared.Number.the-variants as number
 use Rattle.diagnostics.specs.declared.Head.{Head}
 use Rattle.diagnostics.specs.Diagnostics.{Diagnostics}
 use Rattle.rows.specs.declared.Row.{Row}
-use Rattle.meaning.specs.Value.{Value, Given, given, absent, carried, mme, mce, tmgi, session, cause, reset, list, diagnostics}
+use Rattle.meaning.specs.Value.{Value, Given, given, absent, carried, mme, mce, tmgi, session, cause, wait, name, reset, list, diagnostics}
 use Rattle.meaning.specs.Ranges.{valueKind}
 use Rattle.layout.specs.Rows.{unless0}
-use Rattle.layout.specs.Record.{Lists, slotOf, slotOctets, headOctets, headIn, slotSays, slotsSay}
-use Rattle.layout.specs.Held.{Fits, RowsFit}
+use Rattle.layout.specs.Record.{placeOctets, placeIn, Lists, slotOf, slotOctets, headOctets, headIn, slotSays, slotsSay}
+use Rattle.layout.specs.Held.{PlaceFits, Fits, RowsFit}
 use Rattle.layout.proofs.Sizes.{slot-size}
 
 pub two-back : (v : ℕ) (t : List ℕ) → v < 65536 → valueAt 2 (numberOctets 2 v ++ t) 0 ≡ v
@@ -39,6 +39,8 @@ Agrees l (mce v) = Unit
 Agrees l (tmgi v) = Unit
 Agrees l (session v) = Unit
 Agrees l (cause v) = Unit
+Agrees l (wait v) = Unit
+Agrees l (name v) = Unit
 Agrees l (reset whole) = Unit
 Agrees l (reset (part is)) = l .items ≡ is
 Agrees l (list is) = l .items ≡ is
@@ -67,18 +69,24 @@ head-back number.Absent number.Absent (number.Is k) false rest = refl
 head-back number.Absent number.Absent number.Absent true rest = refl
 head-back number.Absent number.Absent number.Absent false rest = refl
 
-pub slot-back : (l : Lists) (v : Value Span) (rest : List ℕ) → Fits v → Agrees l v → slotSays l (valueKind v) (slotOf v ++ rest) ≡ v
-unfolding slotOf slotSays numberOctets
-slot-back l (carried v) rest h a =
+place-back : (v : Span) (rest : List ℕ) → PlaceFits v → placeIn (1 ∷ placeOctets v ++ rest) ≡ v
+unfolding numberOctets
+place-back v rest h =
     let from : valueAt 2 (numberOctets 2 (v .from) ++ []) 0 ≡ v .from = two-back (v .from) [] (h .0) in
     let size : valueAt 2 (numberOctets 2 (v .to - v .from) ++ []) 0 ≡ v .to - v .from = two-back (v .to - v .from) [] (h .2) in
     let to : valueAt 2 (numberOctets 2 (v .from) ++ []) 0 + valueAt 2 (numberOctets 2 (v .to - v .from) ++ []) 0 ≡ v .to = rw (from, size) (omega (arith, h .1)) in
-    λ i. carried (record { from = from i; to = to i })
+    λ i. record { from = from i; to = to i }
+
+pub slot-back : (l : Lists) (v : Value Span) (rest : List ℕ) → Fits v → Agrees l v → slotSays l (valueKind v) (slotOf v ++ rest) ≡ v
+unfolding slotOf slotSays numberOctets
+slot-back l (carried v) rest h a = ap (λ (x : Span). carried x) (place-back v rest h)
+slot-back l (name v) rest h a = ap (λ (x : Span). name x) (place-back v rest h)
 slot-back l (mme v) rest h a = λ i. mme (record { 0 = two-back (v .0) [] h i })
 slot-back l (mce v) rest h a = λ i. mce (record { 0 = two-back (v .0) [] h i })
 slot-back l (tmgi v) rest h a = refl
 slot-back l (session v) rest h a = refl
 slot-back l (cause v) rest h a = refl
+slot-back l (wait v) rest h a = refl
 slot-back l (reset whole) rest h a = refl
 slot-back l (reset (part is)) rest h a = ap (λ x. reset (part x)) a
 slot-back l (list is) rest h a = ap (λ x. list x) a
@@ -95,6 +103,8 @@ first-one l (mce v) rest x = refl
 first-one l (tmgi v) rest x = refl
 first-one l (session v) rest x = refl
 first-one l (cause v) rest x = refl
+first-one l (wait v) rest x = refl
+first-one l (name v) rest x = refl
 first-one l (reset whole) rest x = refl
 first-one l (reset (part is)) rest x = refl
 first-one l (list is) rest x = refl

@@ -16,7 +16,7 @@ use Rattle.editions.specs.declared.Edition.{Edition}
 use Rattle.editions.specs.declared.Named.the-variants as named
 use Rattle.editions.specs.Editions.{tableOf, numberOf, numberedBy}
 use Rattle.editions.specs.Lawful.{lawful}
-use Rattle.meaning.specs.Value.{Value, Given, given, absent, carried, mme, mce, tmgi, session, cause, reset, list, diagnostics, Record}
+use Rattle.meaning.specs.Value.{Value, Given, given, absent, carried, mme, mce, tmgi, session, cause, wait, name, reset, list, diagnostics, Record}
 use Rattle.meaning.specs.Ranges.{valueKind}
 
 pub record ItemsFit (is : List Item) : Type 0 where
@@ -32,13 +32,18 @@ pub record DiagnosticsFit (d : Diagnostics) : Type 0 where
   pub entries : EntriesFit (d .entries)
   pub none : d .head .listed ≡ false → d .entries ≡ []
 
+abbrev pub PlaceFits : Span → Type 0
+PlaceFits v = (v .from < 65536) × (v .from ≤ v .to) × (v .to - v .from < 65536)
+
 abbrev pub Fits : Value Span → Type 0
-Fits (carried v) = (v .from < 65536) × (v .from ≤ v .to) × (v .to - v .from < 65536)
+Fits (carried v) = PlaceFits v
+Fits (name v) = PlaceFits v
 Fits (mme v) = v .0 < 65536
 Fits (mce v) = v .0 < 65536
 Fits (tmgi v) = Unit
 Fits (session v) = Unit
 Fits (cause v) = Unit
+Fits (wait v) = Unit
 Fits (reset whole) = Unit
 Fits (reset (part is)) = ItemsFit is
 Fits (list is) = ItemsFit is

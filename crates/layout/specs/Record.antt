@@ -5,12 +5,13 @@ use mathlib.Core.Bool.{Bool, true, false, not}
 use mathlib.Core.List.{List, [], _∷_, _++_}
 use lib.Dec.{ltb, leb, eqb}
 use lib.ListN.{length, getD, drop}
-use Rattle.lists.specs.Lists.{pick, fill}
+use Rattle.lists.specs.Lists.{pick, fill, some}
 use Rattle.octets.specs.Field.{valueAt}
 use Rattle.octets.specs.Write.{numberOctets}
 use Rattle.octets.specs.Many.{eachOctets}
 use Rattle.octets.specs.declared.Span.{Span}
 use Rattle.identity.specs.declared.Item.{Item}
+use Rattle.names.specs.Names.{nameAllowed}
 use Rattle.items.specs.Items.{whole, part}
 use Rattle.entries.specs.declared.Entry.{Entry}
 use Rattle.diagnostics.specs.declared.Number.{Number}
@@ -26,7 +27,7 @@ use Rattle.editions.specs.declared.Named.{Named}
 use Rattle.editions.specs.declared.Named.the-variants as named
 use Rattle.editions.specs.declared.Edition.{Edition}
 use Rattle.editions.specs.Editions.{tableOf, numberOf, numberedBy}
-use Rattle.meaning.specs.Value.{Value, Given, given, absent, carried, mme, mce, tmgi, session, cause, reset, list, diagnostics, Record, saidBy}
+use Rattle.meaning.specs.Value.{Value, Given, given, absent, carried, mme, mce, tmgi, session, cause, wait, name, reset, list, diagnostics, Record, saidBy}
 use Rattle.meaning.specs.Written.{Encoded, none, encoded}
 
 -- ---- the lists that values announce; no table has two rows that announce items, or two that announce entries
@@ -45,6 +46,8 @@ announced (mce v) l = l
 announced (tmgi v) l = l
 announced (session v) l = l
 announced (cause v) l = l
+announced (wait v) l = l
+announced (name v) l = l
 announced (reset whole) l = l
 announced (reset (part is)) l = record { items = is; entries = l .entries }
 announced (list is) l = record { items = is; entries = l .entries }
@@ -70,14 +73,19 @@ maybeOctets number.Absent = 0 ∷ 0 ∷ []
 abbrev pub headOctets : Head → List ℕ
 headOctets h = maybeOctets (h .code) ++ maybeOctets (h .trigger) ++ maybeOctets (h .crit) ++ (yes (h .listed) ∷ [])
 
--- a carried value: its place, and how many octets it has
+-- a carried value, and a name: its place, and how many octets it has
+abbrev pub placeOctets : Span → List ℕ
+placeOctets v = numberOctets 2 (v .from) ++ numberOctets 2 (v .to - v .from)
+
 unfoldable pub slotOf : Value Span → List ℕ
-slotOf (carried v) = 1 ∷ (numberOctets 2 (v .from) ++ numberOctets 2 (v .to - v .from))
+slotOf (carried v) = 1 ∷ placeOctets v
+slotOf (name v) = 1 ∷ placeOctets v
 slotOf (mme v) = 1 ∷ numberOctets 2 (v .0)
 slotOf (mce v) = 1 ∷ numberOctets 2 (v .0)
 slotOf (tmgi v) = 1 ∷ v .plmn .0 ∷ v .plmn .1 ∷ v .plmn .2 ∷ v .service .0 ∷ v .service .1 ∷ v .service .2 ∷ []
 slotOf (session v) = 1 ∷ v ∷ []
 slotOf (cause v) = 1 ∷ v .group ∷ v .value ∷ []
+slotOf (wait v) = 1 ∷ v ∷ []
 slotOf (reset whole) = 1 ∷ []
 slotOf (reset (part is)) = 2 ∷ []
 slotOf (list is) = 1 ∷ []
@@ -101,8 +109,12 @@ numberIn p = unless0 p number.Absent (number.Is (getD p 1 0))
 abbrev pub headIn : List ℕ → Head
 headIn p = record { code = numberIn (drop 1 p); trigger = numberIn (drop 3 p); crit = numberIn (drop 5 p); listed = not (eqb (getD p 7 0) 0) }
 
+abbrev pub placeIn : List ℕ → Span
+placeIn p = record { from = valueAt 2 p 1; to = valueAt 2 p 1 + valueAt 2 p 3 }
+
 unfoldable pub slotSays : Lists → Kind → List ℕ → Value Span
-slotSays l kind.Carried p = carried (record { from = valueAt 2 p 1; to = valueAt 2 p 1 + valueAt 2 p 3 })
+slotSays l kind.Carried p = carried (placeIn p)
+slotSays l kind.Name p = name (placeIn p)
 slotSays l kind.Mme p = mme (record { 0 = valueAt 2 p 1 })
 slotSays l kind.Mce p = mce (record { 0 = valueAt 2 p 1 })
 slotSays l kind.Tmgi p = tmgi (record {
@@ -111,6 +123,7 @@ slotSays l kind.Tmgi p = tmgi (record {
 })
 slotSays l kind.Session p = session (getD p 1 0)
 slotSays l kind.Cause p = cause (record { group = getD p 1 0; value = getD p 2 0 })
+slotSays l kind.Wait p = wait (getD p 1 0)
 slotSays l kind.ResetType p = reset (pick (eqb (getD p 0 0) 2) (part (l .items)) whole)
 slotSays l kind.Acknowledged p = list (l .items)
 slotSays l kind.Diagnostics p = diagnostics (record { head = headIn p; entries = pick (headIn p .listed) (l .entries) [] })
@@ -155,3 +168,27 @@ writtenBy e values noRecord = none
 
 unfoldable pub written : Edition → List ℕ → List ℕ → Encoded
 written e s values = writtenBy e values (readRecord e s)
+
+-- ---- names
+
+abbrev pub badName : Given (List ℕ) → Bool
+badName (given (name os)) = not (nameAllowed os)
+badName (given (carried os)) = false
+badName (given (mme v)) = false
+badName (given (mce v)) = false
+badName (given (tmgi v)) = false
+badName (given (session v)) = false
+badName (given (cause v)) = false
+badName (given (wait v)) = false
+badName (given (reset v)) = false
+badName (given (list v)) = false
+badName (given (diagnostics v)) = false
+badName absent = false
+
+abbrev pub nameRefusedBy : List ℕ → LentRecord → Bool
+nameRefusedBy values (isRecord r) = some badName (saidBy values r .values)
+nameRefusedBy values noRecord = false
+
+-- octets that are a record one of whose values is a name that is not allowed; a place outside values holds no octets
+unfoldable pub nameRefused : Edition → List ℕ → List ℕ → Bool
+nameRefused e s values = nameRefusedBy values (readRecord e s)

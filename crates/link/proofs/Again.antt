@@ -16,7 +16,7 @@ use Rattle.editions.specs.declared.Edition.the-variants.{Release18}
 use Rattle.meaning.specs.Value.{Record, saidBy}
 use Rattle.meaning.specs.Written.{Encoded, octets, none, encoded}
 use Rattle.verdicts.specs.Verdict.{Understood, understood, every, readOf}
-use Rattle.layout.specs.Record.{recordOctets, recordOut, LentRecord, isRecord, readRecord, written}
+use Rattle.layout.specs.Record.{recordOctets, recordOut, LentRecord, isRecord, readRecord, written, nameRefused}
 use Rattle.layout.proofs.RecordBack.{held-size, record-back}
 use Rattle.plan.specs.declared.Written.the-variants as plan
 use Rattle.plan.specs.Written.{Writing, kept, front, writtenIn}
@@ -26,7 +26,8 @@ use Rattle.round_trips.proofs.Again.{rewritten}
 use Rattle.round_trips.proofs.Back.{read-back}
 use Rattle.round_trips.proofs.LentDiffer.{Lent, lent-record, in-types, said-shown, lent-differ}
 use Rattle.demands.proofs.Sound.{read-sound}
-use Rattle.link.specs.Link.{Given, given, recorded, readFor, writtenAs, writeFor}
+use Rattle.link.specs.Link.{Given, given, recorded, readFor, writtenAs, allowedFor, writeFor}
+use Rattle.link.proofs.Named.{written-named}
 use Rattle.link.specs.Again.{recordAt, GivesBack, Again}
 use Rattle.reader.proofs.Record.{read-held}
 
@@ -66,8 +67,10 @@ unfolding writtenIn
 fits-front os d h = rw (le-leb (length os) (length d) h)
 
 again : (s d e : List ℕ) → Octets s → Rewritable Release18 s → 2662 ≤ length d → length s ≤ length e → writeFor (recordAt s d) s e ≡ given 0 0 (length s) (s ++ drop (length s) e)
-unfolding writeFor
-again s d e o g h k = ap (λ (x : Encoded). writtenAs (writtenIn e x)) (written-again s d o g h) ∙ fits-front s e k
+unfolding writeFor allowedFor
+again s d e o g h k =
+    let w = written-again s d o g h in
+    rw (written-named Release18 (recordAt s d) s s w) (ap (λ (x : Encoded). writtenAs (writtenIn e x)) w ∙ fits-front s e k)
 
 -- ---- a message that stands in front of the room is what was written
 
@@ -85,8 +88,12 @@ was-written d message (octets os) q = by (leb (length os) (length d)) q
     by false q = absurd (omega (arith, ap (λ (g : Given). g .answer .answer) q))
 
 wrote : (s values d message : List ℕ) → writeFor s values d ≡ given 0 0 (length message) (message ++ drop (length message) d) → written Release18 s values ≡ octets message
-unfolding writeFor
-wrote s values d message q = was-written d message (written Release18 s values) q
+unfolding writeFor allowedFor
+wrote s values d message q = by (nameRefused Release18 s values) q
+  where
+    by : (b : Bool) → pick b (given 12 0 0 d) (writtenAs (writtenIn d (written Release18 s values))) ≡ given 0 0 (length message) (message ++ drop (length message) d) → written Release18 s values ≡ octets message
+    by true q = absurd (omega (arith, ap (λ (g : Given). g .answer .answer) q))
+    by false q = was-written d message (written Release18 s values) q
 
 -- ---- what was written is read back
 

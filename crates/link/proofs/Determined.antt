@@ -8,6 +8,10 @@ use Rattle.link.proofs.m3ap_read.Kinds as m3ap-read'
 use Rattle.link.proofs.m3ap_read.Reads as m3ap-read
 use Rattle.link.proofs.m3ap_write.Kinds as m3ap-write'
 use Rattle.link.proofs.m3ap_write.Reads as m3ap-write
+use Rattle.link.proofs.m3ap_setup.Kinds as m3ap-setup'
+use Rattle.link.proofs.m3ap_setup.Reads as m3ap-setup
+use Rattle.link.proofs.m3ap_shown.Kinds as m3ap-shown'
+use Rattle.link.proofs.m3ap_shown.Reads as m3ap-shown
 
 pub m3ap-call-is : Determined m3ap-call'.ps m3ap-call'.r m3ap-call.Asked m3ap-call.Learnt
 m3ap-call-is κs a p x y e f =
@@ -19,3 +23,9 @@ m3ap-read-is κs a p x y e f = (e .answer same f .answer) & refl & (e .room same
 
 pub m3ap-write-is : Determined m3ap-write'.ps m3ap-write'.r m3ap-write.Asked m3ap-write.Learnt
 m3ap-write-is κs a p x y e f = (e .answer same f .answer) & refl & refl & (e .room same f .room) & refl
+
+pub m3ap-setup-is : Determined m3ap-setup'.ps m3ap-setup'.r m3ap-setup.Asked m3ap-setup.Learnt
+m3ap-setup-is κs a p x y e f = (e .answer same f .answer) & (e .unit same f .unit) & refl & refl & (e .room same f .room) & refl
+
+pub m3ap-shown-is : Determined m3ap-shown'.ps m3ap-shown'.r m3ap-shown.Asked m3ap-shown.Learnt
+m3ap-shown-is κs a p x y e f = (e same f) & refl

@@ -42,6 +42,7 @@ module _ (t m : List ℕ) (o : ℕ) (d : List ℕ) where
         silent = λ h. let s = a .silent (rw (e .answer) at h) in (e .octets ∙ ap length (s .0), e .room ∙ s .1);
         nowhere = λ h k. let p = e .place in let z = a .place (λ z. h (e .answer ∙ z)) (λ z. k (e .answer ∙ z)) in omega arith;
         place = let p = e .place in let i = place-inside Release18 t c in omega arith;
+        wait = λ h. e .wait ∙ a .wait (λ z. h (e .answer ∙ z));
         unit = λ x y z u q. let s = demand-1 Release18 .unit t c u (whole x y z) q in rw (e .unit) (record { unit = s .unit; read = s .read; count = s .count });
         reply = λ x y z h. rw front (demand-1 Release18 .reply t c (whole x y z) (λ k. h (e .octets ∙ ap length k)));
       }

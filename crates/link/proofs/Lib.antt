@@ -1,7 +1,9 @@
 pub mod Near
 pub mod Sizes
 pub mod Reading
+pub mod Named
 pub mod Again
 pub mod ReadsAs
+pub mod SetsUpAs
 pub mod Determined
 pub mod Exported

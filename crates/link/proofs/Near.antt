@@ -7,7 +7,7 @@ use mathlib.Core.List.{List}
 use native.Mathlib.Omega.{arith}
 use borrow.Author.Tests.{eqb-true, eqb-false}
 use lib.Dec.{ltb, eqb}
-use lib.ListN.{length, take, length-take}
+use lib.ListN.{length, take, getD, length-take}
 use Rattle.lists.proofs.Tests.{on-pick}
 use Rattle.octets.specs.Read.{Read, got, stop, cutShort, noMeaning, leftOver, extended, _>>=_, _>>_}
 use Rattle.octets.specs.declared.Stop.the-variants.{Fault, Extension}
@@ -15,7 +15,9 @@ use Rattle.octets.specs.Field.{bitsAt, there, flagAt, plainAt, choiceAt, padAt,
 use Rattle.octets.specs.Many.{Part, many}
 use Rattle.octets.proofs.Chain.{then-got, same-got}
 use Rattle.octets.proofs.Got.{plain-got, choice-got, pad-got, number-got, string-got, wanted-got, open-in}
-use Rattle.values.specs.Values.{wholeAt, mmeAt, mceAt, sessionAt, tmgiAt, rootOf, bitsOfRoot, causeAt}
+use Rattle.values.specs.Values.{wholeAt, mmeAt, mceAt, sessionAt, tmgiAt, rootOf, bitsOfRoot, causeAt, waitAt}
+use Rattle.names.specs.Names.{printable, acrossAt, sizeAt, charAt, charsAt, nameAt}
+use Rattle.names.proofs.Size.{size-got}
 use Rattle.identity.specs.declared.Mme.the-variants as mme
 use Rattle.identity.specs.declared.Mce.the-variants as mce
 use Rattle.identity.specs.declared.Item.{Item}
@@ -102,6 +104,10 @@ module _ (n : ℕ) (s : List ℕ) (at : ℕ) (i : at ≤ n) where
       near-then n (lengthAt s at) _ length-near
       (λ c q. on-pick (Near n) (eqb (c .count) 0) i (on-pick (Near n) (ltb (length s) (c .next + c .count)) i tt))
 
+  char-near : Near n (charAt s at)
+  unfolding charAt noMeaning
+  char-near = there-near 1 _ (on-pick (Near n) (printable (getD s at 0)) tt i)
+
   ends-near : Near n (endsAt s at)
   unfolding endsAt leftOver
   ends-near = on-pick (Near n) (ltb at (length s)) i tt
@@ -162,6 +168,31 @@ module _ (n : ℕ) (s : List ℕ) (l : length s ≤ n) (at : ℕ) (i : at ≤ n)
       near-then n (choiceAt (rootOf g) (bitsOfRoot g) s at 5) _ (choice-near n s at i (rootOf g) (bitsOfRoot g) 5) (λ d v.
       near-then n (padAt s at (5 + bitsOfRoot g)) _ (pad-near n s at i (5 + bitsOfRoot g)) (λ e w.
       near-then n (endsAt s (at + 1)) _ (ends-near n s (at + 1) (omega arith)) (λ f x. tt))))))
+
+  wait-near : Near n (waitAt s at)
+  unfolding waitAt
+  wait-near =
+      near-then n (plainAt s at 0) _ (plain-near n s at i 0) (λ a q. let h = plain-got s at 0 q .0 in
+      near-then n (choiceAt 6 3 s at 1) _ (choice-near n s at i 6 3 1) (λ v r.
+      near-then n (padAt s at 4) _ (pad-near n s at i 4) (λ b u.
+      near-then n (endsAt s (at + 1)) _ (ends-near n s (at + 1) (omega arith)) (λ c w. tt))))
+
+  size-near : Near n (sizeAt s at)
+  unfolding sizeAt noMeaning
+  size-near = there-near n s at i 2 _ (on-pick (Near n) (ltb (acrossAt s at) 150) (on-pick (Near n) (ltb (length s) (at + 2 + (acrossAt s at + 1))) i tt) i)
+
+  chars-near : (k from : ℕ) → from + k ≤ n → Near n (charsAt k s from)
+  chars-near zero from j = tt
+  chars-near (suc k) from j = near-then n (charAt s from) _ (char-near n s from (omega arith)) (λ a q. chars-near k (from + 1) (omega arith))
+
+  name-near : Near n (nameAt s at)
+  unfolding nameAt
+  name-near =
+      near-then n (plainAt s at 0) _ (plain-near n s at i 0) (λ a q.
+      near-then n (sizeAt s at) _ size-near (λ m r. let h = size-got s at r .2 in
+      near-then n (padAt s (at + 1) 1) _ (pad-near n s (at + 1) (omega arith) 1) (λ b u.
+      near-then n (charsAt m s (at + 2)) _ (chars-near m (at + 2) (omega arith)) (λ c v.
+      near-then n (endsAt s (at + 2 + m)) _ (ends-near n s (at + 2 + m) (omega arith)) (λ d w. tt)))))
 
 -- ---- items
 
@@ -378,6 +409,8 @@ module _ (n : ℕ) (s : List ℕ) (l : length s ≤ n) where
   value-near kind.Tmgi at i = near-then n (tmgiAt s at) _ (tmgi-near n s l at i) (λ v q. tt)
   value-near kind.Session at i = near-then n (sessionAt s at) _ (session-near n s l at i) (λ v q. tt)
   value-near kind.Cause at i = near-then n (causeAt s at) _ (cause-near n s l at i) (λ v q. tt)
+  value-near kind.Wait at i = near-then n (waitAt s at) _ (wait-near n s l at i) (λ v q. tt)
+  value-near kind.Name at i = near-then n (nameAt s at) _ (name-near n s l at i) (λ v q. tt)
   value-near kind.ResetType at i = near-then n (items.resetAt s at) _ (reset-near n s l at i) (λ v q. tt)
   value-near kind.Acknowledged at i = near-then n (items.itemsAt s at) _ (items-near n s l at i) (λ v q. tt)
   value-near kind.Diagnostics at i = near-then n (diagnostics.diagnosticsAt s at) _ (diagnostics-near n s l at i) (λ v q. tt)

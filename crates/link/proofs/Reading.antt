@@ -23,7 +23,7 @@ use Rattle.reader.specs.declared.Reading.{Reading}
 use Rattle.reader.specs.declared.Reading.the-variants as reading
 use Rattle.reader.specs.Reader.{answerTo, leftIn, Answers}
 use Rattle.link.specs.declared.Answer.{Answer}
-use Rattle.link.specs.Link.{refusalNumber, refusalPlace, outcomeNumber, recorded, readAs, readFor, writtenAs, writeFor, Put}
+use Rattle.link.specs.Link.{refusalNumber, refusalPlace, outcomeNumber, recorded, readAs, readFor, writtenAs, allowedFor, Put}
 use Rattle.link.proofs.Sizes.{PlacedBy, read-placed, encoded-small}
 
 -- ---- reading
@@ -82,8 +82,8 @@ module _ (s values d : List ℕ) {x : Written} {m : List ℕ} (h : Writes (writt
       omega arith
 
   -- as x says
-  pub put-written : {y : Written} → x ≡ y → {a : Answer} → a ≡ record { answer = answerOf y; place = 0; octets = putOf y; bit = 0; wait = 0 } → Put (writeFor s values d) a m
-  unfolding writeFor
+  pub put-written : {y : Written} → x ≡ y → {a : Answer} → a ≡ record { answer = answerOf y; place = 0; octets = putOf y; bit = 0; wait = 0 } → Put (allowedFor s values d) a m
+  unfolding allowedFor
   put-written {y} e {a} q =
       let z : y ≡ writtenIn d (written Release18 s values) .answer = sym e ∙ h .answer in
       record { answer = q ∙ ap (λ (w : Written). record { answer = answerOf w; place = 0; octets = putOf w; bit = 0; wait = 0 }) z; room = h .room }

@@ -1,8 +1,8 @@
 -- The numbers of a call, and of a reading, are small: a place is at most the number of the message's octets, and at most 8,192; so is the number of a reply's octets.
 -- Assumes nothing.
 use Prim.Native.Nat.{ℕ, _^_, _<_, _≤_}
-use mathlib.Core.Path.{_≡_, refl}
-use mathlib.Core.Bool.{Bool, true, false}
+use mathlib.Core.Path.{_≡_, refl, ap, _∙_}
+use mathlib.Core.Bool.{Bool, true, false, not, _&&_}
 use mathlib.Core.List.{List, []}
 use native.Mathlib.Omega.{arith}
 use borrow.Author.Tests.{leb-true, ltb-false}
@@ -45,9 +45,10 @@ use Rattle.carry.specs.declared.Ruling.{Ruling}
 use Rattle.carry.specs.declared.Ruling.the-variants.{Granted, Refused}
 use Rattle.carry.specs.Carry.{started, stopped, carriedOut, asked, ruling, refusal}
 use Rattle.answers.specs.Answers.{numbered}
-use Rattle.calls.specs.Decided.{Decided, keeps, changes, applied, decided}
-use Rattle.calls.specs.Judged.{ruled, judgedBy, verdict, judged}
-use Rattle.calls.specs.Call.{Call, answerOf, settledIf, fits, settled, onUnit, call}
+use Rattle.calls.specs.Decided.{Decided, keeps, changes, fails, applied, decided}
+use Rattle.calls.specs.Judged.{ruled, judgedBy, verdict, setupAnswer}
+use Rattle.carry.specs.declared.Answer.{Answer}
+use Rattle.calls.specs.Call.{Call, answerOf, settledIf, fits, settled, decidedOn, onUnit, call}
 use Rattle.unit.specs.Unit.{Called}
 use Rattle.unit.specs.declared.Back as unit
 use Rattle.link.specs.Link.{Handed, refusalPlace}
@@ -117,6 +118,8 @@ module _ (n : ℕ) where
       carried-placed request.Whole = nowhere
       carried-placed request.Part = nowhere
       carried-placed request.Indication = nowhere
+      carried-placed request.SetupResponse = nowhere
+      carried-placed (request.SetupFailure w) = nowhere
 
   ruled-placed : (e : Edition) (u : units.Unit) (c : MceId) (w : Understood) (r : Ruling) → Placed (decided e u c (ruled e w r))
   unfolding decided
@@ -133,6 +136,11 @@ module _ (n : ℕ) where
   unfolding decided judgedBy
   decided-placed e u c (refused x) h = refusal-placed x h
   decided-placed e u c (understood w) h = ruled-placed e u c w (ruling (askOf (w .what .message)) (seen (w .what .values)) (w .outcome))
+
+  decided-on-placed : (e : Edition) (u : units.Unit) (c : Call) → (length (c .message) ≤ 8192 → length (c .message) ≤ n) → Placed (decidedOn e u c)
+  unfolding decidedOn
+  decided-on-placed e u c h =
+      on-pick Placed (setupAnswer e (c .message) && not (u .isOpen)) nowhere (decided-placed e u (c .offered) (verdict e (c .message)) (read-placed e asks n (c .message) h))
 
 -- ---- octets that are written
 
@@ -160,6 +168,7 @@ module _ (e : Edition) where
   settled-size : (t d : List ℕ) (b : Bool) (x : Decided) → length (settledIf e b t d x .reply) ≤ 8192
   settled-size t d true (keeps a r) = reply-size e r
   settled-size t d true (changes u r) = reply-size e r
+  settled-size t d true (fails u w r) = reply-size e r
   settled-size t d false x = omega arith
 
   module _ (t : List ℕ) (c : Call) where
@@ -169,8 +178,8 @@ module _ (e : Edition) where
       where
         by : (x : MaybeUnit) → numbered (onUnit e t c x .answer) .place ≤ n
         by (isUnit u) =
-            let x : Decided = decided e u (c .offered) (judged e (c .message)) in
-            settled-placed n t (c .room) (fits e (c .room) x) x (decided-placed n e u (c .offered) (verdict e (c .message)) (read-placed e asks n (c .message) h))
+            let x : Decided = decidedOn e u c in
+            settled-placed n t (c .room) (fits e (c .room) x) x (decided-on-placed n e u c h)
         by noUnit = nowhere n
 
     pub place-inside : numbered (call e t c .answer) .place ≤ length (c .message)
@@ -184,7 +193,7 @@ module _ (e : Edition) where
     reply-small = by (readUnit t)
       where
         by : (x : MaybeUnit) → length (onUnit e t c x .reply) ≤ 8192
-        by (isUnit u) = let x : Decided = decided e u (c .offered) (judged e (c .message)) in settled-size t (c .room) (fits e (c .room) x) x
+        by (isUnit u) = let x : Decided = decidedOn e u c in settled-size t (c .room) (fits e (c .room) x) x
         by noUnit = omega arith
 
 -- what the call handed back, as numbers
@@ -195,6 +204,14 @@ module _ (e : Edition) (t : List ℕ) (c : Call) {r : unit.Back} {t′ d′ : Li
   pub octets-fit : r .octets < 2 ^ 32
   octets-fit = let s = reply-small e t c in rw (h .octets) (omega arith)
 
-  pub handed : (k p : ℕ) → k ≡ numbered (r .answer) .number → p ≡ numbered (r .answer) .place
-      → Handed (call e t c) (record { answer = k; place = p; octets = r .octets; bit = 0; wait = 0 }) t′ d′
-  handed k p q f = record { answer = rw (q, h .answer); place = rw (f, h .answer) (omega arith); octets = h .octets; bit = refl; wait = refl; unit = h .unit; room = h .room }
+  pub handed : (k p w : ℕ) → k ≡ numbered (r .answer) .number → p ≡ numbered (r .answer) .place → w ≡ numbered (r .answer) .wait
+      → Handed (call e t c) (record { answer = k; place = p; octets = r .octets; bit = 0; wait = w }) t′ d′
+  handed k p w q f g = record {
+    answer = rw (q, h .answer);
+    place = rw (f, h .answer) (omega arith);
+    octets = h .octets;
+    bit = refl;
+    wait = g ∙ ap (λ (a : Answer). numbered a .wait) (h .answer);
+    unit = h .unit;
+    room = h .room;
+  }

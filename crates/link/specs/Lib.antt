@@ -2,3 +2,4 @@ pub mod Link
 pub mod Promised
 pub mod ReadsAs
 pub mod Again
+pub mod SetsUpAs

@@ -1,5 +1,5 @@
--- The call, the reader and the writer as a link process in C has them, in the edition of Release 18.
-use Prim.Native.Nat.{ℕ}
+-- The call, the reader, the writer, the setup and the shown name as a link process in C has them, in the edition of Release 18.
+use Prim.Native.Nat.{ℕ, _-_}
 use mathlib.Core.Path.{_≡_}
 use mathlib.Core.List.{List}
 use lib.Dec.{leb}
@@ -13,20 +13,23 @@ use Rattle.verdicts.specs.declared.Outcome.{Outcome}
 use Rattle.verdicts.specs.declared.Outcome.the-variants.{Accepted, Misplaced, Rejected}
 use Rattle.verdicts.specs.Verdict.{Verdict, refused, understood, every, readOf}
 use Rattle.meaning.specs.Value.{Record}
-use Rattle.layout.specs.Record.{recordOut, written}
+use Rattle.layout.specs.Record.{recordOut, written, nameRefused}
 use Rattle.plan.specs.Written as plan
 use Rattle.plan.specs.Written.{Writing, writtenIn}
 use Rattle.answers.specs.Answers.{numbered}
 use Rattle.calls.specs.Call.{Back}
+use Rattle.setup.specs.Setup.{setupNumber, SetupDone}
+use Rattle.shown.specs.declared.Part.{Part}
 use Rattle.link.specs.declared.Answer.{Answer}
+use Rattle.link.specs.declared.Part as own
 
--- what a call comes back with, in numbers: 01's number and place of the answer, the reply's length, and what is left in the unit and the room
+-- what a call comes back with, in numbers: the number and place of the answer, the reply's length, how long to wait, and what is left in the unit and the room
 pub record Handed (b : Back) (r : Answer) (t d : List ℕ) : Type 0 where
   pub answer : r .answer ≡ numbered (b .answer) .number
   pub place : r .place ≡ numbered (b .answer) .place
   pub octets : r .octets ≡ length (b .reply)
   pub bit : r .bit ≡ 0
-  pub wait : r .wait ≡ 0
+  pub wait : r .wait ≡ numbered (b .answer) .wait
   pub unit : t ≡ b .unit
   pub room : d ≡ b .room
 
@@ -74,8 +77,22 @@ readFor s d = readAs d (readOf Release18 every s)
 abbrev pub writtenAs : Writing → Given
 writtenAs w = given (plan.answerOf (w .answer)) 0 (plan.putOf (w .answer)) (w .room)
 
+unfoldable pub allowedFor : List ℕ → List ℕ → List ℕ → Given
+allowedFor s values d = writtenAs (writtenIn d (written Release18 s values))
+
+-- 12 comes before 11 and 10
 unfoldable pub writeFor : List ℕ → List ℕ → List ℕ → Given
-writeFor s values d = writtenAs (writtenIn d (written Release18 s values))
+writeFor s values d = pick (nameRefused Release18 s values) (given 12 0 0 d) (allowedFor s values d)
+
+-- what a setup comes back with, in numbers
+pub record SetupHanded (b : SetupDone) (r : Answer) (t d : List ℕ) : Type 0 where
+  pub answer : r ≡ given (setupNumber (b .answer)) 0 (length (b .request)) d .answer
+  pub unit : t ≡ b .unit
+  pub room : d ≡ b .room
+
+-- a part of the request, or of the label, in numbers
+abbrev pub partFor : Part → own.Part
+partFor p = record { «of_label» = pick (p .«of_label») 1 0; from = p .span .from; octets = p .span .to - p .span .from }
 
 -- this answer, and this room at exit
 pub record Put (g : Given) (r : Answer) (d : List ℕ) : Type 0 where

@@ -40,6 +40,8 @@ module _ (t m : List ℕ) (o : ℕ) (d : List ℕ) where
     -- places stand beside 2 and 3 only, and never behind the message
     pub nowhere : (r .answer ≡ 2 → ⊥) → (r .answer ≡ 3 → ⊥) → r .place ≡ 0
     pub place : r .place ≤ length m
+    -- and a time to wait beside 0 only
+    pub wait : (r .answer ≡ 0 → ⊥) → r .wait ≡ 0
     -- a unit in is a unit out; and a reply reads back. Both where each number is an octet's, as in C it is
     pub unit : Octets t → Octets m → o < 65536 → (u : Unit) → readUnit t ≡ isUnit u → IsUnit t′
     pub reply : Octets t → Octets m → o < 65536 → (r .octets ≡ 0 → ⊥) → ReadsBack Release18 (take (r .octets) d′)

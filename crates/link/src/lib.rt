@@ -1,9 +1,13 @@
-// The reader, the writer and the table call for a link process in C, which hands over octets and numbers. include/m3ap.h is the header.
+// The reader, the writer, the table call, the setup call and the shown name for a link process in C, which hands over octets and numbers.
+// include/m3ap.h is the header.
 ghost use mathlib.Core.Path.{_≡_};
 ghost use Prim.Native.Nat.{_≤_};
+ghost use Rattle.lists.specs.Lists.{pick};
 ghost use Rattle.calls.specs.Call.{call};
 ghost use Rattle.editions.specs.declared.Edition.the-variants.{Release18};
-ghost use Rattle.link.specs.Link.{Handed, refusalNumber, refusalPlace, readFor, writeFor, Put};
+ghost use Rattle.link.specs.Link.{Handed, refusalNumber, refusalPlace, readFor, allowedFor, writeFor, SetupHanded, partFor, Put};
+ghost use Rattle.setup.specs.Setup.{setup};
+ghost use Rattle.shown.specs.Shown.{partOf};
 use editions::Edition;
 use identity::MceId;
 use octets::Stop;
@@ -12,7 +16,8 @@ use reader::Reading;
 use verdicts::Outcome;
 use verdicts::Refusal;
 
-// 01's number of the answer; the octet at fault for 2 and 3, else 0; how many octets stand in front of the room. The last two are 0 yet.
+// The number of the answer; the octet at fault for 2 and 3, else 0; how many octets stand in front of the room; 0 yet; the seconds to wait of a setup that
+// failed, else 0.
 #[repr(C)]
 pub struct Answer {
     pub answer: u32,
@@ -20,6 +25,14 @@ pub struct Answer {
     pub octets: u32,
     pub bit: u16,
     pub wait: u16,
+}
+
+// A part of the request, 0, or of the label, 1: where it begins, and how many octets it has.
+#[repr(C)]
+pub struct Part {
+    pub of_label: u32,
+    pub from: u32,
+    pub octets: u32,
 }
 
 // What one message does.
@@ -36,12 +49,13 @@ pub extern "C" fn m3ap_call(
     let a = b.answer;
     let number = answers::number_of(a);
     let place = answers::place_of(a);
+    let wait = answers::wait_of(a);
     Answer {
         answer: number,
         place: place as u32,
         octets: b.octets as u32,
         bit: 0,
-        wait: 0,
+        wait: wait,
     }
 }
 
@@ -103,10 +117,9 @@ pub extern "C" fn m3ap_read(message: &[u8], room: &mut [u8]) -> Answer
     }
 }
 
-// Writes the record that octets are. Its carried values lie in values.
-#[no_mangle]
-pub extern "C" fn m3ap_write(said: &[u8], values: &[u8], room: &mut [u8]) -> Answer
-    ensures { λ r. ⌜ Put (writeFor (now (said .entry)) (now (values .entry)) (now (room .entry))) r (now (room .exit)) ⌝ }
+// What becomes of a record whose name is not refused.
+fn write_allowed(said: &[u8], values: &[u8], room: &mut [u8]) -> Answer
+    ensures { λ r. ⌜ Put (allowedFor (now (said .entry)) (now (values .entry)) (now (room .entry))) r (now (room .exit)) ⌝ }
 {
     match put_message::write(Edition::Release18, said, values, room) {
         Written::Done(n) => Answer {
@@ -118,5 +131,54 @@ pub extern "C" fn m3ap_write(said: &[u8], values: &[u8], room: &mut [u8]) -> Ans
         },
         Written::NoRoom => plain(10, 0),
         Written::NotWritten => plain(11, 0),
+    }
+}
+
+// Writes the record that octets are. Its name and its carried values lie in values.
+#[no_mangle]
+pub extern "C" fn m3ap_write(said: &[u8], values: &[u8], room: &mut [u8]) -> Answer
+    ensures { λ r. ⌜ Put (writeFor (now (said .entry)) (now (values .entry)) (now (room .entry))) r (now (room .exit)) ⌝ }
+{
+    if record_form::name_refused(Edition::Release18, said, values) {
+        return plain(12, 0);
+    }
+    write_allowed(said, values, room)
+}
+
+// Writes the request that the record says, and marks it open.
+#[no_mangle]
+pub extern "C" fn m3ap_setup(unit: &mut [u8], said: &[u8], values: &[u8], room: &mut [u8]) -> Answer
+    ensures { λ r. ⌜ SetupHanded (setup Release18 (now (unit .entry)) (record { said = now (said .entry); values = now (values .entry); room = now (room .entry) })) r (now (unit .exit)) (now (room .exit)) ⌝ }
+{
+    let b = setup::set_up(Edition::Release18, unit, said, values, room);
+    let a = b.answer;
+    let number = setup::number_of(a);
+    Answer {
+        answer: number,
+        place: 0,
+        octets: b.octets as u32,
+        bit: 0,
+        wait: 0,
+    }
+}
+
+fn flag(b: bool) -> u32
+    ensures { λ r. ⌜ r ≡ pick b 1 0 ⌝ }
+{
+    if b { 1 } else { 0 }
+}
+
+// Which part of the request is its name, or else which part of the label is shown.
+#[no_mangle]
+pub extern "C" fn m3ap_shown(request: &[u8], label: &[u8]) -> Part
+    ensures { λ r. ⌜ r ≡ partFor (partOf Release18 (now (request .entry)) (now (label .entry))) ⌝ }
+{
+    let p = shown::part_of(Edition::Release18, request, label);
+    let v = p.span;
+    let of_label = flag(p.of_label);
+    Part {
+        of_label: of_label,
+        from: v.from as u32,
+        octets: (v.to - v.from) as u32,
     }
 }

@@ -14,7 +14,7 @@ use Rattle.diagnostics.specs.Written.{Under}
 use Rattle.rows.specs.declared.Kind.{Kind}
 use Rattle.rows.specs.declared.Kind.the-variants as kind
 use Rattle.rows.specs.declared.Row.{Row}
-use Rattle.meaning.specs.Value.{Value, Given, given, absent, carried, mme, mce, tmgi, session, cause, reset, list, diagnostics}
+use Rattle.meaning.specs.Value.{Value, Given, given, absent, carried, mme, mce, tmgi, session, cause, wait, name, reset, list, diagnostics}
 
 abbrev pub valueKind : {C : Type 0} → Value C → Kind
 valueKind (carried os) = kind.Carried
@@ -23,6 +23,8 @@ valueKind (mce v) = kind.Mce
 valueKind (tmgi v) = kind.Tmgi
 valueKind (session v) = kind.Session
 valueKind (cause v) = kind.Cause
+valueKind (wait v) = kind.Wait
+valueKind (name v) = kind.Name
 valueKind (reset v) = kind.ResetType
 valueKind (list v) = kind.Acknowledged
 valueKind (diagnostics v) = kind.Diagnostics
@@ -46,6 +48,8 @@ InRange (tmgi v) =
     × (v .service .0 < 256) × (v .service .1 < 256) × (v .service .2 < 256)
 InRange (session v) = v < 256
 InRange (cause v) = Unit
+InRange (wait v) = Unit
+InRange (name os) = Octets os
 InRange (reset v) = ResetRange v
 InRange (list v) = Each GoodItem v
 InRange (diagnostics v) = DiagnosticsRange v

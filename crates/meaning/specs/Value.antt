@@ -23,6 +23,9 @@ pub data Value (C : Type 0) : Type 0 where
   tmgi : Tmgi → Value C
   session : ℕ → Value C
   cause : Cause → Value C
+  -- Time to Wait, by its number; a name's characters, which are octets of the message as what is carried is
+  wait : ℕ → Value C
+  name : C → Value C
   reset : ResetType → Value C
   list : List Item → Value C
   diagnostics : Diagnostics → Value C
@@ -54,6 +57,8 @@ onCarried f (mce v) = mce v
 onCarried f (tmgi v) = tmgi v
 onCarried f (session v) = session v
 onCarried f (cause v) = cause v
+onCarried f (wait v) = wait v
+onCarried f (name c) = name (f c)
 onCarried f (reset v) = reset v
 onCarried f (list v) = list v
 onCarried f (diagnostics v) = diagnostics v

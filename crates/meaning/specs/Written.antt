@@ -9,7 +9,9 @@ use Rattle.lists.specs.Lists.{pick, some}
 use Rattle.packed.specs.Packed.{_bits_, bit, packed}
 use Rattle.octets.specs.Write.{numberOctets, lengthOctets}
 use Rattle.values.specs.Values.{rootOf}
-use Rattle.values.specs.Written.{mmeOctets, mceOctets, sessionOctets, tmgiOctets, causeOctets}
+use Rattle.values.specs.Written.{mmeOctets, mceOctets, sessionOctets, tmgiOctets, causeOctets, waitOctets}
+use Rattle.names.specs.Names.{nameAllowed}
+use Rattle.names.specs.Written.{nameOctets}
 use Rattle.items.specs.Items.{ResetType, whole, part}
 use Rattle.items.specs.Written.{ignore, itemsOctets, resetOctets}
 use Rattle.diagnostics.specs.declared.Number.{Number}
@@ -22,7 +24,7 @@ use Rattle.editions.specs.declared.Message.{Message}
 use Rattle.editions.specs.declared.Code.{Code}
 use Rattle.editions.specs.declared.Edition.{Edition}
 use Rattle.editions.specs.Editions.{tableOf, codeOf}
-use Rattle.meaning.specs.Value.{Value, Given, given, absent, carried, mme, mce, tmgi, session, cause, reset, list, diagnostics, Said}
+use Rattle.meaning.specs.Value.{Value, Given, given, absent, carried, mme, mce, tmgi, session, cause, wait, name, reset, list, diagnostics, Said}
 
 -- ---- a value
 
@@ -34,6 +36,8 @@ octetsOf (mce v) = mceOctets v
 octetsOf (tmgi v) = tmgiOctets v
 octetsOf (session v) = sessionOctets v
 octetsOf (cause v) = causeOctets v
+octetsOf (wait v) = waitOctets v
+octetsOf (name os) = nameOctets os
 octetsOf (reset v) = resetOctets v
 octetsOf (list is) = itemsOctets ignore is
 octetsOf (diagnostics d) = diagnosticsOctets d
@@ -60,7 +64,7 @@ entriesGood es = counted (length es) && not (some (λ (e : Entry). not (entryGoo
 abbrev pub diagnosticsGood : Diagnostics → Bool
 diagnosticsGood d = under3 (d .head .trigger) && under3 (d .head .crit) && pick (d .head .listed) (entriesGood (d .entries)) true
 
--- a carried value of 0 octets has none, nor has a number outside its field's root or range, nor a list of 0 or over 256
+-- a carried value of 0 octets has none, nor has a number outside its field's root or range, nor a name that is not allowed, nor a list of 0 or over 256
 unfoldable pub hasOctets : Value (List ℕ) → Bool
 hasOctets (carried os) = ltb 0 (length os)
 hasOctets (mme v) = true
@@ -68,6 +72,8 @@ hasOctets (mce v) = true
 hasOctets (tmgi v) = true
 hasOctets (session v) = true
 hasOctets (cause c) = ltb (c .value) (rootOf (c .group))
+hasOctets (wait v) = ltb v 6
+hasOctets (name os) = nameAllowed os
 hasOctets (reset r) = resetGood r
 hasOctets (list is) = counted (length is)
 hasOctets (diagnostics d) = diagnosticsGood d

@@ -3,6 +3,10 @@
 use mathlib.Core.Path.{refl}
 use Rattle.lists.proofs.Unique.{Determined, _same_, _&_}
 use Rattle.octets.proofs.OneFound.{one-gate, one-flag, one-octet, one-two, one-three, one-length, one-open}
+use Rattle.octets.proofs.cut_short.Kinds as cut-short'
+use Rattle.octets.proofs.cut_short.Reads as cut-short
+use Rattle.octets.proofs.no_meaning.Kinds as no-meaning'
+use Rattle.octets.proofs.no_meaning.Reads as no-meaning
 use Rattle.octets.proofs.flag_at.Kinds as flag-at'
 use Rattle.octets.proofs.flag_at.Reads as flag-at
 use Rattle.octets.proofs.plain_at.Kinds as plain-at'
@@ -37,6 +41,12 @@ use Rattle.octets.proofs.put_three.Kinds as put-three'
 use Rattle.octets.proofs.put_three.Reads as put-three
 use Rattle.octets.proofs.put_zeros.Kinds as put-zeros'
 use Rattle.octets.proofs.put_zeros.Reads as put-zeros
+
+pub cut-short-is : Determined cut-short'.ps cut-short'.r cut-short.Asked cut-short.Learnt
+cut-short-is κs a p x y e f = (e same f) & refl
+
+pub no-meaning-is : Determined no-meaning'.ps no-meaning'.r no-meaning.Asked no-meaning.Learnt
+no-meaning-is κs a p x y e f = (e same f) & refl
 
 pub flag-at-is : Determined flag-at'.ps flag-at'.r flag-at.Asked flag-at.Learnt
 flag-at-is κs a p x y e f = one-flag (e same f) & refl

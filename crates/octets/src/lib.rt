@@ -75,14 +75,14 @@ pub enum Open {
 // The places of faults are decided by these four and nowhere else.
 
 // The octets end inside the field that begins here.
-fn cut_short(at: usize) -> Stop
+pub fn cut_short(at: usize) -> Stop
     ensures { λ r. ⌜ r ≡ cutShort at ⌝ }
 {
     Stop::Fault(Place { octet: at })
 }
 
 // What the field that begins here holds has no meaning.
-fn no_meaning(at: usize) -> Stop
+pub fn no_meaning(at: usize) -> Stop
     ensures { λ r. ⌜ r ≡ noMeaning at ⌝ }
 {
     Stop::Fault(Place { octet: at })

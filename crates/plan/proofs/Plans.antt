@@ -14,7 +14,8 @@ use Rattle.lists.proofs.Fill.{getD-fill}
 use Rattle.packed.specs.Packed.{_bits_, packed}
 use Rattle.octets.specs.Write.{numberOctets, lengthOctets}
 use Rattle.octets.proofs.Back.{length-number}
-use Rattle.values.specs.Written.{tmgiOctets, causeOctets}
+use Rattle.values.specs.Written.{tmgiOctets, causeOctets, waitOctets}
+use Rattle.names.specs.Written.{nameOctets}
 use Rattle.items.specs.Items.{whole, part}
 use Rattle.items.specs.Written.{ignore, itemElementOctets, itemsOctets, resetOctets}
 use Rattle.octets.specs.Many.{eachOctets}
@@ -24,7 +25,7 @@ use Rattle.diagnostics.specs.Written.{marksOf, headOctets, listOctets, diagnost
 use Rattle.diagnostics.proofs.HeadBack.{head-length}
 use Rattle.rows.specs.declared.Row.{Row}
 use Rattle.rows.specs.Table.{noRow}
-use Rattle.meaning.specs.Value.{Value, Given, given, absent, carried, mme, mce, tmgi, session, cause, reset, list, diagnostics}
+use Rattle.meaning.specs.Value.{Value, Given, given, absent, carried, mme, mce, tmgi, session, cause, wait, name, reset, list, diagnostics}
 use Rattle.meaning.specs.Written.{octetsOf, hasOctets, elementOctets, elementsOctets, howMany, elementsGood}
 use Rattle.plan.specs.declared.Plan.{Plan}
 use Rattle.plan.specs.declared.Plan.the-variants.{Is, None}
@@ -46,13 +47,15 @@ head-some h =
     rw (head-length h) (omega arith)
 
 has-some : (v : Value (List ℕ)) → hasOctets v ≡ true → 0 < length (octetsOf v)
-unfolding hasOctets octetsOf tmgiOctets causeOctets resetOctets itemsOctets diagnosticsOctets
+unfolding hasOctets octetsOf tmgiOctets causeOctets waitOctets nameOctets resetOctets itemsOctets diagnosticsOctets
 has-some (carried os) e = ltb-true 0 (length os) e
 has-some (mme v) e = rw (length-number 2 (v .0)) (omega arith)
 has-some (mce v) e = rw (length-number 2 (v .0)) (omega arith)
 has-some (tmgi v) e = omega arith
 has-some (session v) e = rw (length-number 1 v) (omega arith)
 has-some (cause c) e = rw e (omega arith)
+has-some (wait v) e = rw e (omega arith)
+has-some (name os) e = rw e (omega arith)
 has-some (reset whole) e = omega arith
 has-some (reset (part is)) e = omega arith
 has-some (list is) e = omega (arith, length-append (numberOctets 1 (length is - 1)) (eachOctets (itemElementOctets ignore) is), length-number 1 (length is - 1))

@@ -17,13 +17,15 @@ use Rattle.identity.specs.declared.Tmgi.{Tmgi}
 use Rattle.identity.specs.declared.Item.{Item}
 use Rattle.values.specs.declared.Cause.{Cause}
 use Rattle.values.specs.Values.{rootOf}
-use Rattle.values.specs.Written.{tmgiOctets, causeOctets}
+use Rattle.values.specs.Written.{tmgiOctets, causeOctets, waitOctets}
+use Rattle.names.specs.Names.{nameAllowed}
+use Rattle.names.specs.Written.{nameOctets}
 use Rattle.items.specs.Items.{whole, part}
 use Rattle.items.specs.Written.{ignore, reject, itemsOctets, resetOctets}
 use Rattle.diagnostics.specs.declared.Head.{Head}
 use Rattle.put_diagnostics.specs.Put.{listedSize}
 use Rattle.put_diagnostics.proofs.Sizes.{listed-length, size-fits}
-use Rattle.meaning.specs.Value.{Value, carried, mme, mce, tmgi, session, cause, reset, list, diagnostics, octetsIn}
+use Rattle.meaning.specs.Value.{Value, carried, mme, mce, tmgi, session, cause, wait, name, reset, list, diagnostics, octetsIn}
 use Rattle.meaning.specs.Written.{octetsOf, hasOctets, counted, under3, entriesGood}
 use Rattle.layout.specs.Record.{listsIn}
 use Rattle.plan.specs.Plan.{sizeOf}
@@ -62,6 +64,22 @@ cause-size c h = rw (lt-ltb _ _ h)
 pub cause-none : (c : Cause) → rootOf (c .group) ≤ c .value → 0 ≡ sizeOf (cause c)
 unfolding sizeOf hasOctets
 cause-none c h = rw (le-ltb _ _ h)
+
+pub wait-size : (v : ℕ) → v < 6 → 1 ≡ sizeOf (wait v)
+unfolding sizeOf hasOctets octetsOf waitOctets
+wait-size v h = rw (lt-ltb _ _ h)
+
+pub wait-none : (v : ℕ) → 6 ≤ v → 0 ≡ sizeOf (wait v)
+unfolding sizeOf hasOctets
+wait-none v h = rw (le-ltb _ _ h)
+
+pub name-size : (os : List ℕ) {n : ℕ} → nameAllowed os ≡ true → n ≡ length os → 2 + n ≡ sizeOf (name os)
+unfolding sizeOf hasOctets octetsOf nameOctets
+name-size os h e = rw (h, e) (omega arith)
+
+pub name-none : (os : List ℕ) → nameAllowed os ≡ false → 0 ≡ sizeOf (name os)
+unfolding sizeOf hasOctets
+name-none os h = rw h
 
 pub whole-size : 1 ≡ sizeOf (reset whole)
 unfolding sizeOf hasOctets octetsOf resetOctets

@@ -9,25 +9,19 @@ use lib.Dec.{eqb}
 use lib.ListN.{length, drop, getD, length-map}
 use lib.Seq.{drop-drop, getD-drop}
 use Rattle.lists.specs.Lists.{pick}
-use Rattle.octets.specs.Field.{valueAt}
 use Rattle.octets.specs.declared.Span.{Span}
 use Rattle.rows.specs.declared.Kind.{Kind}
 use Rattle.rows.specs.declared.Kind.the-variants as kind
 use Rattle.rows.specs.declared.Row.{Row}
 use Rattle.rows.specs.declared.Rows.{Rows}
 use Rattle.rows.specs.Table.{noRow, rowsIn}
-use Rattle.meaning.specs.Value.{Value, Given, given, absent, carried, mme, mce, tmgi, session, cause, reset, list, diagnostics, octetsIn, onCarried, onGiven}
+use Rattle.meaning.specs.Value.{Value, Given, given, absent, carried, mme, mce, tmgi, session, cause, wait, name, reset, list, diagnostics, octetsIn, onCarried, onGiven}
 use Rattle.meaning.specs.Written.{elementOctets}
 use Rattle.layout.specs.Rows.{unless0}
 use Rattle.layout.specs.Record.{Lists, listsIn, headIn, slotSays, slotsSay}
-use Rattle.record_form.proofs.Forms.{first-at, row-in}
+use Rattle.record_form.proofs.Forms.{first-at, two-at, row-in}
 use Rattle.plan.specs.Plan.{sizeGiven}
-use Rattle.put_message.specs.Said.{twoIn, spanAt, causeIn, tmgiIn, numberBy, itemsIn, resetBy, diagnosticsBy, valueBy, givenBy, saidIn}
-
-two-in : (s : List ℕ) (at i : ℕ) → valueAt 2 (drop at s) i ≡ twoIn s (at + i)
-two-in s at i =
-    let k : at + (i + 1) ≡ at + i + 1 = omega arith in
-    rw (getD-drop at s i 0, getD-drop at s (i + 1) 0, k) (omega arith)
+use Rattle.put_message.specs.Said.{spanAt, causeIn, tmgiIn, numberBy, itemsIn, resetBy, diagnosticsBy, valueBy, givenBy, saidIn}
 
 pub head-in : (s : List ℕ) (at : ℕ) → record { code = numberBy (getD s (at + 1) 0) (getD s (at + 2) 0); trigger = numberBy (getD s (at + 3) 0) (getD s (at + 4) 0); crit = numberBy (getD s (at + 5) 0) (getD s (at + 6) 0); listed = not (eqb (getD s (at + 7) 0) 0) } ≡ headIn (drop at s)
 head-in s at = simp getD-drop
@@ -35,15 +29,15 @@ head-in s at = simp getD-drop
 module _ (values s : List ℕ) (at : ℕ) where
   pub carried-by : valueBy values s kind.Carried at ≡ carried (octetsIn values (spanAt s at))
   unfolding valueBy slotSays onCarried
-  carried-by = rw (two-in s at 1, two-in s at 3)
+  carried-by = rw (two-at s at 1, two-at s at 3)
 
   pub mme-by : valueBy values s kind.Mme at ≡ mme (record { 0 = getD s (at + 1) 0 * 256 + getD s (at + 2) 0 })
   unfolding valueBy slotSays onCarried
-  mme-by = let k : at + 1 + 1 ≡ at + 2 = omega arith in rw (two-in s at 1, k)
+  mme-by = let k : at + 1 + 1 ≡ at + 2 = omega arith in rw (two-at s at 1, k)
 
   pub mce-by : valueBy values s kind.Mce at ≡ mce (record { 0 = getD s (at + 1) 0 * 256 + getD s (at + 2) 0 })
   unfolding valueBy slotSays onCarried
-  mce-by = let k : at + 1 + 1 ≡ at + 2 = omega arith in rw (two-in s at 1, k)
+  mce-by = let k : at + 1 + 1 ≡ at + 2 = omega arith in rw (two-at s at 1, k)
 
   pub tmgi-by : valueBy values s kind.Tmgi at ≡ tmgi (tmgiIn s at)
   unfolding valueBy slotSays onCarried
@@ -56,6 +50,14 @@ module _ (values s : List ℕ) (at : ℕ) where
   pub cause-by : valueBy values s kind.Cause at ≡ cause (causeIn s at)
   unfolding valueBy slotSays onCarried
   cause-by = simp getD-drop
+
+  pub wait-by : valueBy values s kind.Wait at ≡ wait (getD s (at + 1) 0)
+  unfolding valueBy slotSays onCarried
+  wait-by = simp getD-drop
+
+  pub name-by : valueBy values s kind.Name at ≡ name (octetsIn values (spanAt s at))
+  unfolding valueBy slotSays onCarried
+  name-by = rw (two-at s at 1, two-at s at 3)
 
   pub reset-by : valueBy values s kind.ResetType at ≡ reset (resetBy (getD s at 0) (itemsIn s))
   unfolding valueBy slotSays onCarried

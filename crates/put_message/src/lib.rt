@@ -6,10 +6,11 @@ ghost use lib.ListN.{length, drop, getD};
 ghost use Rattle.lists.specs.Lists.{pick};
 ghost use Rattle.octets.specs.Write.{Wrote};
 ghost use Rattle.rows.specs.Table.{rowsIn};
+ghost use Rattle.names.specs.Written.{nameOctets};
 ghost use Rattle.items.specs.Items.{part};
 ghost use Rattle.items.specs.Written.{resetOctets};
 ghost use Rattle.diagnostics.specs.Written.{diagnosticsOctets};
-ghost use Rattle.meaning.specs.Value.{octetsIn, cause, reset, list, diagnostics};
+ghost use Rattle.meaning.specs.Value.{octetsIn, cause, wait, name, reset, list, diagnostics};
 ghost use Rattle.meaning.specs.Written.{counted, under3, entriesGood, octetsOf, elementOctets};
 ghost use Rattle.layout.specs.Record.{listsIn, headIn, written};
 ghost use Rattle.plan.specs.Plan.{sizeOf, sizeGiven, sizesOf, elementsTo};
@@ -43,7 +44,7 @@ fn two_at(s: &[u8], at: usize) -> usize
     numbers::wide16(numbers::two(s[at], s[at + 1]))
 }
 
-// The place of a carried value.
+// The place of a carried value, or of a name.
 fn span_at(s: &[u8], at: usize) -> Span
     requires { ⌜ at + 8 ≤ length (now s) ⌝ }
     ensures { λ r. ⌜ r ≡ spanAt (now (s .entry)) at ⌝ }
@@ -133,6 +134,27 @@ fn cause_size(c: Cause) -> usize
     0
 }
 
+fn wait_size(v: u8) -> usize
+    ensures { λ r. ⌜ r ≡ sizeOf (wait v) ⌝ }
+{
+    if v < 6 {
+        return 1;
+    }
+    0
+}
+
+// Two octets in front of the characters.
+fn name_size(values: &[u8], v: Span) -> usize
+    ensures { λ r. ⌜ r ≡ sizeOf (name (octetsIn (now (values .entry)) v)) ⌝ }
+{
+    let from = v.from;
+    let to = v.to;
+    if names::is_name(values, from, to) {
+        return 2 + (to - from);
+    }
+    0
+}
+
 // The acknowledgement's items.
 fn list_size(s: &[u8]) -> usize
     ensures { λ r. ⌜ r ≡ sizeOf (list (itemsIn (now (s .entry)))) ⌝ }
@@ -209,6 +231,8 @@ fn value_size(kind: Kind, s: &[u8], at: usize, values: &[u8]) -> usize
         Kind::Tmgi => 7,
         Kind::Session => 1,
         Kind::Cause => cause_size(cause_at(s, at)),
+        Kind::Wait => wait_size(s[at + 1]),
+        Kind::Name => name_size(values, span_at(s, at)),
         Kind::ResetType => reset_size(s[at], s),
         Kind::Acknowledged => list_size(s),
         Kind::Diagnostics => diagnostics_size(head_at(s, at), s),
@@ -254,6 +278,12 @@ fn put_carried(room: &mut [u8], at: usize, values: &[u8], v: Span) -> usize
     octets::put_part(room, at, values, from, to)
 }
 
+fn put_name(room: &mut [u8], at: usize, values: &[u8], v: Span) -> usize
+    ensures { λ r. ⌜ Wrote (now (room .entry)) at (nameOctets (octetsIn (now (values .entry)) v)) (now (room .exit)) r ⌝ }
+{
+    names::put_name(room, at, values, v.from, v.to)
+}
+
 fn put_reset(room: &mut [u8], at: usize, there: u8, s: &[u8]) -> usize
     ensures { λ r. ⌜ Wrote (now (room .entry)) at (resetOctets (resetBy there (itemsIn (now (s .entry))))) (now (room .exit)) r ⌝ }
 {
@@ -294,6 +324,8 @@ fn put_value(room: &mut [u8], at: usize, kind: Kind, s: &[u8], from: usize, valu
         Kind::Tmgi => put_values::put_tmgi(room, at, tmgi_at(s, from)),
         Kind::Session => put_values::put_session(room, at, s[from + 1]),
         Kind::Cause => put_values::put_cause(room, at, cause_at(s, from)),
+        Kind::Wait => put_values::put_wait(room, at, s[from + 1]),
+        Kind::Name => put_name(room, at, values, span_at(s, from)),
         Kind::ResetType => put_reset(room, at, s[from], s),
         Kind::Acknowledged => item_rows::put_said(room, at, Criticality::Ignore, s),
         Kind::Diagnostics => put_diagnostics(room, at, head_at(s, from), s),

@@ -80,6 +80,8 @@ fn part_of(p: Parts, kind: Kind) -> Part
         Kind::Carried => Part::Absent,
         Kind::Tmgi => Part::Absent,
         Kind::Session => Part::Absent,
+        Kind::Wait => Part::Absent,
+        Kind::Name => Part::Absent,
         Kind::ResetType => Part::Absent,
     }
 }

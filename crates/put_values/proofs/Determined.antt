@@ -12,6 +12,8 @@ use Rattle.put_values.proofs.put_tmgi.Kinds as put-tmgi'
 use Rattle.put_values.proofs.put_tmgi.Reads as put-tmgi
 use Rattle.put_values.proofs.put_cause.Kinds as put-cause'
 use Rattle.put_values.proofs.put_cause.Reads as put-cause
+use Rattle.put_values.proofs.put_wait.Kinds as put-wait'
+use Rattle.put_values.proofs.put_wait.Reads as put-wait
 
 pub put-mme-is : Determined put-mme'.ps put-mme'.r put-mme.Asked put-mme.Learnt
 put-mme-is κs a p x y e f = (e .next same f .next) & (e .octets same f .octets) & refl
@@ -27,3 +29,6 @@ put-tmgi-is κs a p x y e f = (e .next same f .next) & (e .octets same f .octets
 
 pub put-cause-is : Determined put-cause'.ps put-cause'.r put-cause.Asked put-cause.Learnt
 put-cause-is κs a p x y e f = (e .next same f .next) & (e .octets same f .octets) & refl
+
+pub put-wait-is : Determined put-wait'.ps put-wait'.r put-wait.Asked put-wait.Learnt
+put-wait-is κs a p x y e f = (e .next same f .next) & (e .octets same f .octets) & refl

@@ -25,6 +25,10 @@ cause-together g w v a b c =
     (ap (λ (x : ℕ). bitOr x (placed 4 1 0)) (together (bit false ∷ []) 3 g (omega arith) (omega arith) a) ∙ together (bit false ∷ 3 bits g ∷ []) 1 0 (omega arith) (omega arith) (omega arith))
     ∙ together (bit false ∷ 3 bits g ∷ bit false ∷ []) w v (omega arith) (omega arith) c
 
+pub wait-together : (v : ℕ) → v < 8 → bitOr 0 (placed 1 3 v) ≡ packed (bit false ∷ 3 bits v ∷ [])
+unfolding packedIn
+wait-together v h = together (bit false ∷ []) 3 v (omega arith) (omega arith) h
+
 -- an envelope has four octets around its item
 pub element-size : (crit : ℕ) (i : Item) → length (itemElementOctets crit i) ≡ 4 + length (itemOctets i)
 unfolding itemElementOctets

@@ -3,7 +3,7 @@ ghost use mathlib.Core.Path.{_≡_};
 ghost use Prim.Native.Nat.{_<_};
 ghost use Rattle.octets.specs.Write.{Wrote};
 ghost use Rattle.values.specs.Values.{rootOf};
-ghost use Rattle.values.specs.Written.{mmeOctets, mceOctets, sessionOctets, tmgiOctets, causeOctet, causeOctets};
+ghost use Rattle.values.specs.Written.{mmeOctets, mceOctets, sessionOctets, tmgiOctets, causeOctet, causeOctets, waitOctets};
 use identity::MceId;
 use identity::MmeId;
 use identity::Tmgi;
@@ -59,6 +59,19 @@ pub fn put_cause(room: &mut [u8], at: usize, c: Cause) -> usize
 {
     if c.value < values::root_of(c.group) {
         return octets::put_octet(room, at, cause_octet(c));
+    }
+    if at < room.len() {
+        return at;
+    }
+    room.len()
+}
+
+// A Time to Wait; nothing for one outside the root.
+pub fn put_wait(room: &mut [u8], at: usize, v: u8) -> usize
+    ensures { λ r. ⌜ Wrote (now (room .entry)) at (waitOctets v) (now (room .exit)) r ⌝ }
+{
+    if v < 6 {
+        return octets::put_octet(room, at, packed::with_bits(0, 1, 3, v));
     }
     if at < room.len() {
         return at;

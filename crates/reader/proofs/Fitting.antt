@@ -8,6 +8,7 @@ use native.Mathlib.Omega.{arith}
 use borrow.Author.Tests.{ltb-false}
 use lib.Dec.{ltb}
 use lib.ListN.{length, take, getD}
+use lib.Seq.{length-take-le}
 use Rattle.lists.specs.Lists.{pick}
 use Rattle.octets.specs.Read.{Read, got, stop, _>>=_}
 use Rattle.octets.specs.Many.{Each}
@@ -16,8 +17,10 @@ use Rattle.octets.specs.declared.Span.{Span}
 use Rattle.octets.specs.Span.{noSpan, present}
 use Rattle.octets.proofs.Stood.{octets-front}
 use Rattle.identity.specs.declared.Item.{Item}
-use Rattle.values.specs.Values.{mmeAt, mceAt, tmgiAt, sessionAt, causeAt}
+use Rattle.values.specs.Values.{mmeAt, mceAt, tmgiAt, sessionAt, causeAt, waitAt}
+use Rattle.names.specs.Names.{nameAt}
 use Rattle.values.proofs.Good.{mme-good, mce-good}
+use Rattle.names.proofs.Good.{name-in}
 use Rattle.items.specs.Items.{ResetType, whole, part, itemsAt, resetAt}
 use Rattle.items.specs.Written.{GoodItems, GoodReset}
 use Rattle.items.proofs.Good.{items-good, reset-good}
@@ -29,11 +32,14 @@ use Rattle.rows.specs.declared.Kind.{Kind}
 use Rattle.rows.specs.declared.Kind.the-variants as kind
 use Rattle.rows.specs.declared.Row.{Row}
 use Rattle.rows.specs.Table.{noRow}
-use Rattle.meaning.specs.Value.{Value, Given, given, absent, carried, mme, mce, tmgi, session, cause, reset, list, diagnostics}
+use Rattle.meaning.specs.Value.{Value, Given, given, absent, carried, mme, mce, tmgi, session, cause, wait, name, reset, list, diagnostics}
 use Rattle.meaning.specs.Ranges.{valueKind}
 use Rattle.meaning.specs.Reading.{orAbsent, readAs, valueIn, valuesIn}
-use Rattle.layout.specs.Held.{ItemsFit, EntriesFit, DiagnosticsFit, Fits, RowFits, RowsFit}
+use Rattle.layout.specs.Held.{PlaceFits, ItemsFit, EntriesFit, DiagnosticsFit, Fits, RowFits, RowsFit}
 use Rattle.reader.specs.Steps.{Legible, IfPresent, givenBy}
+
+place-fits : (v : Span) → v .from < v .to → v .to ≤ 8192 → PlaceFits v
+place-fits v h b = (omega arith, omega arith, omega arith)
 
 items-fit : {is : List Item} → GoodItems is → ItemsFit is
 items-fit g = record { few = g .1; each = g .2 }
@@ -75,6 +81,10 @@ module _ (s : List ℕ) (o : Octets s) (b : length s ≤ 8192) (v : Span) where
   read-fits kind.Tmgi h z = by-reading kind.Tmgi tmgi (tmgiAt (take (v .to) s) (v .from)) (λ a q. (refl, tt))
   read-fits kind.Session h z = by-reading kind.Session session (sessionAt (take (v .to) s) (v .from)) (λ a q. (refl, tt))
   read-fits kind.Cause h z = by-reading kind.Cause cause (causeAt (take (v .to) s) (v .from)) (λ a q. (refl, tt))
+  read-fits kind.Wait h z = by-reading kind.Wait wait (waitAt (take (v .to) s) (v .from)) (λ a q. (refl, tt))
+  read-fits kind.Name h z =
+      by-reading kind.Name name (nameAt (take (v .to) s) (v .from))
+      (λ a q. let i = name-in (take (v .to) s) (v .from) q in (refl, place-fits a (i .1) (omega (arith, i .2, length-take-le (v .to) s z))))
   read-fits kind.ResetType h z = by-reading kind.ResetType reset (resetAt (take (v .to) s) (v .from)) (λ a q. (refl, reset-fits a (reset-good (take (v .to) s) (v .from) octets q)))
   read-fits kind.Acknowledged h z = by-reading kind.Acknowledged list (itemsAt (take (v .to) s) (v .from)) (λ a q. (refl, items-fit (items-good (take (v .to) s) (v .from) octets q)))
   read-fits kind.Diagnostics h z =

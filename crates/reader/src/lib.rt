@@ -7,17 +7,18 @@ ghost use lib.ListN.{length, take};
 ghost use Rattle.lists.specs.Lists.{fill};
 ghost use Rattle.octets.specs.Many.{eachOctets};
 ghost use Rattle.octets.specs.Write.{numberOctets, Wrote};
-ghost use Rattle.values.specs.Values.{mmeAt, mceAt, tmgiAt, sessionAt, causeAt};
+ghost use Rattle.values.specs.Values.{mmeAt, mceAt, tmgiAt, sessionAt, causeAt, waitAt};
+ghost use Rattle.names.specs.Names.{nameAt};
 ghost use Rattle.items.specs.Items.{itemsAt, resetAt};
 ghost use Rattle.diagnostics.specs.Diagnostics.{diagnosticsAt};
 ghost use Rattle.places.specs.Places.{spansIn};
 ghost use Rattle.rows.specs.Table.{rowsIn};
-ghost use Rattle.meaning.specs.Value.{given, absent, carried, mme, mce, tmgi, session, cause, reset, diagnostics};
+ghost use Rattle.meaning.specs.Value.{given, absent, mme, mce, tmgi, session, cause, wait, name, reset, diagnostics};
 ghost use Rattle.meaning.specs.Reading.{readAs, orAbsent, valueIn, valuesIn};
 ghost use Rattle.editions.specs.Editions.{tableOf};
 ghost use Rattle.verdicts.specs.Verdict.{openedAt, verdictOf, every, readOf};
 ghost use Rattle.layout.specs.Rows.{itemRow, entryRow, listOctets};
-ghost use Rattle.layout.specs.Record.{yes, maybeOctets, headOctets, listsOf, slotOctets};
+ghost use Rattle.layout.specs.Record.{yes, maybeOctets, headOctets, placeOctets, listsOf, slotOctets};
 ghost use Rattle.reader.specs.Reader.{Answers};
 ghost use Rattle.reader.specs.Steps.{Got, ResetIs, givenBy, slotBy, Legible, IfPresent, AllLegible, ItemsBegin, EntriesBegin, PutIn};
 use diagnostics::Head;
@@ -29,6 +30,7 @@ use editions::Named;
 use frames::Frame;
 use frames::FrameRead;
 use identity::Tmgi;
+use names::NameRead;
 use octets::Flag;
 use octets::Gate;
 use octets::Span;
@@ -39,6 +41,7 @@ use values::MceRead;
 use values::MmeRead;
 use values::SessionRead;
 use values::TmgiRead;
+use values::WaitRead;
 use verdicts::Outcome;
 use verdicts::Refusal;
 
@@ -105,9 +108,10 @@ fn between(from: usize, to: usize) -> usize
     0
 }
 
-fn put_carried(room: &mut [u8], at: usize, v: Span) -> usize
+// A carried value, or a name: its place, and how many octets it has.
+fn put_place(room: &mut [u8], at: usize, v: Span) -> usize
     requires { ⌜ at + 8 ≤ length (now room) ⌝ }
-    ensures { λ r. ⌜ Wrote (now (room .entry)) at (slotOctets (given (carried v))) (now (room .exit)) r ⌝ }
+    ensures { λ r. ⌜ Wrote (now (room .entry)) at (fill 0 8 (1 ∷ placeOctets v)) (now (room .exit)) r ⌝ }
 {
     let from = v.from;
     let n = between(from, v.to);
@@ -223,6 +227,26 @@ fn cause_slot(room: &mut [u8], at: usize, s: &[u8], from: usize) -> usize
     }
 }
 
+fn wait_slot(room: &mut [u8], at: usize, s: &[u8], from: usize) -> usize
+    requires { ⌜ at + 8 ≤ length (now room) ⌝ }
+    ensures { λ r. ⌜ Wrote (now (room .entry)) at (slotBy wait (waitAt (now (s .entry)) from)) (now (room .exit)) r ⌝ }
+{
+    match values::wait_at(s, from) {
+        WaitRead::Is(v) => put_eight(room, at, 1, v, 0, 0, 0, 0, 0, 0),
+        WaitRead::Stop(_) => put_absent(room, at),
+    }
+}
+
+fn name_slot(room: &mut [u8], at: usize, s: &[u8], from: usize) -> usize
+    requires { ⌜ at + 8 ≤ length (now room) ⌝ }
+    ensures { λ r. ⌜ Wrote (now (room .entry)) at (slotBy name (nameAt (now (s .entry)) from)) (now (room .exit)) r ⌝ }
+{
+    match names::name_at(s, from) {
+        NameRead::Is(v) => put_place(room, at, v),
+        NameRead::Stop(_) => put_absent(room, at),
+    }
+}
+
 // Where it can be read, its second bit says whether it is a part of the interface.
 fn is_part(s: &[u8], from: usize) -> bool
     requires { ⌜ Got (resetAt (now s) from) ⌝ }
@@ -267,12 +291,14 @@ fn put_value(room: &mut [u8], at: usize, kind: Kind, s: &[u8], v: Span) -> usize
     let from = v.from;
     let to = v.to;
     match kind {
-        Kind::Carried => put_carried(room, at, v),
+        Kind::Carried => put_place(room, at, v),
         Kind::Mme => mme_slot(room, at, &s[..to], from),
         Kind::Mce => mce_slot(room, at, &s[..to], from),
         Kind::Tmgi => tmgi_slot(room, at, &s[..to], from),
         Kind::Session => session_slot(room, at, &s[..to], from),
         Kind::Cause => cause_slot(room, at, &s[..to], from),
+        Kind::Wait => wait_slot(room, at, &s[..to], from),
+        Kind::Name => name_slot(room, at, &s[..to], from),
         Kind::ResetType => reset_slot(room, at, &s[..to], from),
         Kind::Acknowledged => put_first(room, at, 1),
         Kind::Diagnostics => diagnostics_slot(room, at, &s[..to], from),

@@ -51,6 +51,8 @@ slot-any l kind.Mce p = refl
 slot-any l kind.Tmgi p = refl
 slot-any l kind.Session p = refl
 slot-any l kind.Cause p = refl
+slot-any l kind.Wait p = refl
+slot-any l kind.Name p = refl
 slot-any l kind.ResetType p = by (eqb (getD p 0 0) 0) (eqb (getD p 0 0) 2)
   where
     by : (a b : Bool) → slotOctets (pick a absent (given (reset (pick b (part (l .items)) whole)))) ≡ slotOctets (pick a absent (given (reset (pick b (part []) whole))))
@@ -148,6 +150,8 @@ module _ (l : Lists) (p : List ℕ) (vs : List (Given Span)) where
   step-items kind.Tmgi = ap itemsOf (plain (slotSays l kind.Tmgi p) refl)
   step-items kind.Session = ap itemsOf (plain (slotSays l kind.Session p) refl)
   step-items kind.Cause = ap itemsOf (plain (slotSays l kind.Cause p) refl)
+  step-items kind.Wait = ap itemsOf (plain (slotSays l kind.Wait p) refl)
+  step-items kind.Name = ap itemsOf (plain (slotSays l kind.Name p) refl)
   step-items kind.ResetType =
       ap itemsOf (one (eqb (getD p 0 0) 0) (reset (pick (eqb (getD p 0 0) 2) (part (l .items)) whole)))
       ∙ by (eqb (getD p 0 0) 0) refl (eqb (getD p 0 0) 2) refl
@@ -177,6 +181,8 @@ module _ (l : Lists) (p : List ℕ) (vs : List (Given Span)) where
   step-entries kind.Tmgi = ap entriesOf (plain (slotSays l kind.Tmgi p) refl)
   step-entries kind.Session = ap entriesOf (plain (slotSays l kind.Session p) refl)
   step-entries kind.Cause = ap entriesOf (plain (slotSays l kind.Cause p) refl)
+  step-entries kind.Wait = ap entriesOf (plain (slotSays l kind.Wait p) refl)
+  step-entries kind.Name = ap entriesOf (plain (slotSays l kind.Name p) refl)
   step-entries kind.ResetType =
       ap entriesOf (one (eqb (getD p 0 0) 0) (reset (pick (eqb (getD p 0 0) 2) (part (l .items)) whole)))
       ∙ by (eqb (getD p 0 0) 0) (eqb (getD p 0 0) 2)

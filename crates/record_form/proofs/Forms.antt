@@ -10,6 +10,7 @@ use native.Mathlib.Omega.{arith}
 use lib.Dec.{ltb}
 use lib.ListN.{length, drop, getD, length-take, drop-of-length-le}
 use lib.Seq.{drop-cons, drop-drop, getD-drop, getD-take}
+use Rattle.octets.specs.Field.{valueAt}
 use Rattle.octets.specs.Stands.{Octets}
 use Rattle.rows.specs.declared.Row.{Row}
 use Rattle.rows.specs.declared.Rows.{Rows}
@@ -22,6 +23,11 @@ octets-drop n s o i = rw (getD-drop n s i 0) (o (n + i))
 
 pub first-at : (s : List ℕ) (at : ℕ) → getD (drop at s) 0 0 ≡ getD s at 0
 first-at s at = getD-drop at s 0 0 ∙ ap (λ (n : ℕ). getD s n 0) (add-zero at)
+
+pub two-at : (s : List ℕ) (at i : ℕ) → valueAt 2 (drop at s) i ≡ getD s (at + i) 0 * 256 + getD s (at + i + 1) 0
+two-at s at i =
+    let k : at + (i + 1) ≡ at + i + 1 = omega arith in
+    rw (getD-drop at s i 0, getD-drop at s (i + 1) 0, k) (omega arith)
 
 pub head-at : (s : List ℕ) (at : ℕ) → headGood (drop at s)
     ≡ (maybeGood (getD s (at + 1) 0) (getD s (at + 2) 0) && (maybeGood (getD s (at + 3) 0) (getD s (at + 4) 0) && (maybeGood (getD s (at + 5) 0) (getD s (at + 6) 0) && ltb (getD s (at + 7) 0) 2)))

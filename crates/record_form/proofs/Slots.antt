@@ -28,6 +28,8 @@ used-small kind.Mce = omega arith
 used-small kind.Tmgi = omega arith
 used-small kind.Session = omega arith
 used-small kind.Cause = omega arith
+used-small kind.Wait = omega arith
+used-small kind.Name = omega arith
 used-small kind.ResetType = omega arith
 used-small kind.Acknowledged = omega arith
 used-small kind.Diagnostics = omega arith
@@ -104,6 +106,8 @@ module _ (a b c d e f g h : ℕ) (q : List ℕ) (bo : b < 256) (co : c < 256) (d
   parts kind.Tmgi z = rw (ne-eqb a 0 z) (simp (eqb-self, and-true, eqb-sym 1 a))
   parts kind.Session z = rw (ne-eqb a 0 z) (simp (eqb-self, and-true, eqb-sym 1 a))
   parts kind.Cause z = rw (ne-eqb a 0 z) (simp (eqb-self, and-true, eqb-sym 1 a))
+  parts kind.Wait z = rw (ne-eqb a 0 z) (simp (eqb-self, and-true, eqb-sym 1 a))
+  parts kind.Name z = rw (ne-eqb a 0 z, place, two-same b c bo co, two-same d e dx eo) (simp (eqb-self, and-true, eqb-sym 1 a))
   parts kind.ResetType z = by (eqb a 2) refl
     where
       by : (x : Bool) → eqb a 2 ≡ x → slotGood kind.ResetType eight ≡ (eqb a (markOf kind.ResetType a) && restGood kind.ResetType eight)

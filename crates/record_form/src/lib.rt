@@ -5,7 +5,11 @@ ghost use Prim.Native.Nat.{_+_, _≤_};
 ghost use lib.ListN.{length, take, drop, replicate};
 ghost use Rattle.lent.specs.Lent.{same};
 ghost use Rattle.rows.specs.Table.{rowsIn};
+ghost use Rattle.layout.specs.Record.{nameRefused};
+ghost use Rattle.record_form.specs.BadNames.{nameBad, slotBad, slotsBad};
 ghost use Rattle.record_form.specs.Form.{markOf, usedBy, maybeGood, headGood, headOf, restGood, slotGood, saysItems, saysEntries, formFrom, itemsPart, entriesPart, behind, formed};
+use editions::Edition;
+use editions::Named;
 use rows::Kind;
 use rows::Rows;
 
@@ -47,6 +51,8 @@ fn mark_of(kind: Kind, there: u8) -> u8
         Kind::Tmgi => 1,
         Kind::Session => 1,
         Kind::Cause => 1,
+        Kind::Wait => 1,
+        Kind::Name => 1,
         Kind::Acknowledged => 1,
         Kind::Diagnostics => 1,
     }
@@ -63,6 +69,8 @@ fn used_by(kind: Kind) -> usize
         Kind::Tmgi => 7,
         Kind::Session => 2,
         Kind::Cause => 3,
+        Kind::Wait => 2,
+        Kind::Name => 5,
         Kind::ResetType => 1,
         Kind::Acknowledged => 1,
         Kind::Diagnostics => 8,
@@ -108,6 +116,8 @@ fn is_head_of(kind: Kind, s: &[u8], at: usize) -> bool
         Kind::Tmgi => true,
         Kind::Session => true,
         Kind::Cause => true,
+        Kind::Wait => true,
+        Kind::Name => true,
         Kind::ResetType => true,
         Kind::Acknowledged => true,
     }
@@ -152,6 +162,8 @@ fn says_items(kind: Kind, there: u8) -> bool
         Kind::Tmgi => false,
         Kind::Session => false,
         Kind::Cause => false,
+        Kind::Wait => false,
+        Kind::Name => false,
         Kind::Diagnostics => false,
     }
 }
@@ -173,6 +185,8 @@ fn says_entries(kind: Kind, there: u8, listed: u8) -> bool
         Kind::Tmgi => false,
         Kind::Session => false,
         Kind::Cause => false,
+        Kind::Wait => false,
+        Kind::Name => false,
         Kind::ResetType => false,
         Kind::Acknowledged => false,
     }
@@ -257,4 +271,65 @@ pub fn is_formed(rows: Rows, s: &[u8]) -> bool
         return false;
     }
     is_behind(n, s, form_of(rows, s))
+}
+
+// ---- names
+
+// The slot's name is there, and is not allowed.
+fn is_name_bad(s: &[u8], at: usize, values: &[u8]) -> bool
+    requires { ⌜ at + 8 ≤ length (now s) ⌝ }
+    ensures { λ r. ⌜ r ≡ nameBad (now (values .entry)) (drop at (now (s .entry))) ⌝ }
+{
+    if s[at] == 0 {
+        return false;
+    }
+    let from = numbers::wide16(numbers::two(s[at + 1], s[at + 2]));
+    let size = numbers::wide16(numbers::two(s[at + 3], s[at + 4]));
+    !names::is_name(values, from, from + size)
+}
+
+fn is_slot_bad(kind: Kind, s: &[u8], at: usize, values: &[u8]) -> bool
+    requires { ⌜ at + 8 ≤ length (now s) ⌝ }
+    ensures { λ r. ⌜ r ≡ slotBad (now (values .entry)) kind (drop at (now (s .entry))) ⌝ }
+{
+    match kind {
+        Kind::Name => is_name_bad(s, at, values),
+        _ => false,
+    }
+}
+
+fn are_slots_bad(rows: Rows, s: &[u8], values: &[u8]) -> bool
+    requires { ⌜ length (now s) ≡ 2662 ⌝ }
+    ensures { λ r. ⌜ r ≡ slotsBad (now (values .entry)) (rowsIn rows) (drop 2 (now (s .entry))) ⌝ }
+{
+    let n = rows::row_count(rows);
+    let mut i: usize = 0;
+    while i < n {
+        let row = rows.rows[i];
+        let kind = row.kind;
+        if is_slot_bad(kind, s, 2 + 8 * i, values) {
+            return true;
+        }
+        i += 1;
+    }
+    false
+}
+
+// A record one of whose values is a name that is not allowed. Only where there is one is it asked whether the octets are a record.
+pub fn name_refused(e: Edition, s: &[u8], values: &[u8]) -> bool
+    ensures { λ r. ⌜ r ≡ nameRefused e (now (s .entry)) (now (values .entry)) ⌝ }
+{
+    if s.len() != 2662 {
+        return false;
+    }
+    match editions::numbered(e, s[0]) {
+        Named::Other => false,
+        Named::Is(m) => {
+            let rows = editions::rows_of(e, m);
+            if are_slots_bad(rows, s, values) {
+                return is_formed(rows, s);
+            }
+            false
+        }
+    }
 }

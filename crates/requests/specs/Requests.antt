@@ -13,6 +13,8 @@ use Rattle.editions.specs.declared.Message.{Message}
 use Rattle.editions.specs.declared.Message.the-variants as message
 use Rattle.requests.specs.declared.MaybeTmgi.{MaybeTmgi}
 use Rattle.requests.specs.declared.MaybeTmgi.the-variants as tmgi
+use Rattle.requests.specs.declared.MaybeWait.{MaybeWait}
+use Rattle.requests.specs.declared.MaybeWait.the-variants as wait
 use Rattle.requests.specs.declared.MaybeReset.{MaybeReset}
 use Rattle.requests.specs.declared.MaybeReset.the-variants as reset
 use Rattle.requests.specs.declared.Seen.{Seen}
@@ -28,18 +30,20 @@ use Rattle.meaning.specs.Value as value
 use Rattle.meaning.specs.Value.{Value, Given, given, absent, Record}
 
 abbrev pub nothing : Seen
-nothing = record { mme = mme.Absent; mce = mce.Absent; tmgi = tmgi.Absent; session = session.Absent; reset = reset.Absent }
+nothing = record { mme = mme.Absent; mce = mce.Absent; tmgi = tmgi.Absent; session = session.Absent; wait = wait.Absent; reset = reset.Absent }
 
 -- with one value more
 abbrev pub seeing : {C : Type 0} → Value C → Seen → Seen
-seeing (value.mme v) x = record { mme = mme.Is v; mce = x .mce; tmgi = x .tmgi; session = x .session; reset = x .reset }
-seeing (value.mce v) x = record { mme = x .mme; mce = mce.Is v; tmgi = x .tmgi; session = x .session; reset = x .reset }
-seeing (value.tmgi v) x = record { mme = x .mme; mce = x .mce; tmgi = tmgi.Is v; session = x .session; reset = x .reset }
-seeing (value.session v) x = record { mme = x .mme; mce = x .mce; tmgi = x .tmgi; session = session.Is v; reset = x .reset }
-seeing (value.reset whole) x = record { mme = x .mme; mce = x .mce; tmgi = x .tmgi; session = x .session; reset = reset.Whole }
-seeing (value.reset (part is)) x = record { mme = x .mme; mce = x .mce; tmgi = x .tmgi; session = x .session; reset = reset.Part }
+seeing (value.mme v) x = record { mme = mme.Is v; mce = x .mce; tmgi = x .tmgi; session = x .session; wait = x .wait; reset = x .reset }
+seeing (value.mce v) x = record { mme = x .mme; mce = mce.Is v; tmgi = x .tmgi; session = x .session; wait = x .wait; reset = x .reset }
+seeing (value.tmgi v) x = record { mme = x .mme; mce = x .mce; tmgi = tmgi.Is v; session = x .session; wait = x .wait; reset = x .reset }
+seeing (value.session v) x = record { mme = x .mme; mce = x .mce; tmgi = x .tmgi; session = session.Is v; wait = x .wait; reset = x .reset }
+seeing (value.wait v) x = record { mme = x .mme; mce = x .mce; tmgi = x .tmgi; session = x .session; wait = wait.Is v; reset = x .reset }
+seeing (value.reset whole) x = record { mme = x .mme; mce = x .mce; tmgi = x .tmgi; session = x .session; wait = x .wait; reset = reset.Whole }
+seeing (value.reset (part is)) x = record { mme = x .mme; mce = x .mce; tmgi = x .tmgi; session = x .session; wait = x .wait; reset = reset.Part }
 seeing (value.carried v) x = x
 seeing (value.cause v) x = x
+seeing (value.name v) x = x
 seeing (value.list v) x = x
 seeing (value.diagnostics v) x = x
 
@@ -52,7 +56,7 @@ unfoldable pub seen : {C : Type 0} → List (Given C) → Seen
 seen [] = nothing
 seen (g ∷ gs) = also g (seen gs)
 
--- which request it is; a response, a failure and an acknowledgement ask for nothing
+-- which request it is; the answer to a setup asks to be taken over, and any other response, failure or acknowledgement for nothing, as does a setup request
 abbrev pub askOf : Message → Ask
 askOf message.StartRequest = ask.Start
 askOf message.StopRequest = ask.Stop
@@ -62,16 +66,31 @@ askOf message.StartResponse = ask.Nothing
 askOf message.StartFailure = ask.Nothing
 askOf message.StopResponse = ask.Nothing
 askOf message.ResetAcknowledge = ask.Nothing
+askOf message.SetupRequest = ask.Nothing
+askOf message.SetupResponse = ask.SetupResponse
+askOf message.SetupFailure = ask.SetupFailure
 
 abbrev pub isAsked : Ask → Bool
 isAsked ask.Start = true
 isAsked ask.Stop = true
 isAsked ask.Reset = true
 isAsked ask.Indication = true
+isAsked ask.SetupResponse = true
+isAsked ask.SetupFailure = true
 isAsked ask.Nothing = false
 
 abbrev pub asks : Message → Bool
 asks m = isAsked (askOf m)
+
+-- it answers a setup request
+abbrev pub answersSetup : Ask → Bool
+answersSetup ask.SetupResponse = true
+answersSetup ask.SetupFailure = true
+answersSetup ask.Start = false
+answersSetup ask.Stop = false
+answersSetup ask.Reset = false
+answersSetup ask.Indication = false
+answersSetup ask.Nothing = false
 
 -- a request of which nothing is absent
 abbrev pub startOf : Mme → MaybeTmgi → Session → Wanted
@@ -94,6 +113,8 @@ requestOf ask.Start x = startOf (x .mme) (x .tmgi) (x .session)
 requestOf ask.Stop x = stopOf (x .mme) (x .mce)
 requestOf ask.Reset x = resetOf (x .reset)
 requestOf ask.Indication x = Is request.Indication
+requestOf ask.SetupResponse x = Is request.SetupResponse
+requestOf ask.SetupFailure x = Is (request.SetupFailure (x .wait))
 requestOf ask.Nothing x = Lacking
 
 -- the items beside a request

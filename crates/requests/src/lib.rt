@@ -2,11 +2,11 @@
 ghost use mathlib.Core.Path.{_≡_};
 ghost use Rattle.places.specs.Places.{spansIn};
 ghost use Rattle.rows.specs.Table.{rowsIn};
-ghost use Rattle.values.specs.Values.{mmeAt, mceAt, tmgiAt, sessionAt};
+ghost use Rattle.values.specs.Values.{mmeAt, mceAt, tmgiAt, sessionAt, waitAt};
 ghost use Rattle.items.specs.Items.{resetAt};
-ghost use Rattle.meaning.specs.Value.{mme, mce, tmgi, session, reset};
+ghost use Rattle.meaning.specs.Value.{mme, mce, tmgi, session, wait, reset};
 ghost use Rattle.meaning.specs.Reading.{valueIn, valuesIn};
-ghost use Rattle.requests.specs.Requests.{nothing, also, alsoRead, resetSeen, seen, askOf, asks, startOf, stopOf, resetOf, requestOf};
+ghost use Rattle.requests.specs.Requests.{nothing, also, alsoRead, resetSeen, seen, askOf, asks, answersSetup, startOf, stopOf, resetOf, requestOf};
 use editions::Message;
 use identity::Mce;
 use identity::MceId;
@@ -23,9 +23,16 @@ use values::MceRead;
 use values::MmeRead;
 use values::SessionRead;
 use values::TmgiRead;
+use values::WaitRead;
 
 pub enum MaybeTmgi {
     Is(Tmgi),
+    Absent,
+}
+
+// Time to Wait, by its number.
+pub enum MaybeWait {
+    Is(u8),
     Absent,
 }
 
@@ -42,6 +49,7 @@ pub struct Seen {
     pub mce: Mce,
     pub tmgi: MaybeTmgi,
     pub session: Session,
+    pub wait: MaybeWait,
     pub reset: MaybeReset,
 }
 
@@ -52,7 +60,10 @@ pub enum Ask {
     Reset,
     // ERROR INDICATION
     Indication,
-    // a response, failure or acknowledgement
+    // the answers to a setup request
+    SetupResponse,
+    SetupFailure,
+    // any other response, failure or acknowledgement, and a setup request
     Nothing,
 }
 
@@ -65,6 +76,8 @@ pub enum Request {
     // a partial reset; its items stand beside it
     Part,
     Indication,
+    SetupResponse,
+    SetupFailure(MaybeWait),
 }
 
 // A request, or a mandatory element is lacking.
@@ -81,6 +94,7 @@ fn nothing_seen() -> Seen
         mce: Mce::Absent,
         tmgi: MaybeTmgi::Absent,
         session: Session::Absent,
+        wait: MaybeWait::Absent,
         reset: MaybeReset::Absent,
     }
 }
@@ -91,6 +105,7 @@ fn with_mme(s: &[u8], at: usize, x: Seen) -> Seen
     let c = x.mce;
     let g = x.tmgi;
     let v = x.session;
+    let z = x.wait;
     let w = x.reset;
     match values::mme_at(s, at) {
         MmeRead::Is(m) => Seen {
@@ -98,6 +113,7 @@ fn with_mme(s: &[u8], at: usize, x: Seen) -> Seen
             mce: c,
             tmgi: g,
             session: v,
+            wait: z,
             reset: w,
         },
         MmeRead::Stop(_) => x,
@@ -110,6 +126,7 @@ fn with_mce(s: &[u8], at: usize, x: Seen) -> Seen
     let m = x.mme;
     let g = x.tmgi;
     let v = x.session;
+    let z = x.wait;
     let w = x.reset;
     match values::mce_at(s, at) {
         MceRead::Is(c) => Seen {
@@ -117,6 +134,7 @@ fn with_mce(s: &[u8], at: usize, x: Seen) -> Seen
             mce: Mce::Is(c),
             tmgi: g,
             session: v,
+            wait: z,
             reset: w,
         },
         MceRead::Stop(_) => x,
@@ -129,6 +147,7 @@ fn with_tmgi(s: &[u8], at: usize, x: Seen) -> Seen
     let m = x.mme;
     let c = x.mce;
     let v = x.session;
+    let z = x.wait;
     let w = x.reset;
     match values::tmgi_at(s, at) {
         TmgiRead::Is(g) => Seen {
@@ -136,6 +155,7 @@ fn with_tmgi(s: &[u8], at: usize, x: Seen) -> Seen
             mce: c,
             tmgi: MaybeTmgi::Is(g),
             session: v,
+            wait: z,
             reset: w,
         },
         TmgiRead::Stop(_) => x,
@@ -148,6 +168,7 @@ fn with_session(s: &[u8], at: usize, x: Seen) -> Seen
     let m = x.mme;
     let c = x.mce;
     let g = x.tmgi;
+    let z = x.wait;
     let w = x.reset;
     match values::session_at(s, at) {
         SessionRead::Is(v) => Seen {
@@ -155,9 +176,31 @@ fn with_session(s: &[u8], at: usize, x: Seen) -> Seen
             mce: c,
             tmgi: g,
             session: Session::Is(v),
+            wait: z,
             reset: w,
         },
         SessionRead::Stop(_) => x,
+    }
+}
+
+fn with_wait(s: &[u8], at: usize, x: Seen) -> Seen
+    ensures { λ r. ⌜ r ≡ alsoRead wait (waitAt (now (s .entry)) at) x ⌝ }
+{
+    let m = x.mme;
+    let c = x.mce;
+    let g = x.tmgi;
+    let v = x.session;
+    let w = x.reset;
+    match values::wait_at(s, at) {
+        WaitRead::Is(n) => Seen {
+            mme: m,
+            mce: c,
+            tmgi: g,
+            session: v,
+            wait: MaybeWait::Is(n),
+            reset: w,
+        },
+        WaitRead::Stop(_) => x,
     }
 }
 
@@ -174,6 +217,9 @@ pub fn ask_of(m: Message) -> Ask
         Message::StartFailure => Ask::Nothing,
         Message::StopResponse => Ask::Nothing,
         Message::ResetAcknowledge => Ask::Nothing,
+        Message::SetupRequest => Ask::Nothing,
+        Message::SetupResponse => Ask::SetupResponse,
+        Message::SetupFailure => Ask::SetupFailure,
     }
 }
 
@@ -187,6 +233,23 @@ pub fn asks(m: Message) -> bool
         Ask::Stop => true,
         Ask::Reset => true,
         Ask::Indication => true,
+        Ask::SetupResponse => true,
+        Ask::SetupFailure => true,
+    }
+}
+
+// It answers a setup request.
+pub fn answers_setup(m: Message) -> bool
+    ensures { λ r. ⌜ r ≡ answersSetup (askOf m) ⌝ }
+{
+    match ask_of(m) {
+        Ask::SetupResponse => true,
+        Ask::SetupFailure => true,
+        Ask::Start => false,
+        Ask::Stop => false,
+        Ask::Reset => false,
+        Ask::Indication => false,
+        Ask::Nothing => false,
     }
 }
 
@@ -232,12 +295,15 @@ pub fn request_of(a: Ask, x: Seen) -> Wanted
     let mce = x.mce;
     let tmgi = x.tmgi;
     let session = x.session;
+    let wait = x.wait;
     let reset = x.reset;
     match a {
         Ask::Start => start_of(mme, tmgi, session),
         Ask::Stop => stop_of(mme, mce),
         Ask::Reset => reset_of(reset),
         Ask::Indication => Wanted::Is(Request::Indication),
+        Ask::SetupResponse => Wanted::Is(Request::SetupResponse),
+        Ask::SetupFailure => Wanted::Is(Request::SetupFailure(wait)),
         Ask::Nothing => Wanted::Lacking,
     }
 }
@@ -270,6 +336,7 @@ fn with_reset(s: &[u8], at: usize, x: Seen) -> Seen
     let c = x.mce;
     let g = x.tmgi;
     let v = x.session;
+    let z = x.wait;
     match reset_in(s, at) {
         MaybeReset::Absent => x,
         MaybeReset::Whole => Seen {
@@ -277,6 +344,7 @@ fn with_reset(s: &[u8], at: usize, x: Seen) -> Seen
             mce: c,
             tmgi: g,
             session: v,
+            wait: z,
             reset: MaybeReset::Whole,
         },
         MaybeReset::Part => Seen {
@@ -284,6 +352,7 @@ fn with_reset(s: &[u8], at: usize, x: Seen) -> Seen
             mce: c,
             tmgi: g,
             session: v,
+            wait: z,
             reset: MaybeReset::Part,
         },
     }
@@ -308,6 +377,8 @@ fn with_value(kind: Kind, s: &[u8], v: Span, x: Seen) -> Seen
         Kind::Cause => x,
         Kind::Acknowledged => x,
         Kind::Diagnostics => x,
+        Kind::Name => x,
+        Kind::Wait => with_wait(&s[..to], from, x),
     }
 }
 

@@ -24,7 +24,8 @@ use Rattle.octets.specs.declared.Span.{Span}
 use Rattle.octets.proofs.Chain.{then-got, same-got}
 use Rattle.octets.proofs.ManyLaws.{many-each}
 use Rattle.identity.specs.declared.Item.{Item}
-use Rattle.values.specs.Values.{mmeAt, mceAt, tmgiAt, sessionAt, causeAt}
+use Rattle.values.specs.Values.{mmeAt, mceAt, tmgiAt, sessionAt, causeAt, waitAt}
+use Rattle.names.specs.Names.{nameAt}
 use Rattle.diagnostics.specs.Diagnostics.{diagnosticsAt}
 use Rattle.item.specs.Item.{itemElementAt}
 use Rattle.items.specs.Items.{ResetType, whole, part, itemsAt, resetBy, resetAt}
@@ -185,6 +186,14 @@ module _ (s : List ℕ) (v : Span) where
   unfolding readAs listsOf
   cause-silent = silent-read kind.Cause causeAt value.cause refl (λ _ _. refl)
 
+  pub wait-silent : Silent (valueIn kind.Wait s v)
+  unfolding readAs listsOf
+  wait-silent = silent-read kind.Wait waitAt value.wait refl (λ _ _. refl)
+
+  pub name-silent : Silent (valueIn kind.Name s v)
+  unfolding readAs listsOf
+  name-silent = silent-read kind.Name nameAt value.name refl (λ _ _. refl)
+
   pub diagnostics-silent : Silent (valueIn kind.Diagnostics s v)
   unfolding readAs listsOf
   diagnostics-silent = silent-read kind.Diagnostics diagnosticsAt value.diagnostics refl (λ _ _. refl)
@@ -215,6 +224,8 @@ module _ (s : List ℕ) (v : Span) where
   left kind.Tmgi z = tmgi-silent
   left kind.Session z = session-silent
   left kind.Cause z = cause-silent
+  left kind.Wait z = wait-silent
+  left kind.Name z = name-silent
   left kind.ResetType z = reset-left (resetAt (take (v .to) s) (v .from)) (reset-some (take (v .to) s) (v .from)) (present v) z
   left kind.Acknowledged z = list-left (itemsAt (take (v .to) s) (v .from)) (λ is e. items-some (take (v .to) s) (v .from) is e) (present v) z
   left kind.Diagnostics z = diagnostics-silent
@@ -229,6 +240,8 @@ first-items (given (value.mce x)) vs h = absurd (omega arith)
 first-items (given (value.tmgi x)) vs h = absurd (omega arith)
 first-items (given (value.session x)) vs h = absurd (omega arith)
 first-items (given (value.cause x)) vs h = absurd (omega arith)
+first-items (given (value.wait x)) vs h = absurd (omega arith)
+first-items (given (value.name x)) vs h = absurd (omega arith)
 first-items (given (value.reset whole)) vs h = absurd (omega arith)
 first-items (given (value.reset (part is))) vs h = refl
 first-items (given (value.list is)) vs h = refl

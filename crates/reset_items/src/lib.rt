@@ -51,6 +51,8 @@ fn value_items(kind: Kind, s: &[u8], v: Span, words: &mut [u64]) -> usize
         Kind::Tmgi => 0,
         Kind::Session => 0,
         Kind::Cause => 0,
+        Kind::Wait => 0,
+        Kind::Name => 0,
         Kind::Diagnostics => 0,
     }
 }

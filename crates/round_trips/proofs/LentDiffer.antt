@@ -6,7 +6,7 @@ use mathlib.Core.Bool.{Bool, true, false, not}
 use mathlib.Core.List.{List, [], _∷_, _++_, append-assoc, map}
 use Prim.Native.Nat.{ℕ, _-_}
 use native.Mathlib.Omega.{arith}
-use borrow.Author.Tests.{leb-true, ltb-true}
+use borrow.Author.Tests.{leb-true, ltb-true, lt-ltb}
 use lib.Dec.{ltb, leb}
 use lib.ListN.{length, getD, drop, replicate}
 use lib.Seq.{slice, length-slice}
@@ -17,13 +17,14 @@ use Rattle.octets.specs.Stands.{Octets}
 use Rattle.octets.specs.declared.Span.{Span}
 use Rattle.lent.specs.Lent.{same}
 use Rattle.lent.proofs.Reading.{same-is}
+use Rattle.names.proofs.Allowed.{name-size}
 use Rattle.rows.specs.declared.Row.{Row}
 use Rattle.editions.specs.declared.Edition.{Edition}
 use Rattle.editions.specs.declared.Message.{Message}
 use Rattle.editions.specs.declared.Named.{Named}
 use Rattle.editions.specs.declared.Named.the-variants as named
 use Rattle.editions.specs.Editions.{tableOf, numberOf, numberedBy}
-use Rattle.meaning.specs.Value.{Value, Given, given, absent, carried, mme, mce, tmgi, session, cause, reset, list, diagnostics, octetsIn, onCarried, onGiven, Said, Record, saidBy, bare}
+use Rattle.meaning.specs.Value.{Value, Given, given, absent, carried, mme, mce, tmgi, session, cause, wait, name, reset, list, diagnostics, octetsIn, onCarried, onGiven, Said, Record, saidBy, bare}
 use Rattle.meaning.specs.Written.{hasOctets, elementsGood, octets, none, encoded}
 use Rattle.meaning.specs.Ranges.{Ranged}
 use Rattle.layout.specs.Rows.{itemRow, entryRow, listOctets}
@@ -98,6 +99,8 @@ module _ (values : List ℕ) where
   bare-value (tmgi v) h = refl
   bare-value (session v) h = refl
   bare-value (cause v) h = refl
+  bare-value (wait v) h = refl
+  bare-value (name v) h = ap (λ (n : ℕ). name (record { from = 0; to = n })) (length-in values v (lt-ltb 0 (length (octetsIn values v)) (name-size (octetsIn values v) h .0)))
   bare-value (reset v) h = refl
   bare-value (list v) h = refl
   bare-value (diagnostics v) h = refl

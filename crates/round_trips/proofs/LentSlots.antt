@@ -16,7 +16,7 @@ use Rattle.items.specs.Items.{whole, part}
 use Rattle.rows.specs.declared.Kind.{Kind}
 use Rattle.rows.specs.declared.Kind.the-variants as kind
 use Rattle.rows.specs.declared.Row.{Row}
-use Rattle.meaning.specs.Value.{Value, Given, given, absent, carried, mme, mce, tmgi, session, cause, reset, list, diagnostics, octetsIn, onCarried, onGiven}
+use Rattle.meaning.specs.Value.{Value, Given, given, absent, carried, mme, mce, tmgi, session, cause, wait, name, reset, list, diagnostics, octetsIn, onCarried, onGiven}
 use Rattle.meaning.specs.Ranges.{valueKind, Ranged}
 use Rattle.layout.specs.Rows.{unless0}
 use Rattle.layout.specs.Record.{Lists, listsOf, slotOf, slotOctets, slotSays, slotsSay}
@@ -37,6 +37,8 @@ slot-shown (mce v) = refl
 slot-shown (tmgi v) = refl
 slot-shown (session v) = refl
 slot-shown (cause v) = refl
+slot-shown (wait v) = refl
+slot-shown (name v) = let e : v .to - v .from - 0 ≡ v .to - v .from = omega arith in rw e
 slot-shown (reset whole) = refl
 slot-shown (reset (part is)) = refl
 slot-shown (list is) = refl
@@ -54,6 +56,8 @@ kind-said f (mce v) = refl
 kind-said f (tmgi v) = refl
 kind-said f (session v) = refl
 kind-said f (cause v) = refl
+kind-said f (wait v) = refl
+kind-said f (name v) = refl
 kind-said f (reset v) = refl
 kind-said f (list v) = refl
 kind-said f (diagnostics v) = refl
@@ -95,6 +99,8 @@ lists-shown (given (mce v) ∷ vs) = lists-shown vs
 lists-shown (given (tmgi v) ∷ vs) = lists-shown vs
 lists-shown (given (session v) ∷ vs) = lists-shown vs
 lists-shown (given (cause v) ∷ vs) = lists-shown vs
+lists-shown (given (wait v) ∷ vs) = lists-shown vs
+lists-shown (given (name v) ∷ vs) = lists-shown vs
 lists-shown (given (reset whole) ∷ vs) = lists-shown vs
 lists-shown (given (reset (part is)) ∷ vs) = rw (lists-shown vs)
 lists-shown (given (list is) ∷ vs) = rw (lists-shown vs)
@@ -110,6 +116,8 @@ carriedOf (given (mce v)) = []
 carriedOf (given (tmgi v)) = []
 carriedOf (given (session v)) = []
 carriedOf (given (cause v)) = []
+carriedOf (given (wait v)) = []
+carriedOf (given (name os)) = os ∷ []
 carriedOf (given (reset v)) = []
 carriedOf (given (list v)) = []
 carriedOf (given (diagnostics v)) = []
@@ -122,8 +130,7 @@ module _ (values : List ℕ) where
   abbrev saidThere : Bool → Value Span → Given (List ℕ)
   saidThere b v = onGiven (octetsIn values) (pick b absent (given v))
 
-  one-carried : (b : Bool) (v : Span) → pick b [] (octetsIn values v ∷ []) ≡ carriedOf (saidThere b (carried v))
-  unfolding onCarried
+  one-carried : (b : Bool) (v : Value Span) → pick b [] (carriedOf (given (onCarried (octetsIn values) v))) ≡ carriedOf (saidThere b v)
   one-carried true v = refl
   one-carried false v = refl
 
@@ -133,12 +140,14 @@ module _ (values : List ℕ) where
 
   slot-carries : (l : Lists) (k : Kind) (p : List ℕ) → pick (isCarried k) (unless0 p [] (carriedAt p values ∷ [])) [] ≡ carriedOf (saidThere (eqb (getD p 0 0) 0) (slotSays l k p))
   unfolding slotSays onCarried
-  slot-carries l kind.Carried p = one-carried (eqb (getD p 0 0) 0) _
+  slot-carries l kind.Carried p = one-carried (eqb (getD p 0 0) 0) (slotSays l kind.Carried p)
   slot-carries l kind.Mme p = not-carried (eqb (getD p 0 0) 0) (slotSays l kind.Mme p) refl
   slot-carries l kind.Mce p = not-carried (eqb (getD p 0 0) 0) (slotSays l kind.Mce p) refl
   slot-carries l kind.Tmgi p = not-carried (eqb (getD p 0 0) 0) (slotSays l kind.Tmgi p) refl
   slot-carries l kind.Session p = not-carried (eqb (getD p 0 0) 0) (slotSays l kind.Session p) refl
   slot-carries l kind.Cause p = not-carried (eqb (getD p 0 0) 0) (slotSays l kind.Cause p) refl
+  slot-carries l kind.Wait p = not-carried (eqb (getD p 0 0) 0) (slotSays l kind.Wait p) refl
+  slot-carries l kind.Name p = one-carried (eqb (getD p 0 0) 0) (slotSays l kind.Name p)
   slot-carries l kind.ResetType p = not-carried (eqb (getD p 0 0) 0) (slotSays l kind.ResetType p) refl
   slot-carries l kind.Acknowledged p = not-carried (eqb (getD p 0 0) 0) (slotSays l kind.Acknowledged p) refl
   slot-carries l kind.Diagnostics p = not-carried (eqb (getD p 0 0) 0) (slotSays l kind.Diagnostics p) refl

@@ -16,9 +16,13 @@ use Rattle.octets.specs.declared.Span.{Span}
 use Rattle.octets.proofs.Chain.{then-got, same-got}
 use Rattle.octets.proofs.Stood.{octets-front}
 use Rattle.octets.specs.Many.{Each}
-use Rattle.values.specs.Values.{mmeAt, mceAt, tmgiAt, sessionAt, causeAt}
-use Rattle.values.proofs.Again.{mme-again, mce-again, tmgi-again, session-again, cause-again}
-use Rattle.values.proofs.Good.{cause-good}
+use Rattle.values.specs.Values.{mmeAt, mceAt, tmgiAt, sessionAt, causeAt, waitAt}
+use Rattle.names.specs.Names.{nameAllowed, nameAt}
+use Rattle.names.specs.Written.{nameOctets}
+use Rattle.names.proofs.Good.{name-in, name-good}
+use Rattle.names.proofs.Again.{name-again}
+use Rattle.values.proofs.Again.{mme-again, mce-again, tmgi-again, session-again, cause-again, wait-again}
+use Rattle.values.proofs.Good.{cause-good, wait-good}
 use Rattle.items.specs.Items.{ResetType, whole, part, itemsAt, resetAt}
 use Rattle.items.specs.Written.{ignore, GoodReset}
 use Rattle.items.proofs.Again.{items-again, reset-again}
@@ -32,11 +36,11 @@ use Rattle.diagnostics.proofs.Again.{diagnostics-again}
 use Rattle.rows.specs.declared.Kind.{Kind}
 use Rattle.rows.specs.declared.Kind.the-variants as kind
 use Rattle.kinds.specs.Kinds.{valueAt}
-use Rattle.meaning.specs.Value.{Value, mme, mce, tmgi, session, cause, reset, list, diagnostics, octetsIn, onCarried}
+use Rattle.meaning.specs.Value.{Value, mme, mce, tmgi, session, cause, wait, name, reset, list, diagnostics, octetsIn, onCarried}
 use Rattle.meaning.specs.Written.{octetsOf, counted, resetGood, under3, entryGood, entriesGood, diagnosticsGood, hasOctets}
 use Rattle.meaning.specs.Reading.{readAs}
 use Rattle.round_trips.specs.Ties.{itemsMarked}
-use Rattle.round_trips.proofs.ValueBack.{scanned-as}
+use Rattle.round_trips.proofs.ValueBack.{front-in, scanned-as}
 
 -- a value of a kind that can be read is read
 pub read-as : (k : Kind) (s : List ℕ) (p : Span) → got tt ≡ valueAt k (take (p .to) s) (p .from) → (v : Value Span) × (got v ≡ readAs k s p)
@@ -45,6 +49,10 @@ read-as k s p q = let a = then-got (readAs k s p) _ (q ∙ scanned-as k s p) in 
 -- what holds of each value that a reading gives holds of the value that was read
 of-read : {A : Type 0} (P : Value Span → Type 0) (is : A → Value Span) (r : Read A) {v : Value Span} → got v ≡ r >>= (λ x. got (is x)) → ((a : A) → got a ≡ r → P (is a)) → P v
 of-read P is r q h = let a = then-got r _ q in subst P (sym (same-got (a .2))) (h (a .0) (a .1))
+
+-- a name that was read at a place has the same octets in the whole
+name-there : (s : List ℕ) (p v : Span) → p .to ≤ length s → got v ≡ nameAt (take (p .to) s) (p .from) → octetsIn (take (p .to) s) v ≡ octetsIn s v
+name-there s p v i e = let n = name-in (take (p .to) s) (p .from) e in front-in s (p .to) v (omega (arith, n .2, length-take-le (p .to) s i)) i
 
 module _ (s : List ℕ) (o : Octets s) (p : Span) where
   abbrev front : List ℕ
@@ -67,6 +75,10 @@ module _ (s : List ℕ) (o : Octets s) (p : Span) where
   value-again kind.Tmgi l i q m = of-read Filled tmgi (tmgiAt front (p .from)) q (λ a e. tmgi-again front (p .from) (octets-front s (p .to) o) e)
   value-again kind.Session l i q m = of-read Filled session (sessionAt front (p .from)) q (λ a e. session-again front (p .from) (octets-front s (p .to) o) e)
   value-again kind.Cause l i q m = of-read Filled cause (causeAt front (p .from)) q (λ a e. cause-again front (p .from) (octets-front s (p .to) o) e)
+  value-again kind.Wait l i q m = of-read Filled wait (waitAt front (p .from)) q (λ a e. wait-again front (p .from) (octets-front s (p .to) o) e)
+  value-again kind.Name l i q m =
+      of-read Filled name (nameAt front (p .from)) q
+      (λ a e. subst (λ (x : List ℕ). Fills front (p .from) (nameOctets x)) (name-there s p a i e) (name-again front (p .from) (octets-front s (p .to) o) e))
   value-again kind.ResetType l i q m = of-read Filled reset (resetAt front (p .from)) q (λ a e. reset-again front (p .from) (octets-front s (p .to) o) a e (m a e))
   value-again kind.Acknowledged l i q m = of-read Filled list (itemsAt front (p .from)) q (λ a e. items-again ignore front (p .from) (octets-front s (p .to) o) e m)
   value-again kind.Diagnostics l i q m =
@@ -118,6 +130,10 @@ module _ (s : List ℕ) (o : Octets s) (p : Span) where
   value-has kind.Tmgi l i q = of-read Has tmgi (tmgiAt (front s o p) (p .from)) q (λ a e. refl)
   value-has kind.Session l i q = of-read Has session (sessionAt (front s o p) (p .from)) q (λ a e. refl)
   value-has kind.Cause l i q = of-read Has cause (causeAt (front s o p) (p .from)) q (λ a e. lt-ltb _ _ (cause-good (front s o p) (p .from) e))
+  value-has kind.Wait l i q = of-read Has wait (waitAt (front s o p) (p .from)) q (λ a e. lt-ltb _ _ (wait-good (front s o p) (p .from) e))
+  value-has kind.Name l i q =
+      of-read Has name (nameAt (front s o p) (p .from)) q
+      (λ a e. subst (λ (x : List ℕ). nameAllowed x ≡ true) (name-there s p a i e) (name-good (front s o p) (p .from) e))
   value-has kind.ResetType l i q = of-read Has reset (resetAt (front s o p) (p .from)) q (λ a e. reset-has a (reset-good (front s o p) (p .from) (octets-front s (p .to) o) e))
   value-has kind.Acknowledged l i q =
       of-read Has list (itemsAt (front s o p) (p .from)) q

@@ -1,6 +1,6 @@
 -- A value's octets, where they end with what encloses them, are read back as the value; and they are at least one.
 -- Assumes nothing.
-use Prim.Native.Nat.{ℕ, _<_, _≤_}
+use Prim.Native.Nat.{ℕ, _+_, _<_, _≤_}
 use mathlib.Core.Path.{_≡_, _∙_, refl, sym, ap}
 use mathlib.Core.Bool.{Bool, true, false, _&&_}
 use mathlib.Core.List.{List, [], _∷_, map}
@@ -8,7 +8,7 @@ use native.Mathlib.Omega.{arith}
 use borrow.Author.Tests.{ltb-true, leb-true, lt-ltb, le-leb, not-true}
 use lib.Dec.{ltb, leb}
 use lib.ListN.{length, take, drop, length-drop}
-use lib.Seq.{take-all}
+use lib.Seq.{take-all, take-take, length-take-le}
 use Rattle.lists.specs.Lists.{pick}
 use Rattle.lists.proofs.Tests.{and-left, and-right}
 use Rattle.octets.specs.Read.{Read, got, stop, _>>=_, _>>_}
@@ -23,8 +23,11 @@ use Rattle.identity.specs.declared.MceId.{MceId}
 use Rattle.identity.specs.declared.Tmgi.{Tmgi}
 use Rattle.identity.specs.declared.Item.{Item}
 use Rattle.values.specs.declared.Cause.{Cause}
-use Rattle.values.specs.Values.{wholeAt, mmeAt, mceAt, tmgiAt, sessionAt, causeAt}
-use Rattle.values.proofs.Back.{mme-back, mce-back, tmgi-back, session-back, cause-back}
+use Rattle.values.specs.Values.{wholeAt, mmeAt, mceAt, tmgiAt, sessionAt, causeAt, waitAt}
+use Rattle.values.proofs.Back.{mme-back, mce-back, tmgi-back, session-back, cause-back, wait-back}
+use Rattle.names.specs.Names.{nameAt}
+use Rattle.names.proofs.Good.{name-in}
+use Rattle.names.proofs.Back.{name-back}
 use Rattle.items.specs.Items.{ResetType, whole, part, itemsAt, resetAt}
 use Rattle.items.specs.Written.{ignore, GoodReset}
 use Rattle.items.proofs.Back.{items-back, reset-back}
@@ -39,7 +42,7 @@ use Rattle.rows.specs.declared.Kind.{Kind}
 use Rattle.rows.specs.declared.Kind.the-variants as kind
 use Rattle.rows.specs.declared.Row.{Row}
 use Rattle.kinds.specs.Kinds.{valueAt}
-use Rattle.meaning.specs.Value.{Value, Given, onGiven, carried, mme, mce, tmgi, session, cause, reset, list, diagnostics, octetsIn, onCarried}
+use Rattle.meaning.specs.Value.{Value, Given, onGiven, carried, mme, mce, tmgi, session, cause, wait, name, reset, list, diagnostics, octetsIn, onCarried}
 use Rattle.meaning.specs.Written.{octetsOf, hasOctets, counted, under3, entryGood, entriesGood, diagnosticsGood, resetGood}
 use Rattle.meaning.specs.Reading.{readAs, valuesIn}
 use Rattle.octets.specs.declared.Span.{Span}
@@ -102,6 +105,12 @@ drop-filled s at os f =
     let l = length-drop at s in
     sym (take-all (length os) (drop at s) (omega arith)) ∙ f .stands .octets
 
+-- octets at a place in the front of s are those at that place in s
+pub front-in : (s : List ℕ) (n : ℕ) (v : Span) → v .to ≤ n → n ≤ length s → octetsIn (take n s) v ≡ octetsIn s v
+front-in s n v h i =
+    let l = length-take-le n s i in
+    rw (le-leb (v .to) (length (take n s)) (omega arith), le-leb (v .to) (length s) (omega arith), take-take (v .to) n s h)
+
 -- what stands at a place, as it is read and said
 abbrev pub saidAt : Kind → List ℕ → Span → Read (Value (List ℕ))
 saidAt k s p = readAs k s p >>= λ x. got (onCarried (octetsIn s) x)
@@ -119,6 +128,13 @@ value-back s p (mce v) g e h f = rw (sym (mce-back (take (p .to) s) (p .from) v 
 value-back s p (tmgi v) g e h f = rw (sym (tmgi-back (take (p .to) s) (p .from) v f)) refl
 value-back s p (session v) g e h f = rw (sym (session-back (take (p .to) s) (p .from) v g f)) refl
 value-back s p (cause v) g e h f = rw (sym (cause-back (take (p .to) s) (p .from) v (ltb-true _ _ e) f)) refl
+value-back s p (wait v) g e h f = rw (sym (wait-back (take (p .to) s) (p .from) v (ltb-true _ _ e) f)) refl
+value-back s p (name os) g e h f =
+    let b = name-back (take (p .to) s) (p .from) os e f in
+    let v : Span = record { from = p .from + 2; to = p .from + 2 + length os } in
+    let i = name-in (take (p .to) s) (p .from) {v = v} (b .0) in
+    let k : v .to ≤ p .to = omega (arith, i .2, length-take-le (p .to) s h) in
+    rw (sym (b .0)) (ap (λ (x : List ℕ). got (name x)) (sym (b .1) ∙ front-in s (p .to) v k h))
 value-back s p (reset v) g e h f = rw (sym (reset-back (take (p .to) s) (p .from) v (reset-has v g e) f)) refl
 value-back s p (list is) g e h f =
     let b = counted-bounds (length is) e in
@@ -139,6 +155,8 @@ scanned-as kind.Mce s p = dropped mce (mceAt (take (p .to) s) (p .from))
 scanned-as kind.Tmgi s p = dropped tmgi (tmgiAt (take (p .to) s) (p .from))
 scanned-as kind.Session s p = dropped session (sessionAt (take (p .to) s) (p .from))
 scanned-as kind.Cause s p = dropped cause (causeAt (take (p .to) s) (p .from))
+scanned-as kind.Wait s p = dropped wait (waitAt (take (p .to) s) (p .from))
+scanned-as kind.Name s p = dropped name (nameAt (take (p .to) s) (p .from))
 scanned-as kind.ResetType s p = dropped reset (resetAt (take (p .to) s) (p .from))
 scanned-as kind.Acknowledged s p = dropped list (itemsAt (take (p .to) s) (p .from))
 scanned-as kind.Diagnostics s p = dropped diagnostics (diagnosticsAt (take (p .to) s) (p .from))
@@ -176,6 +194,14 @@ module _ (at : ℕ) where
   unfolding causeAt
   cause-none v q = plain-none _ q
 
+  pub wait-none : (v : ℕ) → got v ≡ waitAt [] at → ⊥
+  unfolding waitAt
+  wait-none v q = plain-none _ q
+
+  pub name-none : (v : Span) → got v ≡ nameAt [] at → ⊥
+  unfolding nameAt
+  name-none v q = plain-none _ q
+
   pub reset-none : (v : ResetType) → got v ≡ resetAt [] at → ⊥
   unfolding resetAt
   reset-none v q = plain-none _ q
@@ -197,6 +223,8 @@ some-octets (mce v) e z q = mce-none 0 _ (then-got (mceAt [] 0) _ q .1)
 some-octets (tmgi v) e z q = tmgi-none 0 _ (then-got (tmgiAt [] 0) _ q .1)
 some-octets (session v) e z q = session-none 0 _ (then-got (sessionAt [] 0) _ q .1)
 some-octets (cause v) e z q = cause-none 0 _ (then-got (causeAt [] 0) _ q .1)
+some-octets (wait v) e z q = wait-none 0 _ (then-got (waitAt [] 0) _ q .1)
+some-octets (name os) e z q = name-none 0 _ (then-got (nameAt [] 0) _ q .1)
 some-octets (reset v) e z q = reset-none 0 _ (then-got (resetAt [] 0) _ q .1)
 some-octets (list is) e z q = items-none 0 _ (then-got (itemsAt [] 0) _ q .1)
 some-octets (diagnostics d) e z q = diagnostics-none 0 _ (then-got (diagnosticsAt [] 0) _ q .1)

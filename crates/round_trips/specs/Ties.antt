@@ -35,6 +35,8 @@ itemsMarked kind.Mce s at = Unit
 itemsMarked kind.Tmgi s at = Unit
 itemsMarked kind.Session s at = Unit
 itemsMarked kind.Cause s at = Unit
+itemsMarked kind.Wait s at = Unit
+itemsMarked kind.Name s at = Unit
 itemsMarked kind.Diagnostics s at = Unit
 
 abbrev pub rowById : List Row → ℕ → Row

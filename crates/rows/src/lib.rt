@@ -12,6 +12,10 @@ pub enum Kind {
     Tmgi,
     Session,
     Cause,
+    // Time to Wait
+    Wait,
+    // MCE Name
+    Name,
     ResetType,
     Acknowledged,
     Diagnostics,

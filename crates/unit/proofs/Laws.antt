@@ -2,8 +2,8 @@
 -- Assumes nothing.
 use Prim.Native.Nat.{ℕ, _≤_}
 use mathlib.Core.Path.{_≡_, refl, sym, ap, subst, _∙_}
-use mathlib.Core.Bool.{Bool, true, false, _&&_, true≢false}
-use mathlib.Core.List.{List, [], _∷_, _++_, map}
+use mathlib.Core.Bool.{Bool, true, false, not, _&&_, true≢false}
+use mathlib.Core.List.{List, [], _∷_, _++_, map, List·Memᴰ·not-nil}
 use native.Mathlib.Omega.{arith}
 use borrow.Author.Tests.{le-leb, leb-true, leb-false}
 use lib.Dec.{leb}
@@ -25,19 +25,19 @@ use Rattle.frames.specs.declared.Frame.{Frame}
 use Rattle.table.specs.declared.Association.{Association}
 use Rattle.table.specs.declared.Table.{Table}
 use Rattle.table.specs.declared.Standing.{Standing}
-use Rattle.table.specs.Table.{State, held, tableOf, holding, starting}
+use Rattle.table.specs.Table.{State, held, tableOf, holding, starting, distinctHeld}
 use Rattle.table.specs.Table as table
 use Rattle.table.proofs.Rows.{held-of}
 use Rattle.table.proofs.Rules.{appended, not-appended}
 use Rattle.table.proofs.Holding.{holding-of}
 use Rattle.lent.specs.declared.Looked.{Looked}
 use Rattle.lent.specs.declared.Looked.the-variants as looked
-use Rattle.lent.specs.Lent.{Held, readTable, firstRows, tableOctets}
+use Rattle.lent.specs.Lent.{Held, Good, readTable, firstRows, tableOctets}
 use Rattle.lent.proofs.OneForm.{one-form}
 use Rattle.units.specs.Unit as units
-use Rattle.units.specs.Unit.{withHeld, unitOctets, saidUnit, MaybeUnit, isUnit, noUnit, readUnit, lookedIn}
+use Rattle.units.specs.Unit.{withHeld, withOpen, unitOctets, openIn, openOut, saidUnit, MaybeUnit, isUnit, noUnit, readUnit, lookedIn}
 use Rattle.units.proofs.Parts.{read-unit}
-use Rattle.units.proofs.OneForm.{one-unit, table-of, marks-of}
+use Rattle.units.proofs.OneForm.{one-unit, table-of, marks-of, mark-put}
 use Rattle.put_table.specs.Out.{tableOut}
 use Rattle.put_table.proofs.Back.{written-back}
 use Rattle.item_words.specs.Words.{itemOf}
@@ -69,9 +69,9 @@ use Rattle.carry.specs.Carry.{startRejected, rejection, ruledBy, ruling, starte
 use Rattle.put_reply.specs.declared.Sent.{Sent}
 use Rattle.put_reply.specs.declared.Sent.the-variants.{Done, NoRoom}
 use Rattle.put_reply.specs.Parts.{Sending, sentIn, Sends}
-use Rattle.calls.specs.Judged.{ruled, judgedBy}
+use Rattle.calls.specs.Judged.{ruled, judgedBy, setupAnswer}
 use Rattle.calls.specs.Decided.{Decided, keeps, changed, applied, decided}
-use Rattle.calls.specs.Call.{Call, Back, onUnit, replyOf, answerOf, unitAfter, settled, call}
+use Rattle.calls.specs.Call.{Call, Back, decidedOn, onUnit, replyOf, answerOf, unitAfter, settled, call}
 use Rattle.unit.specs.declared.Back as back
 use Rattle.unit.specs.Unit.{bareOn, unitIn, HasRows, listsItems, NoneListed, resets, carriedOn, settledOn, Called}
 use Rattle.unit.proofs.Items.{without-kept}
@@ -100,6 +100,8 @@ module _ (e : Edition) where
   reply-of l is r (change.Stops m c) = refl
   reply-of l is r change.Empties = refl
   reply-of l is r change.Resets = refl
+  reply-of l is r change.SetsUp = refl
+  reply-of l is r (change.SetupFails w) = refl
 
   -- by the arm of what was sent
   pub sent-put : (d : List ℕ) (l : units.Unit) (is : List Item) (r : Replied) (y : Change) {x w : Sent} {m : List ℕ} → x ≡ w → Sends (sentIn d (replyOctets e r)) x m → Put d (replyOf e (changed l is r y)) w m
@@ -131,6 +133,8 @@ none-rejected ask.Start x why = by (x .mme)
 none-rejected ask.Stop x why = refl
 none-rejected ask.Reset x why = refl
 none-rejected ask.Indication x why = refl
+none-rejected ask.SetupResponse x why = refl
+none-rejected ask.SetupFailure x why = refl
 none-rejected ask.Nothing x why = refl
 
 none-refused : (a : Ask) (x : Seen) (o : Outcome) → NoneListed (ruling a x o)
@@ -163,6 +167,8 @@ module _ (k : Standing) (c : MceId) where
   carried-agrees request.Whole = refl
   carried-agrees request.Part = refl
   carried-agrees request.Indication = refl
+  carried-agrees request.SetupResponse = refl
+  carried-agrees (request.SetupFailure w) = refl
 
   agrees : (r : Ruling) → NoneListed r → Agrees (decision k c r)
   agrees (Granted q) n = carried-agrees q
@@ -188,6 +194,8 @@ changed-any l is js r (change.Starts a) q = refl
 changed-any l is js r (change.Stops m c) q = refl
 changed-any l is js r change.Empties q = refl
 changed-any l is js r change.Resets q = absurd (true≢false q)
+changed-any l is js r change.SetsUp q = refl
+changed-any l is js r (change.SetupFails w) q = refl
 
 changed-kept : (l : units.Unit) (is : List Item) (r : Replied) (x : Change) → changed l (keep hasIdentity is) r x ≡ changed l is r x
 changed-kept l is r (change.Stays a) = refl
@@ -195,6 +203,8 @@ changed-kept l is r (change.Starts a) = refl
 changed-kept l is r (change.Stops m c) = refl
 changed-kept l is r change.Empties = refl
 changed-kept l is r change.Resets = rw (without-kept is (l .held))
+changed-kept l is r change.SetsUp = refl
+changed-kept l is r (change.SetupFails w) = refl
 
 module _ (e : Edition) (l : units.Unit) (f : Frame) (is : List Item) (es : List Entry) (d : Decision) where
   -- by the items that have an identity
@@ -261,6 +271,17 @@ module _ (n : ℕ) (t : List ℕ) (h : HasRows n t) where
   put-start a p q r =
       let s = start-front a l (h .1) in
       put-from n (starting a l) (omega (arith, h .1)) (s .0) (s .1) (held-then (starting a) p q) r
+
+  -- and then the mark of a setup request
+  pub put-set-up : {s t′ : List ℕ} → s ≡ unitOctets (withHeld (λ y. []) (unitIn n t)) → t′ ≡ openOut false s → t′ ≡ unitOctets (withOpen false (withHeld (λ y. []) (unitIn n t)))
+  unfolding distinctHeld
+  put-set-up e q =
+      let u : units.Unit = withHeld (λ y. []) (unitIn n t) in
+      let g : Good [] = record { few = omega arith; apart = refl; each = λ a m. absurd (List·Memᴰ·not-nil m) } in
+      q ∙ (ap (openOut false) e ∙ mark-put (unitOctets u) u (one-unit .back u (record { held = g })) false)
+
+  pub put-closed : {t′ : List ℕ} → t′ ≡ openOut false t → t′ ≡ unitOctets (withOpen false (unitIn n t))
+  put-closed q = q ∙ mark-put t (unitIn n t) (h .0) false
 
 -- the rows by value, and what a reset leaves of them
 pub reset-rows : (l : State) (is : List Item) {t u : Table} → t ≡ tableOf l → u ≡ tableOf (table.without is (held t)) → u ≡ tableOf (table.without is l)
@@ -352,11 +373,28 @@ module _ (e : Edition) (t : List ℕ) (c : Call) where
       by (isUnit u) = rw (le-leb 0 (length (c .room)) (omega arith)) (record { answer = refl; octets = refl; unit = refl; room = refl })
       by noUnit = record { answer = refl; octets = refl; unit = refl; room = refl }
 
-  pub called : {v : Verdict} → readOf e asks (c .message) ≡ v → {r : back.Back} {t′ d′ : List ℕ} → Called (settledOn e t c v (readUnit t)) r t′ d′ → Called (call e t c) r t′ d′
-  unfolding call
-  called {v} p {r} {t′} {d′} h =
-      subst (λ (b : Back). Called b r t′ d′) (same (readUnit t)) (subst (λ (x : Verdict). Called (settledOn e t c x (readUnit t)) r t′ d′) (sym p) h)
+  -- the mark is the unit's
+  is-open : (u : units.Unit) → readUnit t ≡ isUnit u → openIn t ≡ u .isOpen
+  is-open u q = ap (λ (x : units.Unit). x .isOpen) (read-unit t q .1)
+
+  -- where 14 is not due
+  pub called : {v : Verdict} → readOf e asks (c .message) ≡ v → (setupAnswer e (c .message) && not (openIn t)) ≡ false → {r : back.Back} {t′ d′ : List ℕ}
+      → Called (settledOn e t c v (readUnit t)) r t′ d′ → Called (call e t c) r t′ d′
+  unfolding call decidedOn
+  called {v} p n {r} {t′} {d′} h =
+      subst (λ (b : Back). Called b r t′ d′) (same (readUnit t) refl) (subst (λ (x : Verdict). Called (settledOn e t c x (readUnit t)) r t′ d′) (sym p) h)
     where
-      same : (y : MaybeUnit) → settledOn e t c (readOf e asks (c .message)) y ≡ onUnit e t c y
-      same (isUnit u) = refl
-      same noUnit = refl
+      same : (y : MaybeUnit) → readUnit t ≡ y → settledOn e t c (readOf e asks (c .message)) y ≡ onUnit e t c y
+      same (isUnit u) q = rw (ap (λ (b : Bool). setupAnswer e (c .message) && not b) (sym (is-open u q)) ∙ n)
+      same noUnit q = refl
+
+  -- where it is
+  pub not-asked-for : (setupAnswer e (c .message) && not (openIn t)) ≡ true → {r : back.Back} → r ≡ bareOn (readUnit t) answer.NoneOpen → Called (call e t c) r t (c .room)
+  unfolding call decidedOn settled replyOctets
+  not-asked-for n {r} q = rw q (by (readUnit t) refl)
+    where
+      by : (y : MaybeUnit) → readUnit t ≡ y → Called (onUnit e t c y) (bareOn y answer.NoneOpen) t (c .room)
+      by (isUnit u) k =
+          rw (ap (λ (b : Bool). setupAnswer e (c .message) && not b) (sym (is-open u k)) ∙ n, le-leb 0 (length (c .room)) (omega arith))
+          (record { answer = refl; octets = refl; unit = refl; room = refl })
+      by noUnit k = record { answer = refl; octets = refl; unit = refl; room = refl }

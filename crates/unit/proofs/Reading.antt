@@ -23,6 +23,7 @@ use Rattle.rows.specs.declared.Rows.{Rows}
 use Rattle.rows.specs.Table.{rowsIn}
 use Rattle.editions.specs.declared.Edition.{Edition}
 use Rattle.editions.specs.declared.Message.{Message}
+use Rattle.editions.specs.declared.Named.{Named}
 use Rattle.editions.specs.declared.Named.the-variants as named
 use Rattle.editions.specs.Editions.{tableOf, rowsOf, namedBy}
 use Rattle.editions.proofs.Tables.{Fits, rows-fit, table-lawful, lawful-count}
@@ -42,7 +43,7 @@ use Rattle.table.specs.Table.{standing}
 use Rattle.units.specs.Unit.{Unit}
 use Rattle.carry.specs.declared.Ruling.{Ruling}
 use Rattle.carry.specs.Carry.{ruling, askedBy, decision}
-use Rattle.calls.specs.Judged.{judgedBy}
+use Rattle.calls.specs.Judged.{judgedBy, isAnswer, setupAnswer}
 use Rattle.calls.specs.Decided.{applied, decided}
 use Rattle.unit.proofs.Laws.{none-listed, ruled-applied}
 use Rattle.unit.specs.Unit.{NumbersFit}
@@ -54,12 +55,25 @@ module _ (e : Edition) (s : List ℕ) where
   unfolding readOf
   too-long h = rw (lt-ltb 8192 (length s) h)
 
+  -- what is no message answers no setup request
+  pub long-answers : 8192 < length s → setupAnswer e s ≡ false
+  unfolding setupAnswer
+  long-answers h = rw (lt-ltb 8192 (length s) h)
+
   module _ (h : length s ≤ 8192) where
     pub frame-stops : {x : Stop} → stop x ≡ frameAt s → readOf e asks s ≡ refused (refusal.Stopped x)
     unfolding readOf
     frame-stops q = rw (le-ltb 8192 (length s) h, ← q)
 
+    pub stopped-answers : {x : Stop} → stop x ≡ frameAt s → setupAnswer e s ≡ false
+    unfolding setupAnswer
+    stopped-answers q = rw (le-ltb 8192 (length s) h, ← q)
+
     module _ (f : Frame) (q : got f ≡ frameAt s) where
+      pub named-answers : {n : Named} → n ≡ namedBy e (f .kind) (f .code) → setupAnswer e s ≡ isAnswer e n
+      unfolding setupAnswer
+      named-answers n = rw (le-ltb 8192 (length s) h, ← q, ← n)
+
       framed-by : readOf e asks s ≡ ofThose e asks s f (namedBy e (f .kind) (f .code))
       unfolding readOf
       framed-by = rw (le-ltb 8192 (length s) h, ← q)

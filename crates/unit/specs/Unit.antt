@@ -63,6 +63,8 @@ resets (change.Starts a) = false
 resets (change.Stops m c) = false
 resets change.Empties = false
 resets change.Resets = true
+resets change.SetsUp = false
+resets (change.SetupFails w) = false
 
 -- what comes back, by what the unit's octets say and what is decided on it
 abbrev pub carriedOn : Edition → List ℕ → List ℕ → (units.Unit → Decided) → MaybeUnit → Back

@@ -1,7 +1,7 @@
 // The table call: a unit, a message, an offered identity and room for a reply in; one numbered answer out.
 ghost use mathlib.Core.Path.{_≡_};
 ghost use mathlib.Core.List.{map};
-ghost use mathlib.Core.Bool.{_&&_};
+ghost use mathlib.Core.Bool.{not, _&&_};
 ghost use lib.Dec.{leb};
 ghost use lib.ListN.{length, take};
 ghost use Rattle.lent.specs.Lent.{firstRows};
@@ -10,7 +10,8 @@ ghost use Rattle.octets.specs.Many.{Each};
 ghost use Rattle.item_words.specs.Words.{itemOf};
 ghost use Rattle.entry_words.specs.EntryWords.{entryBy};
 ghost use Rattle.places.specs.Places.{spansIn};
-ghost use Rattle.units.specs.Unit.{readUnit};
+ghost use Rattle.units.specs.Unit.{openIn, readUnit};
+ghost use Rattle.requests.specs.Requests.{askOf, answersSetup};
 ghost use Rattle.rows.specs.Table.{rowsIn};
 ghost use Rattle.editions.specs.Editions.{tableOf};
 ghost use Rattle.meaning.specs.Reading.{valuesIn};
@@ -111,6 +112,15 @@ fn finish(change: Change, n: usize, kept: &[u64], unit: &mut [u8], octets: usize
             units::table_out(reset::reset(t, kept), 0, unit);
             hand_back(Answer::CarriedOut, octets)
         }
+        Change::SetsUp => {
+            units::table_out(table::empty(), 0, unit);
+            units::put_open(false, unit);
+            hand_back(Answer::CarriedOut, octets)
+        }
+        Change::SetupFails(w) => {
+            units::put_open(false, unit);
+            hand_back(Answer::SetupFailed(w), octets)
+        }
     }
 }
 
@@ -145,6 +155,8 @@ fn is_reset(x: Change) -> bool
         Change::Stops(_, _) => false,
         Change::Empties => false,
         Change::Resets => true,
+        Change::SetsUp => false,
+        Change::SetupFails(_) => false,
     }
 }
 
@@ -260,7 +272,17 @@ fn asked(
     }
 }
 
-// What one message does: over 8,192 octets; the frame; a request; what is inside, the unit.
+// The message answers a setup request, and none is open.
+fn is_unasked(m: Message, unit: &[u8]) -> bool
+    ensures { λ r. ⌜ r ≡ (answersSetup (askOf m) && not (openIn (now (unit .entry)))) ⌝ }
+{
+    if requests::answers_setup(m) {
+        return !units::is_open(unit);
+    }
+    false
+}
+
+// What one message does: over 8,192 octets; the frame; a request, or the answer to one that is open; what is inside, the unit.
 pub fn call(e: Edition, unit: &mut [u8], message: &[u8], offered: MceId, room: &mut [u8]) -> Back
     ensures { λ r. ⌜ Called (call e (now (unit .entry)) (record { message = now (message .entry); offered = offered; room = now (room .entry) })) r (now (unit .exit)) (now (room .exit)) ⌝ }
 {
@@ -270,6 +292,9 @@ pub fn call(e: Edition, unit: &mut [u8], message: &[u8], offered: MceId, room: &
     match frames::frame_at(message) {
         FrameRead::Is(f) => match editions::message_of(e, f.kind, f.code) {
             Named::Is(m) => {
+                if is_unasked(m, unit) {
+                    return bare(unit, Answer::NoneOpen);
+                }
                 if requests::asks(m) {
                     return asked(e, m, f, unit, message, offered, room);
                 }

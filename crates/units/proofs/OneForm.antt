@@ -1,17 +1,19 @@
 -- A unit has one form: what is said comes first, and why below.
 use Prim.Native.Nat.{ℕ}
 use mathlib.Core.Path.{_≡_, refl, ap, sym, _∙_}
-use mathlib.Core.List.{List}
+use mathlib.Core.Bool.{Bool}
+use mathlib.Core.List.{List, [], _∷_, _++_, append-assoc}
 use native.Mathlib.Omega.{arith}
-use lib.ListN.{length, take, drop, replicate}
+use lib.ListN.{length, take, drop, replicate, length-append}
+use lib.Seq.{set-at}
 use Rattle.octets.specs.Stands.{StaysDifferent}
 use Rattle.table.specs.Table.{State}
 use Rattle.lent.specs.Lent.{tableOctets, rowsOctets, said, Held, readTable, firstRows}
 use Rattle.lent.proofs.OneForm.{one-form}
-use Rattle.lent.proofs.Reading.{is-table, held-table}
+use Rattle.lent.proofs.Reading.{is-table, held-table, length-table}
 use Rattle.octets.specs.Write.{numberOctets}
-use Rattle.units.specs.Unit.{Unit, fresh, markOctets, unitOctets, saidUnit, isUnit, noUnit, readUnit, GoodUnit}
-use Rattle.units.proofs.Parts.{Formed, front-part, unit-size, is-unit, read-unit, table-in, marks-are}
+use Rattle.units.specs.Unit.{Unit, fresh, withOpen, openOctet, openOut, markOctets, openIn, unitOctets, saidUnit, isUnit, noUnit, readUnit, GoodUnit}
+use Rattle.units.proofs.Parts.{Formed, front-part, mark-part-said, unit-size, is-unit, read-unit, table-in, marks-are}
 
 pub record OneUnit : Type 0 where
   pub size : (u : Unit) → GoodUnit u → length (unitOctets u) ≡ 3088
@@ -51,7 +53,8 @@ back-is : (u : Unit) → GoodUnit u → readUnit (unitOctets u) ≡ isUnit u
 back-is u g =
     let t = held-table (tableOctets (u .held)) (one-form .back (u .held) (g .held)) in
     let h : said (take 3074 (unitOctets u)) ≡ u .held = ap said (front-part u (g .held .few)) ∙ t .1 in
-    let e : saidUnit (unitOctets u) ≡ u = ap (λ (x : State). record { held = x }) h in
+    let o : openIn (unitOctets u) ≡ u .isOpen = mark-part-said u (g .held .few) in
+    let e : saidUnit (unitOctets u) ≡ u = λ i. record { held = h i; isOpen = o i } in
     is-unit (unitOctets u) (record { few = rw h (g .held .few); apart = rw h (g .held .apart); octets = ap unitOctets e }) ∙ ap isUnit e
 
 same-unit : {u v : Unit} → isUnit u ≡ isUnit v → u ≡ v
@@ -69,3 +72,13 @@ one-unit = record {
   one = λ s t u p q. sym (again-is s u p) ∙ again-is t u q;
   zero = refl;
 }
+
+-- the mark of a setup request put into a unit's octets: that changes, and nothing else
+pub mark-put : (s : List ℕ) (u : Unit) → readUnit s ≡ isUnit u → (b : Bool) → openOut b s ≡ unitOctets (withOpen b u)
+unfolding unitOctets
+mark-put s u q b =
+    let t = tableOctets (u .held) in
+    let few = good-is s u q .held .few in
+    let n : length (t ++ (0 ∷ 0 ∷ [])) ≡ 3076 = rw (length-append, length-table (u .held) few) in
+    let front : (x : ℕ) → (t ++ (0 ∷ 0 ∷ [])) ++ (x ∷ replicate 11 0) ≡ t ++ (0 ∷ 0 ∷ x ∷ replicate 11 0) = λ x. append-assoc t (0 ∷ 0 ∷ []) (x ∷ replicate 11 0) in
+    ap (openOut b) (sym (again-is s u q) ∙ sym (front (openOctet (u .isOpen)))) ∙ (set-at (t ++ (0 ∷ 0 ∷ [])) (openOctet (u .isOpen)) (replicate 11 0) (openOctet b) 3076 n ∙ front (openOctet b))

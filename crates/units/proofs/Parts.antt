@@ -1,14 +1,14 @@
 -- Octets are a unit exactly if those in front are a table and those behind are the marks.
 -- Assumes nothing.
-use Prim.Native.Nat.{ℕ, min, _≤_}
-use mathlib.Core.Path.{_≡_, refl, ap, sym, _∙_}
+use Prim.Native.Nat.{ℕ, zero, suc, min, _≤_}
+use mathlib.Core.Path.{_≡_, refl, ap, sym, subst, _∙_}
 use mathlib.Core.Bool.{Bool, true, false, _&&_}
-use mathlib.Core.List.{List, _++_}
+use mathlib.Core.List.{List, _∷_, _++_}
 use native.Mathlib.Omega.{arith}
 use borrow.Author.Tests.{leb-true, leb-false, le-leb}
-use lib.Dec.{leb}
-use lib.ListN.{length, take, drop, replicate, length-append, length-drop, take-append-drop, drop-of-length-le}
-use lib.Seq.{take-at, drop-at}
+use lib.Dec.{leb, eqb}
+use lib.ListN.{length, take, drop, getD, replicate, length-append, length-drop, take-append-drop, drop-of-length-le}
+use lib.Seq.{take-at, drop-at, drop-cons, getD-drop, drop-drop, length-take-le}
 use Rattle.lists.specs.Lists.{pick}
 use Rattle.lists.proofs.Tests.{and-left, and-right}
 use Rattle.lists.proofs.Slices.{take-within}
@@ -18,7 +18,7 @@ use Rattle.lent.specs.Tests.{zeros}
 use Rattle.lent.proofs.Zeros.{zeros-are, are-zeros}
 use Rattle.lent.proofs.Reading as table
 use Rattle.lent.proofs.Reading.{same-self, same-is, length-table, held-table, is-table}
-use Rattle.units.specs.Unit.{Unit, unitOctets, markOctets, saidUnit, goodUnit, MaybeUnit, isUnit, noUnit, readUnit, onFront}
+use Rattle.units.specs.Unit.{Unit, unitOctets, openOctet, markOctets, openIn, saidUnit, goodUnit, MaybeUnit, isUnit, noUnit, readUnit, onFront}
 
 -- the parts of a unit's octets
 module _ (u : Unit) (few : length (u .held) ≤ 256) where
@@ -30,14 +30,45 @@ module _ (u : Unit) (few : length (u .held) ≤ 256) where
   unfolding unitOctets
   mark-part = drop-at (tableOctets (u .held)) (markOctets u) 3074 (length-table (u .held) few)
 
+  pub mark-part-said : openIn (unitOctets u) ≡ u .isOpen
+  mark-part-said = ap (λ (n : ℕ). eqb n 1) (sym (getD-drop 3074 (unitOctets u) 2 0) ∙ ap (λ (m : List ℕ). getD m 2 0) mark-part) ∙ by (u .isOpen)
+    where
+      by : (b : Bool) → eqb (openOctet b) 1 ≡ b
+      by true = refl
+      by false = refl
+
   pub unit-size : length (unitOctets u) ≡ 3088
   unfolding unitOctets
   unit-size = rw (length-append, length-table (u .held) few)
 
--- the unit of a table, with no mark
-abbrev pub unitBy : Lent → MaybeUnit
-unitBy (Held l) = isUnit (record { held = l })
-unitBy NoTable = noUnit
+-- the unit of a table, with its mark
+abbrev pub unitBy : Bool → Lent → MaybeUnit
+unitBy b (Held l) = isUnit (record { held = l; isOpen = b })
+unitBy b NoTable = noUnit
+
+-- the marks: two octets of zero, one that is 0 or 1, zeros
+pub record Marked (s : List ℕ) : Type 0 where
+  pub front : zeros (take 2 (drop 3074 s)) ≡ true
+  pub mark : getD s 3076 0 ≤ 1
+  pub behind : zeros (drop 3077 s) ≡ true
+
+mark-is : (n : ℕ) → n ≤ 1 → n ≡ openOctet (eqb n 1)
+mark-is zero h = refl
+mark-is (suc zero) h = refl
+mark-is (suc (suc n)) h = absurd (omega arith)
+
+small-mark : (b : Bool) → openOctet b ≤ 1
+small-mark true = omega arith
+small-mark false = omega arith
+
+marks-said : (s : List ℕ) → length s ≡ 3088 → Marked s → drop 3074 s ≡ markOctets (saidUnit s)
+marks-said s n m =
+    let long : length (drop 3074 s) ≡ 14 = rw (length-drop, n) in
+    let two : take 2 (drop 3074 s) ≡ replicate 2 0 = zeros-are (take 2 (drop 3074 s)) (m .front) ∙ ap (λ (k : ℕ). replicate k 0) (length-take-le 2 (drop 3074 s) (subst (λ (k : ℕ). 2 ≤ k) (sym long) (omega arith))) in
+    let rest : drop 3077 s ≡ replicate 11 0 = zeros-are (drop 3077 s) (m .behind) ∙ rw (length-drop, n) in
+    let last : drop 2 (drop 3074 s) ≡ openOctet (openIn s) ∷ replicate 11 0 =
+    drop-drop 2 3074 s ∙ (drop-cons s 3076 0 (omega (arith, n)) ∙ (λ i. mark-is (getD s 3076 0) (m .mark) i ∷ rest i)) in
+    sym (take-append-drop 2 (drop 3074 s)) ∙ (λ i. two i ++ last i)
 
 pub record Formed (s : List ℕ) : Type 0 where
   pub few : length (saidUnit s .held) ≤ 256
@@ -92,30 +123,32 @@ module _ (s : List ℕ) where
     pub table-in : table.Formed (take 3074 s)
     table-in = record { few = t .few; apart = t .apart; octets = front-is }
 
-    none-set : zeros (drop 3074 s) ≡ true
-    none-set = rw marks-are (are-zeros 14)
+    pub is-marked : Marked s
+    unfolding zeros
+    is-marked = record {
+      front = rw marks-are refl;
+      mark = rw (← getD-drop 3074 s 2 0, marks-are) (small-mark (openIn s));
+      behind = rw (← drop-drop 3 3074 s, marks-are) refl;
+    }
 
   -- ---- by the parts
 
   pub not-long : (length s ≡ 3088 → ⊥) → readUnit s ≡ noUnit
   not-long h = no-unit (λ t. h (is-long t))
 
-  pub marked : zeros (drop 3074 s) ≡ false → readUnit s ≡ noUnit
-  marked h = no-unit (λ t. let z : true ≡ false = sym (none-set t) ∙ h in let o : _≡_ {A = ℕ} 0 1 = cc in omega arith)
+  pub not-marked : (Marked s → ⊥) → readUnit s ≡ noUnit
+  not-marked h = no-unit (λ t. h (is-marked t))
 
-  -- the table in front decides, where no mark is set
-  pub by-table : length s ≡ 3088 → zeros (drop 3074 s) ≡ true → readUnit s ≡ unitBy (readTable (take 3074 s))
+  -- the table in front decides, where the marks are right
+  pub by-table : length s ≡ 3088 → Marked s → readUnit s ≡ unitBy (openIn s) (readTable (take 3074 s))
   unfolding unitOctets
   by-table n z = by (readTable (take 3074 s)) refl
     where
-      marks : drop 3074 s ≡ replicate 14 0
-      marks = zeros-are (drop 3074 s) z ∙ rw (length-drop, n)
-
       whole : table.Formed (take 3074 s) → Formed s
-      whole t = record { few = t .few; apart = t .apart; octets = ap (λ (x : List ℕ). x ++ replicate 14 0) (t .octets) ∙ (ap (λ (x : List ℕ). take 3074 s ++ x) (sym marks) ∙ take-append-drop 3074 s) }
+      whole t = record { few = t .few; apart = t .apart; octets = ap (λ (x : List ℕ). x ++ markOctets (saidUnit s)) (t .octets) ∙ (ap (λ (x : List ℕ). take 3074 s ++ x) (sym (marks-said s n z)) ∙ take-append-drop 3074 s) }
 
-      by : (x : Lent) → readTable (take 3074 s) ≡ x → readUnit s ≡ unitBy x
-      by (Held l) q = let t = held-table (take 3074 s) q in is-unit (whole (t .0)) ∙ ap (λ (x : State). isUnit (record { held = x })) (t .1)
+      by : (x : Lent) → readTable (take 3074 s) ≡ x → readUnit s ≡ unitBy (openIn s) x
+      by (Held l) q = let t = held-table (take 3074 s) q in is-unit (whole (t .0)) ∙ ap (λ (x : State). isUnit (record { held = x; isOpen = openIn s })) (t .1)
       by NoTable q = no-unit (λ t. let y : Held (said (take 3074 s)) ≡ NoTable = sym (is-table (take 3074 s) (table-in t)) ∙ q in let o : _≡_ {A = ℕ} 0 1 = cc in omega arith)
 
 -- ---- the octets in front, or all where they are too few

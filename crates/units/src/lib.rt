@@ -1,11 +1,11 @@
-// The unit as 3,088 octets that the host lends: the table in front, the marks behind it. No mark may be set yet.
+// The unit as 3,088 octets that the host lends: the table in front, the marks behind it. The mark of an open setup request is the one that may be set.
 ghost use mathlib.Core.Path.{_≡_};
 ghost use lib.ListN.{take};
 ghost use Rattle.table.specs.Table.{held, tableOf};
 ghost use Rattle.lent.specs.Lent.{firstRows};
 ghost use Rattle.lent.specs.Tests.{zeros};
 ghost use Rattle.put_table.specs.Out.{tableOut};
-ghost use Rattle.units.specs.Unit.{lookedIn, readUnit, onFront};
+ghost use Rattle.units.specs.Unit.{lookedIn, readUnit, openOctet, openIn, openOut, onFront};
 use identity::Item;
 use lent::Looked;
 use table::Table;
@@ -30,10 +30,42 @@ pub fn look_up(unit: &[u8], item: Item) -> Looked
     if unit.len() != 3088 {
         return Looked::NoTable;
     }
-    if !none_set(&unit[3074..]) {
+    if 1 < unit[3076] {
+        return Looked::NoTable;
+    }
+    if !none_set(&unit[3074..3076]) {
+        return Looked::NoTable;
+    }
+    if !none_set(&unit[3077..]) {
         return Looked::NoTable;
     }
     lent::look_up(&unit[..3074], item)
+}
+
+// Octets say that a setup request is open.
+pub fn is_open(unit: &[u8]) -> bool
+    ensures { λ r. ⌜ r ≡ openIn (now (unit .entry)) ⌝ }
+{
+    if unit.len() < 3077 {
+        return false;
+    }
+    unit[3076] == 1
+}
+
+fn open_octet(is: bool) -> u8
+    ensures { λ r. ⌜ r ≡ openOctet is ⌝ }
+{
+    if is { 1 } else { 0 }
+}
+
+// A setup request is open now, or none is.
+pub fn put_open(is: bool, unit: &mut [u8])
+    ensures { λ _. ⌜ now (unit .exit) ≡ openOut is (now (unit .entry)) ⌝ }
+{
+    if unit.len() < 3077 {
+        return;
+    }
+    unit[3076] = open_octet(is);
 }
 
 // The first n rows of the table in front, whether or not it is one.

@@ -20,10 +20,10 @@ use Rattle.identity.specs.declared.MmeId.{MmeId}
 use Rattle.identity.specs.declared.MceId.{MceId}
 use Rattle.identity.specs.declared.Tmgi.{Tmgi}
 use Rattle.values.specs.declared.Cause.{Cause}
-use Rattle.values.specs.Values.{wholeAt, mmeAt, mceAt, sessionAt, tmgiAt, bitsOfRoot, rootOf, causeAt}
-use Rattle.values.specs.Written.{mmeOctets, mceOctets, sessionOctets, tmgiOctets, causeOctets}
+use Rattle.values.specs.Values.{wholeAt, mmeAt, mceAt, sessionAt, tmgiAt, bitsOfRoot, rootOf, causeAt, waitAt}
+use Rattle.values.specs.Written.{mmeOctets, mceOctets, sessionOctets, tmgiOctets, causeOctets, waitOctets}
 use Rattle.values.proofs.Roots.{root-width}
-use Rattle.values.proofs.Back.{cause-octets}
+use Rattle.values.proofs.Back.{cause-octets, wait-octets}
 
 whole-again : (k : ℕ) (s : List ℕ) (at : ℕ) {v : ℕ} → Octets s → got v ≡ wholeAt k s at → Fills s at (numberOctets k v)
 whole-again k s at {v} o q =
@@ -95,3 +95,17 @@ module _ (s : List ℕ) (at : ℕ) (o : Octets s) where
       packed-again s at (1 ∷ 3 ∷ 1 ∷ bitsOfRoot (b .0) ∷ []) o (x .0) (omega arith) (rw k at (pad-zero s at (5 + bitsOfRoot (b .0)) (omega arith) (omega arith) (f .1))) in
       let h : Stands s at (packed (bit false ∷ 3 bits b .0 ∷ bit false ∷ bitsOfRoot (b .0) bits e .0 ∷ []) ∷ []) = rw (x .1, ← y .1, z .1, ← v .1) at f′ in
       subst (λ (r : Cause). Fills s at (causeOctets r)) (sym (same-got (n .2))) (rw (cause-octets (record { group = b .0; value = e .0 }) (v .2)) (fills-again s at 1 h refl (n .1)))
+
+  pub wait-again : {v : ℕ} → got v ≡ waitAt s at → Fills s at (waitOctets v)
+  unfolding waitAt
+  wait-again {v} q =
+      let a = then-got (plainAt s at 0) _ q in
+      let b = then-got (choiceAt 6 3 s at 1) _ (a .2) in
+      let d = then-got (padAt s at 4) _ (b .2) in
+      let e = then-got (endsAt s (at + 1)) _ (d .2) in
+      let x = plain-got s at 0 (a .1) in
+      let y = choice-got s at 6 3 1 (b .1) in
+      let f : Stands s at (packed (1 bits bitsAt s at 0 1 ∷ 3 bits bitsAt s at 1 3 ∷ []) ∷ []) =
+      packed-again s at (1 ∷ 3 ∷ []) o (x .0) (omega arith) (pad-zero s at 4 (omega arith) (omega arith) (d .1)) in
+      let h : Stands s at (packed (bit false ∷ 3 bits b .0 ∷ []) ∷ []) = rw (x .1, ← y .1) at f in
+      subst (λ (r : ℕ). Fills s at (waitOctets r)) (sym (same-got (e .2))) (rw (wait-octets (b .0) (y .2)) (fills-again s at 1 h refl (e .1)))

@@ -19,8 +19,8 @@ use Rattle.identity.specs.declared.MmeId.{MmeId}
 use Rattle.identity.specs.declared.MceId.{MceId}
 use Rattle.identity.specs.declared.Tmgi.{Tmgi}
 use Rattle.values.specs.declared.Cause.{Cause}
-use Rattle.values.specs.Values.{wholeAt, mmeAt, mceAt, sessionAt, tmgiAt, bitsOfRoot, rootOf, causeAt}
-use Rattle.values.specs.Written.{mmeOctets, mceOctets, sessionOctets, tmgiOctets, causeOctet, causeOctets, GoodCause}
+use Rattle.values.specs.Values.{wholeAt, mmeAt, mceAt, sessionAt, tmgiAt, bitsOfRoot, rootOf, causeAt, waitAt}
+use Rattle.values.specs.Written.{mmeOctets, mceOctets, sessionOctets, tmgiOctets, causeOctet, causeOctets, GoodCause, waitOctet, waitOctets}
 use Rattle.values.proofs.Roots.{root-width, root-group}
 
 whole-back : (k : ℕ) (s : List ℕ) (at v : ℕ) → v < 256 ^ k → Fills s at (numberOctets k v) → got v ≡ wholeAt k s at
@@ -29,6 +29,10 @@ whole-back k s at v b h = let l = length-number k v in let e = h .ends in past _
 pub cause-octets : (c : Cause) → GoodCause c → causeOctets c ≡ causeOctet c ∷ []
 unfolding causeOctets
 cause-octets c good = rw (lt-ltb (c .value) (rootOf (c .group)) good)
+
+pub wait-octets : (v : ℕ) → v < 6 → waitOctets v ≡ waitOctet v ∷ []
+unfolding waitOctets
+wait-octets v good = rw (lt-ltb v 6 good)
 
 module _ (s : List ℕ) (at : ℕ) where
   pub mme-back : (v : MmeId) → v .0 < 65536 → Fills s at (mmeOctets v) → got v ≡ mmeAt s at
@@ -78,3 +82,15 @@ module _ (s : List ℕ) (at : ℕ) where
       (past _ v (choice-back s at (bit false ∷ 3 bits g ∷ bit false ∷ []) (w bits v) [] fit (omega arith) h (rootOf g) good)
       (past _ tt (rw k at (rest-back s at (bit false ∷ 3 bits g ∷ bit false ∷ w bits v ∷ []) fit (omega arith) (omega arith) h))
       (past _ tt (ends-back s (at + 1) (omega arith)) refl)))))
+
+  pub wait-back : (v : ℕ) → v < 6 → Fills s at (waitOctets v) → got v ≡ waitAt s at
+  unfolding waitAt
+  wait-back v good f =
+      let z : waitOctets v ≡ waitOctet v ∷ [] = wait-octets v good in
+      let h : Stands s at (waitOctet v ∷ []) = rw z at (f .stands) in
+      let e : length s ≡ at + 1 = rw z at (f .ends) in
+      let fit : Fit 8 (bit false ∷ 3 bits v ∷ []) = (omega arith, omega arith, (omega arith, omega arith, tt)) in
+      past _ tt (plain-back s at [] (3 bits v ∷ []) fit (omega arith) h)
+      (past _ v (choice-back s at (bit false ∷ []) (3 bits v) [] fit (omega arith) h 6 good)
+      (past _ tt (rest-back s at (bit false ∷ 3 bits v ∷ []) fit (omega arith) (omega arith) h)
+      (past _ tt (ends-back s (at + 1) (omega arith)) refl)))

@@ -2,7 +2,7 @@
 -- Assumes nothing.
 use mathlib.Core.Path.{refl}
 use Rattle.lists.proofs.Unique.{Determined, _same_, _&_}
-use Rattle.values.proofs.OneFound.{one-mme, one-mce, one-session, one-tmgi, one-cause}
+use Rattle.values.proofs.OneFound.{one-mme, one-mce, one-session, one-tmgi, one-cause, one-wait}
 use Rattle.values.proofs.mme_at.Kinds as mme-at'
 use Rattle.values.proofs.mme_at.Reads as mme-at
 use Rattle.values.proofs.mce_at.Kinds as mce-at'
@@ -17,6 +17,10 @@ use Rattle.values.proofs.root_of.Kinds as root-of'
 use Rattle.values.proofs.root_of.Reads as root-of
 use Rattle.values.proofs.width_of.Kinds as width-of'
 use Rattle.values.proofs.width_of.Reads as width-of
+use Rattle.values.proofs.wait_at.Kinds as wait-at'
+use Rattle.values.proofs.wait_at.Reads as wait-at
+use Rattle.values.proofs.seconds_of.Kinds as seconds-of'
+use Rattle.values.proofs.seconds_of.Reads as seconds-of
 
 pub root-of-is : Determined root-of'.ps root-of'.r root-of.Asked root-of.Learnt
 root-of-is κs a p x y e f = (e same f) & refl
@@ -38,3 +42,9 @@ tmgi-at-is κs a p x y e f = one-tmgi (e same f) & refl
 
 pub cause-at-is : Determined cause-at'.ps cause-at'.r cause-at.Asked cause-at.Learnt
 cause-at-is κs a p x y e f = one-cause (e same f) & refl
+
+pub wait-at-is : Determined wait-at'.ps wait-at'.r wait-at.Asked wait-at.Learnt
+wait-at-is κs a p x y e f = one-wait (e same f) & refl
+
+pub seconds-of-is : Determined seconds-of'.ps seconds-of'.r seconds-of.Asked seconds-of.Learnt
+seconds-of-is κs a p x y e f = (e same f) & refl

@@ -3,9 +3,9 @@
 use Prim.Native.Nat.{_<_}
 use Rattle.octets.specs.Stands.{StaysDifferent}
 use Rattle.octets.proofs.Different.{ends-different}
-use Rattle.values.specs.Values.{mmeAt, mceAt, sessionAt, tmgiAt, causeAt}
-use Rattle.values.specs.Written.{mmeOctets, mceOctets, sessionOctets, tmgiOctets, causeOctets, GoodCause}
-use Rattle.values.proofs.Back.{mme-back, mce-back, session-back, tmgi-back, cause-back}
+use Rattle.values.specs.Values.{mmeAt, mceAt, sessionAt, tmgiAt, causeAt, waitAt}
+use Rattle.values.specs.Written.{mmeOctets, mceOctets, sessionOctets, tmgiOctets, causeOctets, GoodCause, waitOctets}
+use Rattle.values.proofs.Back.{mme-back, mce-back, session-back, tmgi-back, cause-back, wait-back}
 
 pub mmes : StaysDifferent (λ v. v .0 < 65536) mmeOctets
 mmes = ends-different _ mmeOctets mmeAt mme-back
@@ -21,3 +21,6 @@ tmgis = ends-different _ tmgiOctets tmgiAt (λ s at t g h. tmgi-back s at t h)
 
 pub causes : StaysDifferent GoodCause causeOctets
 causes = ends-different _ causeOctets causeAt cause-back
+
+pub waits : StaysDifferent (λ v. v < 6) waitOctets
+waits = ends-different _ waitOctets waitAt wait-back

@@ -12,7 +12,7 @@ use Rattle.octets.proofs.Again.{value-below}
 use Rattle.identity.specs.declared.MmeId.{MmeId}
 use Rattle.identity.specs.declared.MceId.{MceId}
 use Rattle.values.specs.declared.Cause.{Cause}
-use Rattle.values.specs.Values.{wholeAt, mmeAt, mceAt, sessionAt, rootOf, bitsOfRoot, causeAt}
+use Rattle.values.specs.Values.{wholeAt, mmeAt, mceAt, sessionAt, rootOf, bitsOfRoot, causeAt, waitAt}
 use Rattle.values.specs.Written.{GoodCause}
 
 whole-good : (k : ℕ) (s : List ℕ) (at : ℕ) {v : ℕ} → Octets s → got v ≡ wholeAt k s at → v < 256 ^ k
@@ -44,3 +44,12 @@ module _ (s : List ℕ) (at : ℕ) where
       let f = then-got (padAt s at (5 + bitsOfRoot (b .0))) _ (e .2) in
       let n = then-got (endsAt s (at + 1)) _ (f .2) in
       subst GoodCause (sym (same-got (n .2))) (choice-got s at (rootOf (b .0)) (bitsOfRoot (b .0)) 5 (e .1) .2)
+
+  pub wait-good : {v : ℕ} → got v ≡ waitAt s at → v < 6
+  unfolding waitAt
+  wait-good q =
+      let a = then-got (plainAt s at 0) _ q in
+      let b = then-got (choiceAt 6 3 s at 1) _ (a .2) in
+      let d = then-got (padAt s at 4) _ (b .2) in
+      let e = then-got (endsAt s (at + 1)) _ (d .2) in
+      subst (λ (x : ℕ). x < 6) (sym (same-got (e .2))) (choice-got s at 6 3 1 (b .1) .2)

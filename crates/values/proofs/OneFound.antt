@@ -18,7 +18,9 @@ use Rattle.values.specs.declared.TmgiRead.{TmgiRead}
 use Rattle.values.specs.declared.TmgiRead.the-variants as tmgiRead
 use Rattle.values.specs.declared.CauseRead.{CauseRead}
 use Rattle.values.specs.declared.CauseRead.the-variants as causeRead
-use Rattle.values.specs.Found.{foundMme, foundMce, foundSession, foundTmgi, foundCause}
+use Rattle.values.specs.declared.WaitRead.{WaitRead}
+use Rattle.values.specs.declared.WaitRead.the-variants as waitRead
+use Rattle.values.specs.Found.{foundMme, foundMce, foundSession, foundTmgi, foundCause, foundWait}
 
 pub one-mme : {x y : MmeRead} → foundMme x ≡ foundMme y → x ≡ y
 one-mme = one-found foundMme back undo
@@ -74,3 +76,14 @@ one-cause = one-found foundCause back undo
     undo : (e : CauseRead) → back (foundCause e) ≡ e
     undo (causeRead.Is v) = refl
     undo (causeRead.Stop x) = refl
+
+pub one-wait : {x y : WaitRead} → foundWait x ≡ foundWait y → x ≡ y
+one-wait = one-found foundWait back undo
+  where
+    back : Read ℕ → WaitRead
+    back (got v) = waitRead.Is v
+    back (stop x) = waitRead.Stop x
+
+    undo : (e : WaitRead) → back (foundWait e) ≡ e
+    undo (waitRead.Is v) = refl
+    undo (waitRead.Stop x) = refl

@@ -15,6 +15,8 @@ use Rattle.values.specs.declared.TmgiRead.{TmgiRead}
 use Rattle.values.specs.declared.TmgiRead.the-variants as tmgiRead
 use Rattle.values.specs.declared.CauseRead.{CauseRead}
 use Rattle.values.specs.declared.CauseRead.the-variants as causeRead
+use Rattle.values.specs.declared.WaitRead.{WaitRead}
+use Rattle.values.specs.declared.WaitRead.the-variants as waitRead
 
 abbrev pub foundMme : MmeRead → Read MmeId
 foundMme (mmeRead.Is v) = got v
@@ -35,3 +37,7 @@ foundTmgi (tmgiRead.Stop x) = stop x
 abbrev pub foundCause : CauseRead → Read Cause
 foundCause (causeRead.Is v) = got v
 foundCause (causeRead.Stop x) = stop x
+
+abbrev pub foundWait : WaitRead → Read ℕ
+foundWait (waitRead.Is v) = got v
+foundWait (waitRead.Stop x) = stop x

@@ -61,3 +61,19 @@ causeAt s at = do
   padAt s at (5 + bitsOfRoot g)
   endsAt s (at + 1)
   got (record { group = g; value = v })
+
+-- TimeToWait ::= ENUMERATED { v1s, v2s, v5s, v10s, v20s, v60s, ... }, by its number in the root
+unfoldable pub waitAt : List ℕ → ℕ → Read ℕ
+waitAt s at = do
+  plainAt s at 0
+  v ← choiceAt 6 3 s at 1
+  padAt s at 4
+  endsAt s (at + 1)
+  got v
+
+-- and its seconds; 0 for a number outside the root
+abbrev pub waits : List ℕ
+waits = 1 ∷ 2 ∷ 5 ∷ 10 ∷ 20 ∷ 60 ∷ []
+
+abbrev pub seconds : ℕ → ℕ
+seconds v = getD waits v 0

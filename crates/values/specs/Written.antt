@@ -35,3 +35,11 @@ causeOctets c = pick (ltb (c .value) (rootOf (c .group))) (causeOctet c ∷ []) 
 
 abbrev pub GoodCause : Cause → Type 0
 GoodCause c = c .value < rootOf (c .group)
+
+-- no extension; the number in the root
+abbrev pub waitOctet : ℕ → ℕ
+waitOctet v = packed (bit false ∷ 3 bits v ∷ [])
+
+-- a Time to Wait outside the root has no octets
+unfoldable pub waitOctets : ℕ → List ℕ
+waitOctets v = pick (ltb v 6) (waitOctet v ∷ []) []

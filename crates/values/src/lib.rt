@@ -1,9 +1,9 @@
 // The values that are read in full, each from the begin of its octets to the end of what encloses it:
-// identities, TMGI, Session Identity, Cause.
+// identities, TMGI, Session Identity, Cause, Time to Wait.
 ghost use mathlib.Core.Path.{_≡_};
 ghost use Rattle.octets.specs.Found.{foundTwo};
-ghost use Rattle.values.specs.Found.{foundMme, foundMce, foundSession, foundTmgi, foundCause};
-ghost use Rattle.values.specs.Values.{wholeAt, mmeAt, mceAt, sessionAt, tmgiAt, rootOf, bitsOfRoot, causeAt};
+ghost use Rattle.values.specs.Found.{foundMme, foundMce, foundSession, foundTmgi, foundCause, foundWait};
+ghost use Rattle.values.specs.Values.{wholeAt, mmeAt, mceAt, sessionAt, tmgiAt, rootOf, bitsOfRoot, causeAt, waitAt, seconds};
 use identity::MceId;
 use identity::MmeId;
 use identity::Plmn;
@@ -43,6 +43,11 @@ pub enum TmgiRead {
 
 pub enum CauseRead {
     Is(Cause),
+    Stop(Stop),
+}
+
+pub enum WaitRead {
+    Is(u8),
     Stop(Stop),
 }
 
@@ -200,4 +205,45 @@ pub fn cause_at(s: &[u8], at: usize) -> CauseRead
         }),
         Gate::Stop(x) => CauseRead::Stop(x),
     }
+}
+
+// A Time to Wait: its number among the root values.
+pub fn wait_at(s: &[u8], at: usize) -> WaitRead
+    ensures { λ r. ⌜ foundWait r ≡ waitAt (now (s .entry)) at ⌝ }
+{
+    match octets::plain_at(s, at, 0) {
+        Gate::Pass => {}
+        Gate::Stop(x) => {
+            return WaitRead::Stop(x);
+        }
+    }
+    let v = match octets::choice_at(6, 3, s, at, 1) {
+        Octet::Is(v) => v,
+        Octet::Stop(x) => {
+            return WaitRead::Stop(x);
+        }
+    };
+    match octets::pad_at(s, at, 4) {
+        Gate::Pass => {}
+        Gate::Stop(x) => {
+            return WaitRead::Stop(x);
+        }
+    }
+    match octets::ends_at(s, at + 1) {
+        Gate::Pass => WaitRead::Is(v),
+        Gate::Stop(x) => WaitRead::Stop(x),
+    }
+}
+
+// The seconds of the root values.
+const WAITS: [u16; 6] = [1, 2, 5, 10, 20, 60];
+
+// There are none outside the root.
+pub fn seconds_of(v: u8) -> u16
+    ensures { λ r. ⌜ r ≡ seconds v ⌝ }
+{
+    if v < 6 {
+        return WAITS[v as usize];
+    }
+    0
 }

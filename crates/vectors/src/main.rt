@@ -1,4 +1,5 @@
-// Plays entries from standard input and writes a line for each: what is read of a message, the message written again, or what a call on it gives.
+// Plays entries from standard input and writes a line for each: what is read of a message, the message written again, what a call on it gives; what a
+// record is written as, what a setup by it gives; what is shown of a request.
 // An entry: what it is (1 octet), two numbers and a length (2 octets each), and that many octets.
 //     0   a message to be read: the verdict, the octets of the record (docs/LAYOUTS.md, "A lent record"), the list of diagnostics. Of the octets,
 //         record= has those in front of the lists, items= and entries= the number of rows and as many rows, since the rows behind are zeros
@@ -6,6 +7,9 @@
 //     2   a call: the first number is the offered identity, the second the room
 //     3   the unit is fresh again
 //     4   the octet of the unit at the first number is the second one; nothing is written
+//     5   a setup: of the octets, as many as the first number says are a record, and its values lie in the others; the second number is the room
+//     6   a record to be written, likewise
+//     7   what is shown: of the octets, as many as the first number says are a request, and the others a label
 use carry::Answer;
 use editions::Edition;
 use editions::Named;
@@ -17,6 +21,7 @@ use octets::Stop;
 use octets::Two;
 use plan::Written;
 use reader::Reading;
+use setup::SetupBack;
 use unit::Back;
 use verdicts::Outcome;
 use verdicts::Refusal;
@@ -171,14 +176,49 @@ fn answer(a: Answer) {
     text(b"-");
 }
 
+// The octet that marks an open setup request.
+fn mark(unit: &[u8]) -> u8 {
+    if unit.len() <= 3076 {
+        return 0;
+    }
+    unit[3076]
+}
+
+fn state(unit: &[u8]) {
+    text(b" held=");
+    number(two(unit, 0) as usize);
+    text(b" open=");
+    number(mark(unit) as usize);
+}
+
+// The seconds that a failed setup hands back.
+fn wait(seconds: u16) {
+    text(b" wait=");
+    if seconds == 0 {
+        text(b"-\n");
+        return;
+    }
+    number(seconds as usize);
+    text(b"\n");
+}
+
 fn show_back(b: Back, unit: &[u8], room: &[u8]) {
     let a = b.answer;
     answer(a);
     text(b" reply=");
     part(room, 0, b.octets);
-    text(b" held=");
-    number(two(unit, 0) as usize);
-    text(b"\n");
+    state(unit);
+    wait(answers::wait_of(a));
+}
+
+fn show_setup(b: SetupBack, unit: &[u8], room: &[u8]) {
+    let a = b.answer;
+    text(b"answer=");
+    number(setup::number_of(a) as usize);
+    text(b" offset=- reply=");
+    part(room, 0, b.octets);
+    state(unit);
+    wait(0);
 }
 
 // An entry in front of its octets.
@@ -214,18 +254,65 @@ fn called(unit: &mut [u8], m: &[u8], offered: u16, room: &mut [u8]) {
     show_back(b, unit, room);
 }
 
-fn played(f: Front, unit: &mut [u8], m: &[u8]) {
+fn set_up(unit: &mut [u8], said: &[u8], values: &[u8], room: &mut [u8]) {
+    let b = setup::set_up(Edition::Release18, unit, said, values, room);
+    show_setup(b, unit, room);
+}
+
+// As the writer for C does it.
+fn written(said: &[u8], values: &[u8], room: &mut [u8]) {
+    if record_form::name_refused(Edition::Release18, said, values) {
+        text(b"answer=12\n");
+        return;
+    }
+    let w = put_message::write(Edition::Release18, said, values, room);
+    show_written(w, room);
+}
+
+fn show_name<'a>(request: &'a [u8], label: &'a [u8]) {
+    let s = shown::shown(Edition::Release18, request, label);
+    text(b"shown=");
+    part(s, 0, s.len());
+    text(b"\n");
+}
+
+// What an entry gives, of its octets, whole and in two.
+fn given<'a>(
+    f: Front,
+    unit: &mut [u8],
+    m: &[u8],
+    front: &'a [u8],
+    behind: &'a [u8],
+    room: &mut [u8],
+) {
     if f.what == 0 {
         read(m);
         return;
     }
-    let n = f.second as usize;
-    let mut room = io::large_buffer();
     if f.what == 1 {
-        written_again(m, &mut room[..n]);
+        written_again(m, room);
         return;
     }
-    called(unit, m, f.first, &mut room[..n]);
+    if f.what == 2 {
+        called(unit, m, f.first, room);
+        return;
+    }
+    if f.what == 5 {
+        set_up(unit, front, behind, room);
+        return;
+    }
+    if f.what == 6 {
+        written(front, behind, room);
+        return;
+    }
+    show_name(front, behind);
+}
+
+fn played(f: Front, unit: &mut [u8], m: &[u8]) {
+    let at = numbers::lesser(f.first as usize, m.len());
+    let n = f.second as usize;
+    let mut room = io::large_buffer();
+    given(f, unit, m, &m[..at], &m[at..], &mut room[..n]);
 }
 
 // One message of as many octets as there is space for; false where the input ends before.

@@ -14,7 +14,7 @@ use Rattle.lent.specs.declared.Looked.{Looked}
 use Rattle.lent.specs.declared.Looked.the-variants as looked
 use Rattle.lent.specs.Lent.{rowsOf}
 use Rattle.lent.proofs.Rows.{length-rows}
-use Rattle.units.specs.Unit.{Unit, MaybeUnit, isUnit, noUnit, readUnit, lookedIn}
+use Rattle.units.specs.Unit.{Unit, MaybeUnit, isUnit, noUnit, openIn, readUnit, lookedIn}
 use Rattle.units.proofs.Parts.{read-unit}
 use Rattle.units.proofs.OneForm.{one-unit}
 
@@ -23,7 +23,7 @@ abbrev pub front : ℕ → List ℕ → State
 front n s = rowsOf n (drop 2 (take 3074 s))
 
 pub record Found (s : List ℕ) (n : ℕ) : Type 0 where
-  pub unit : readUnit s ≡ isUnit (record { held = front n s })
+  pub unit : readUnit s ≡ isUnit (record { held = front n s; isOpen = openIn s })
   pub few : n ≤ 256
   pub long : length s ≡ 3088
   pub count : length (front n s) ≡ n
@@ -47,7 +47,7 @@ module _ (s : List ℕ) (i : Item) where
           let w : n ≡ valueAt 2 (take 3074 s) 0 = m ∙ ap length (sym r) ∙ length-rows _ _ in
           let g = one-unit .good s u q in
           record {
-            unit = q ∙ ap (λ (l : State). isUnit (record { held = l })) (sym r) ∙ ap (λ (x : ℕ). isUnit (record { held = front x s })) (sym w);
+            unit = q ∙ ap isUnit (sym (read-unit s q .1)) ∙ ap (λ (x : ℕ). isUnit (record { held = front x s; isOpen = openIn s })) (sym w);
             few = omega (arith, m, g .held .few);
             long = ap length (sym (one-unit .again s u q)) ∙ one-unit .size u g;
             count = length-rows n (drop 2 (take 3074 s));

@@ -9,7 +9,7 @@ use Rattle.identity.specs.declared.Session.the-variants as session
 use Rattle.table.specs.declared.Association.{Association}
 use Rattle.table.specs.Table.{emptyAssociation}
 use Rattle.lent.specs.Lent.{valueOf}
-use Rattle.units.specs.Unit.{Unit, MaybeUnit, isUnit, noUnit}
+use Rattle.units.specs.Unit.{Unit, MaybeUnit, isUnit, noUnit, openOctet}
 use Rattle.console.specs.declared.TmgiOctets.{TmgiOctets}
 use Rattle.console.specs.declared.Record.{Record}
 use Rattle.console.specs.declared.Counted.{Counted}
@@ -48,7 +48,7 @@ abbrev pub countFor : MaybeUnit → Tmgi → Counted
 countFor (isUnit u) t = carriedOut (length (keep (hasTmgi t) (u .held)))
 countFor noUnit t = noTable
 
--- edition 18 and room for 256; nothing else is remembered yet
+-- whether a setup request is open; edition 18 and room for 256; nothing else is remembered yet
 abbrev pub marksFor : MaybeUnit → Marks
-marksFor (isUnit u) = record { answer = 0; held = length (u .held); «held_1» = 0; «open» = 0; «open_1» = 0; edition = 18; rooms = 256; next = 0; settings = 0 }
+marksFor (isUnit u) = record { answer = 0; held = length (u .held); «held_1» = 0; «open» = openOctet (u .isOpen); «open_1» = 0; edition = 18; rooms = 256; next = 0; settings = 0 }
 marksFor noUnit = record { answer = 21; held = 0; «held_1» = 0; «open» = 0; «open_1» = 0; edition = 0; rooms = 0; next = 0; settings = 0 }

@@ -5,7 +5,7 @@ ghost use lib.ListN.{length, getD, drop, take};
 ghost use Rattle.lists.specs.Lists.{keep};
 ghost use Rattle.table.specs.Table.{emptyAssociation};
 ghost use Rattle.lent.specs.Lent.{valueOf, rowsOf};
-ghost use Rattle.units.specs.Unit.{readUnit};
+ghost use Rattle.units.specs.Unit.{readUnit, openOctet, openIn};
 ghost use Rattle.console.specs.Console.{tmgiOf, hasTmgi};
 ghost use Rattle.view.specs.View.{isThere, recordOf, rowFor, countFor, marksFor};
 use console::Counted;
@@ -27,7 +27,7 @@ pub struct Row {
     pub association: Record,
 }
 
-// The number of 01's answer, and what a unit remembers beside its rows. Of the marks none is set yet.
+// The number of 01's answer, and what a unit remembers beside its rows. Of the marks only that of an open setup request is set yet.
 #[repr(C)]
 pub struct Marks {
     pub answer: u32,
@@ -183,14 +183,20 @@ pub extern "C" fn m3ap_count_in(unit: &[u8], tmgi: TmgiOctets) -> Counted
     }
 }
 
-fn marks_with(answer: u32, held: u32, edition: u32, rooms: u32) -> Marks
-    ensures { λ r. ⌜ r ≡ record { answer = answer; held = held; «held_1» = 0; «open» = 0; «open_1» = 0; edition = edition; rooms = rooms; next = 0; settings = 0 } ⌝ }
+fn open_mark(unit: &[u8]) -> u32
+    ensures { λ r. ⌜ r ≡ openOctet (openIn (now (unit .entry))) ⌝ }
+{
+    if units::is_open(unit) { 1 } else { 0 }
+}
+
+fn marks_with(answer: u32, held: u32, is: u32, edition: u32, rooms: u32) -> Marks
+    ensures { λ r. ⌜ r ≡ record { answer = answer; held = held; «held_1» = 0; «open» = is; «open_1» = 0; edition = edition; rooms = rooms; next = 0; settings = 0 } ⌝ }
 {
     Marks {
         answer: answer,
         held: held,
         held_1: 0,
-        open: 0,
+        open: is,
         open_1: 0,
         edition: edition,
         rooms: rooms,
@@ -205,15 +211,15 @@ pub extern "C" fn m3ap_marks(unit: &[u8]) -> Marks
     ensures { λ r. ⌜ r ≡ marksFor (readUnit (now (unit .entry))) ⌝ }
 {
     match units::look_up(unit, NOBODY) {
-        Looked::NoTable => marks_with(21, 0, 0, 0),
-        Looked::Is(_, n) => marks_with(0, n as u32, 18, 256),
+        Looked::NoTable => marks_with(21, 0, 0, 0, 0),
+        Looked::Is(_, n) => marks_with(0, n as u32, open_mark(unit), 18, 256),
     }
 }
 
 // The version of the calls.
 #[no_mangle]
 pub extern "C" fn m3ap_version() -> u32
-    ensures { λ r. ⌜ r ≡ 2 ⌝ }
+    ensures { λ r. ⌜ r ≡ 3 ⌝ }
 {
-    2
+    3
 }

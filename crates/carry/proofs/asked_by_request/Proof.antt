@@ -18,6 +18,12 @@ enum-told-2 c = search needs
 enum-told-3 : tie.Need-enum-told-3
 enum-told-3 c = search needs
 
+enum-told-4 : tie.Need-enum-told-4
+enum-told-4 c = search needs
+
+enum-told-5 : tie.Need-enum-told-5
+enum-told-5 c = search needs
+
 returns : tie.Need-returns
 returns c = rw (c .before .q .given .1)
 
@@ -33,6 +39,12 @@ returns-4 c = rw (c .enum-told2 .given .1)
 returns-5 : tie.Need-returns-5
 returns-5 c = rw (c .enum-told3 .given .1)
 
+returns-6 : tie.Need-returns-6
+returns-6 c = rw (c .enum-told4 .given .1)
+
+returns-7 : tie.Need-returns-7
+returns-7 c = rw (c .enum-told5 .given .1)
+
 pub asked-by-request-spec : {M : Type 1} → statement M
 asked-by-request-spec =
     tie.close
@@ -42,8 +54,12 @@ asked-by-request-spec =
     enum-told
     enum-told-2
     enum-told-3
+    enum-told-4
+    enum-told-5
     returns
     returns-2
     returns-3
     returns-4
-    returns-5)
+    returns-5
+    returns-6
+    returns-7)

@@ -27,6 +27,12 @@ enum-told-3 c = search needs
 stays-requires : tie.Need-stays-requires
 stays-requires c κs = search needs
 
+enum-told-4 : tie.Need-enum-told-4
+enum-told-4 c = search needs
+
+enum-known-q-3 : tie.Need-enum-known-q-3
+enum-known-q-3 c = search needs
+
 returns : tie.Need-returns
 returns c = rw (c .before .before .q .given .1) (c .start .ensures)
 
@@ -42,6 +48,12 @@ returns-4 c = rw (c .enum-told2 .given .1)
 returns-5 : tie.Need-returns-5
 returns-5 c = rw (c .before .enum-told3 .given .1) (c .stays .ensures)
 
+returns-6 : tie.Need-returns-6
+returns-6 c = rw (c .enum-told4 .given .1)
+
+returns-7 : tie.Need-returns-7
+returns-7 c = rw (c .before .q3 .given .1)
+
 pub carry-out-spec : {M : Type 1} → statement M
 carry-out-spec =
     tie.close
@@ -54,8 +66,12 @@ carry-out-spec =
     enum-told-2
     enum-told-3
     stays-requires
+    enum-told-4
+    enum-known-q-3
     returns
     returns-2
     returns-3
     returns-4
-    returns-5)
+    returns-5
+    returns-6
+    returns-7)

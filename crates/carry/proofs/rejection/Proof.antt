@@ -22,6 +22,12 @@ enum-told-4 c = search needs
 enum-told-5 : tie.Need-enum-told-5
 enum-told-5 c = search needs
 
+enum-told-6 : tie.Need-enum-told-6
+enum-told-6 c = search needs
+
+enum-told-7 : tie.Need-enum-told-7
+enum-told-7 c = search needs
+
 returns : tie.Need-returns
 unfolding rejection
 returns c = rw (c .before .enum-told .given .1) (c .start-rejected .ensures)
@@ -42,6 +48,14 @@ returns-5 : tie.Need-returns-5
 unfolding rejection
 returns-5 c = rw (c .enum-told5 .given .1)
 
+returns-6 : tie.Need-returns-6
+unfolding rejection
+returns-6 c = rw (c .enum-told6 .given .1)
+
+returns-7 : tie.Need-returns-7
+unfolding rejection
+returns-7 c = rw (c .enum-told7 .given .1)
+
 pub rejection-spec : {M : Type 1} → statement M
 rejection-spec =
     tie.close
@@ -52,8 +66,12 @@ rejection-spec =
     enum-told-3
     enum-told-4
     enum-told-5
+    enum-told-6
+    enum-told-7
     returns
     returns-2
     returns-3
     returns-4
-    returns-5)
+    returns-5
+    returns-6
+    returns-7)

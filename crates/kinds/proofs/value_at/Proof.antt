@@ -75,17 +75,29 @@ enum-known-x-5 c = search needs
 enum-told-12 : tie.Need-enum-told-12
 enum-told-12 c = search needs
 
-reset-gate-requires : tie.Need-reset-gate-requires
-reset-gate-requires c κs = search needs
+wait-gate-requires : tie.Need-wait-gate-requires
+wait-gate-requires c κs = search needs
 
 enum-told-13 : tie.Need-enum-told-13
 enum-told-13 c = search needs
 
-items-gate-requires : tie.Need-items-gate-requires
-items-gate-requires c κs = search needs
+name-gate-requires : tie.Need-name-gate-requires
+name-gate-requires c κs = search needs
 
 enum-told-14 : tie.Need-enum-told-14
 enum-told-14 c = search needs
+
+reset-gate-requires : tie.Need-reset-gate-requires
+reset-gate-requires c κs = search needs
+
+enum-told-15 : tie.Need-enum-told-15
+enum-told-15 c = search needs
+
+items-gate-requires : tie.Need-items-gate-requires
+items-gate-requires c κs = search needs
+
+enum-told-16 : tie.Need-enum-told-16
+enum-told-16 c = search needs
 
 diagnostics-gate-requires : tie.Need-diagnostics-gate-requires
 diagnostics-gate-requires c κs = search needs
@@ -134,16 +146,22 @@ unfolding valueAt
 returns-11 c = of-kind (now (c .before .before .before .before .before .before .before .args .s)) (c .before .before .before .before .before .before .before .args .at) (c .before .before .before .before .enum-told10 .given .1) (halt _ (told foundCause (c .before .x5 .given .1) (c .before .before .before .cause-at .ensures)))
 
 returns-12 : tie.Need-returns-12
-unfolding valueAt
-returns-12 c = of-kind (now (c .before .before .before .before .args .s)) (c .before .before .before .before .args .at) (c .before .enum-told12 .given .1) (c .reset-gate .ensures)
+returns-12 c = of-kind (now (c .before .before .before .before .args .s)) (c .before .before .before .before .args .at) (c .before .enum-told12 .given .1) (c .wait-gate .ensures)
 
 returns-13 : tie.Need-returns-13
-unfolding valueAt
-returns-13 c = of-kind (now (c .before .before .before .before .args .s)) (c .before .before .before .before .args .at) (c .before .enum-told13 .given .1) (c .items-gate .ensures)
+returns-13 c = of-kind (now (c .before .before .before .before .args .s)) (c .before .before .before .before .args .at) (c .before .enum-told13 .given .1) (c .name-gate .ensures)
 
 returns-14 : tie.Need-returns-14
 unfolding valueAt
-returns-14 c = of-kind (now (c .before .before .before .before .args .s)) (c .before .before .before .before .args .at) (c .before .enum-told14 .given .1) (c .diagnostics-gate .ensures)
+returns-14 c = of-kind (now (c .before .before .before .before .args .s)) (c .before .before .before .before .args .at) (c .before .enum-told14 .given .1) (c .reset-gate .ensures)
+
+returns-15 : tie.Need-returns-15
+unfolding valueAt
+returns-15 c = of-kind (now (c .before .before .before .before .args .s)) (c .before .before .before .before .args .at) (c .before .enum-told15 .given .1) (c .items-gate .ensures)
+
+returns-16 : tie.Need-returns-16
+unfolding valueAt
+returns-16 c = of-kind (now (c .before .before .before .before .args .s)) (c .before .before .before .before .args .at) (c .before .enum-told16 .given .1) (c .diagnostics-gate .ensures)
 
 pub value-at-spec : {M : Type 1} → statement M
 value-at-spec =
@@ -171,10 +189,14 @@ value-at-spec =
     enum-told-11
     enum-known-x-5
     enum-told-12
-    reset-gate-requires
+    wait-gate-requires
     enum-told-13
-    items-gate-requires
+    name-gate-requires
     enum-told-14
+    reset-gate-requires
+    enum-told-15
+    items-gate-requires
+    enum-told-16
     diagnostics-gate-requires
     returns
     returns-2
@@ -189,4 +211,6 @@ value-at-spec =
     returns-11
     returns-12
     returns-13
-    returns-14)
+    returns-14
+    returns-15
+    returns-16)

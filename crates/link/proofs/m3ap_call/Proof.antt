@@ -15,11 +15,14 @@ number-of-requires c κs = search needs
 place-of-requires : tie.Need-place-of-requires
 place-of-requires c κs = search needs
 
-cast-t15 : tie.Need-cast-t15
-cast-t15 c = let a = c .before .before .before .before .before .before .before .before .before .before .before .before .args in record { fits = place-fits Release18 (now (a .unit)) (record { message = now (a .message); offered = record { 0 = a .offered }; room = now (a .room) }) (c .before .before .before .before .before .before .call .ensures) _ (c .place-of .ensures) }
+wait-of-requires : tie.Need-wait-of-requires
+wait-of-requires c κs = search needs
 
 cast-t16 : tie.Need-cast-t16
-cast-t16 c = let a = c .before .before .before .before .before .before .before .before .before .before .before .before .before .args in record { fits = octets-fit Release18 (now (a .unit)) (record { message = now (a .message); offered = record { 0 = a .offered }; room = now (a .room) }) (c .before .before .before .before .before .before .before .call .ensures) }
+cast-t16 c = let a = c .before .before .before .before .before .before .before .before .before .before .before .before .before .args in record { fits = place-fits Release18 (now (a .unit)) (record { message = now (a .message); offered = record { 0 = a .offered }; room = now (a .room) }) (c .before .before .before .before .before .before .before .call .ensures) _ (c .before .place-of .ensures) }
+
+cast-t17 : tie.Need-cast-t17
+cast-t17 c = let a = c .before .before .before .before .before .before .before .before .before .before .before .before .before .before .args in record { fits = octets-fit Release18 (now (a .unit)) (record { message = now (a .message); offered = record { 0 = a .offered }; room = now (a .room) }) (c .before .before .before .before .before .before .before .before .call .ensures) }
 
 same-length : tie.Need-same-length
 same-length c = search needs
@@ -28,7 +31,7 @@ same-length-2 : tie.Need-same-length-2
 same-length-2 c = search needs
 
 returns : tie.Need-returns
-returns c = let a = c .before .before .before .before .before .before .before .before .before .before .before .before .before .args in handed Release18 (now (a .unit)) (record { message = now (a .message); offered = record { 0 = a .offered }; room = now (a .room) }) (c .before .before .before .before .before .before .before .call .ensures) _ _ (c .before .before .number-of .ensures) (c .before .place-of .ensures)
+returns c = let a = c .before .before .before .before .before .before .before .before .before .before .before .before .before .before .args in handed Release18 (now (a .unit)) (record { message = now (a .message); offered = record { 0 = a .offered }; room = now (a .room) }) (c .before .before .before .before .before .before .before .before .call .ensures) _ _ _ (c .before .before .before .number-of .ensures) (c .before .before .place-of .ensures) (c .before .wait-of .ensures)
 
 pub m3ap-call-spec : {M : Type 1} → statement M
 m3ap-call-spec =
@@ -37,8 +40,9 @@ m3ap-call-spec =
     call-requires
     number-of-requires
     place-of-requires
-    cast-t15
+    wait-of-requires
     cast-t16
+    cast-t17
     same-length
     same-length-2
     returns)

@@ -1,64 +1,29 @@
--- `link::m3ap_write` meets its contract. By what the writer answered, whose number of octets is small. Assumes nothing.
-use mathlib.Core.Path.{refl}
-use denote.Ref.{now}
-use Rattle.link.proofs.Reading.{octets-small, put-written}
+-- `link::m3ap_write` meets its contract: 12 for a name that is refused, else what becomes of the record. Assumes nothing.
+use mathlib.Core.Path.{refl, sym, _∙_}
 use borrow.Author.Needs.{needs}
+use Rattle.link.specs.Link.{writeFor}
 use Rattle.link.proofs.m3ap_write.Statement.{statement}
 use Rattle.link.proofs.m3ap_write.Tie as tie
 
-write-requires : tie.Need-write-requires
-write-requires c κs = search needs
-
-enum-known-n : tie.Need-enum-known-n
-enum-known-n c = search needs
-
-cast-t10 : tie.Need-cast-t10
-cast-t10 c = let a = c .before .before .before .before .before .before .before .before .before .before .args in record { fits = octets-small (now (a .said)) (now (a .values)) (now (a .room)) (c .before .before .before .before .before .write .ensures) (c .before .n .given .1) }
-
-enum-told : tie.Need-enum-told
-enum-told c = search needs
+name-refused-requires : tie.Need-name-refused-requires
+name-refused-requires c κs = search needs
 
 plain-requires : tie.Need-plain-requires
 plain-requires c κs = search needs
 
-enum-told-2 : tie.Need-enum-told-2
-enum-told-2 c = search needs
+returns : tie.Need-returns
+unfolding writeFor
+returns c = rw (sym (c .before .before .name-refused .ensures) ∙ c .before .if1 .taken) (record { answer = c .plain .ensures; room = refl })
 
-plain-requires-2 : tie.Need-plain-requires-2
-plain-requires-2 c κs = search needs
+write-allowed-requires : tie.Need-write-allowed-requires
+write-allowed-requires c κs = search needs
 
 same-length : tie.Need-same-length
 same-length c = search needs
 
-returns : tie.Need-returns
-returns c = let a = c .before .before .before .before .before .before .before .before .before .before .args in put-written (now (a .said)) (now (a .values)) (now (a .room)) (c .before .before .before .before .before .write .ensures) (c .before .n .given .1) refl
-
-same-length-2 : tie.Need-same-length-2
-same-length-2 c = search needs
-
 returns-2 : tie.Need-returns-2
-returns-2 c = let a = c .before .before .before .before .before .before .before .before .before .before .args in put-written (now (a .said)) (now (a .values)) (now (a .room)) (c .before .before .before .before .before .write .ensures) (c .before .enum-told .given .1) (c .plain .ensures)
-
-same-length-3 : tie.Need-same-length-3
-same-length-3 c = search needs
-
-returns-3 : tie.Need-returns-3
-returns-3 c = let a = c .before .before .before .before .before .before .before .before .before .before .args in put-written (now (a .said)) (now (a .values)) (now (a .room)) (c .before .before .before .before .before .write .ensures) (c .before .enum-told2 .given .1) (c .plain2 .ensures)
+unfolding writeFor
+returns-2 c = rw (sym (c .before .before .before .before .before .name-refused .ensures) ∙ c .before .before .before .before .if1 .left) (c .before .before .write-allowed .ensures)
 
 pub m3ap-write-spec : {M : Type 1} → statement M
-m3ap-write-spec =
-    tie.close
-    (tie.spec
-    write-requires
-    enum-known-n
-    cast-t10
-    enum-told
-    plain-requires
-    enum-told-2
-    plain-requires-2
-    same-length
-    returns
-    same-length-2
-    returns-2
-    same-length-3
-    returns-3)
+m3ap-write-spec = tie.close (tie.spec name-refused-requires plain-requires returns write-allowed-requires same-length returns-2)

@@ -1,7 +1,7 @@
 -- `put_message::put_value` meets its contract: by the kind. Assumes nothing.
 use denote.Ref.{now}
 use Rattle.meaning.specs.Written.{octetsOf}
-use Rattle.put_message.proofs.Values.{carried-by, mme-by, mce-by, tmgi-by, session-by, cause-by, reset-by, list-by, diagnostics-by}
+use Rattle.put_message.proofs.Values.{carried-by, mme-by, mce-by, tmgi-by, session-by, cause-by, wait-by, name-by, reset-by, list-by, diagnostics-by}
 use borrow.Author.Needs.{needs}
 use Rattle.put_message.proofs.put_value.Statement.{statement}
 use Rattle.put_message.proofs.put_value.Tie as tie
@@ -90,20 +90,41 @@ put-cause-requires c κs = search needs
 enum-told-7 : tie.Need-enum-told-7
 enum-told-7 c = search needs
 
+add-put-wait : tie.Need-add-put-wait
+add-put-wait c = search needs
+
+shared-slice-read-put-wait : tie.Need-shared-slice-read-put-wait
+shared-slice-read-put-wait c = search needs
+
+put-wait-requires : tie.Need-put-wait-requires
+put-wait-requires c κs = search needs
+
+enum-told-8 : tie.Need-enum-told-8
+enum-told-8 c = search needs
+
+span-at-requires-2 : tie.Need-span-at-requires-2
+span-at-requires-2 c κs = search needs
+
+put-name-requires : tie.Need-put-name-requires
+put-name-requires c κs = search needs
+
+enum-told-9 : tie.Need-enum-told-9
+enum-told-9 c = search needs
+
 shared-slice-read-put-reset : tie.Need-shared-slice-read-put-reset
 shared-slice-read-put-reset c = search needs
 
 put-reset-requires : tie.Need-put-reset-requires
 put-reset-requires c κs = search needs
 
-enum-told-8 : tie.Need-enum-told-8
-enum-told-8 c = search needs
+enum-told-10 : tie.Need-enum-told-10
+enum-told-10 c = search needs
 
 put-said-requires : tie.Need-put-said-requires
 put-said-requires c κs = search needs
 
-enum-told-9 : tie.Need-enum-told-9
-enum-told-9 c = search needs
+enum-told-11 : tie.Need-enum-told-11
+enum-told-11 c = search needs
 
 head-at-requires : tie.Need-head-at-requires
 head-at-requires c κs = search needs
@@ -158,21 +179,35 @@ same-length-7 c = search needs
 
 returns-7 : tie.Need-returns-7
 unfolding octetsOf
-returns-7 c = let a = c .before .before .before .before .before .before .before .before .before .before .args in rw (c .before .before .before .before .before .enum-told7 .given .1, reset-by (now (a .values)) (now (a .s)) (a .from)) (c .before .before .put-reset .ensures)
+returns-7 c = let a = c .before .before .before .before .before .before .before .before .before .before .args in rw (c .before .before .before .before .before .enum-told7 .given .1, wait-by (now (a .values)) (now (a .s)) (a .from)) (c .before .before .put-wait .ensures)
 
 same-length-8 : tie.Need-same-length-8
 same-length-8 c = search needs
 
 returns-8 : tie.Need-returns-8
 unfolding octetsOf
-returns-8 c = let a = c .before .before .before .before .before .before .before .before .before .args in rw (c .before .before .before .before .enum-told8 .given .1, list-by (now (a .values)) (now (a .s)) (a .from)) (c .before .before .put-said .ensures)
+returns-8 c = let a = c .before .before .before .before .before .before .before .before .before .before .args in rw (c .before .before .before .before .before .enum-told8 .given .1, name-by (now (a .values)) (now (a .s)) (a .from)) (rw (c .before .before .before .span-at2 .ensures) at (c .before .before .put-name .ensures))
 
 same-length-9 : tie.Need-same-length-9
 same-length-9 c = search needs
 
 returns-9 : tie.Need-returns-9
 unfolding octetsOf
-returns-9 c = let a = c .before .before .before .before .before .before .before .before .before .before .args in rw (c .before .before .before .before .before .enum-told9 .given .1, diagnostics-by (now (a .values)) (now (a .s)) (a .from)) (rw (c .before .before .before .head-at .ensures) at (c .before .before .put-diagnostics .ensures))
+returns-9 c = let a = c .before .before .before .before .before .before .before .before .before .before .args in rw (c .before .before .before .before .before .enum-told9 .given .1, reset-by (now (a .values)) (now (a .s)) (a .from)) (c .before .before .put-reset .ensures)
+
+same-length-10 : tie.Need-same-length-10
+same-length-10 c = search needs
+
+returns-10 : tie.Need-returns-10
+unfolding octetsOf
+returns-10 c = let a = c .before .before .before .before .before .before .before .before .before .args in rw (c .before .before .before .before .enum-told10 .given .1, list-by (now (a .values)) (now (a .s)) (a .from)) (c .before .before .put-said .ensures)
+
+same-length-11 : tie.Need-same-length-11
+same-length-11 c = search needs
+
+returns-11 : tie.Need-returns-11
+unfolding octetsOf
+returns-11 c = let a = c .before .before .before .before .before .before .before .before .before .before .args in rw (c .before .before .before .before .before .enum-told11 .given .1, diagnostics-by (now (a .values)) (now (a .s)) (a .from)) (rw (c .before .before .before .head-at .ensures) at (c .before .before .put-diagnostics .ensures))
 
 pub put-value-spec : {M : Type 1} → statement M
 put-value-spec =
@@ -206,11 +241,18 @@ put-value-spec =
     cause-at-requires
     put-cause-requires
     enum-told-7
+    add-put-wait
+    shared-slice-read-put-wait
+    put-wait-requires
+    enum-told-8
+    span-at-requires-2
+    put-name-requires
+    enum-told-9
     shared-slice-read-put-reset
     put-reset-requires
-    enum-told-8
+    enum-told-10
     put-said-requires
-    enum-told-9
+    enum-told-11
     head-at-requires
     put-diagnostics-requires
     same-length
@@ -230,4 +272,8 @@ put-value-spec =
     same-length-8
     returns-8
     same-length-9
-    returns-9)
+    returns-9
+    same-length-10
+    returns-10
+    same-length-11
+    returns-11)

@@ -5,6 +5,7 @@ use lib.Seq.{length-take-le}
 use Rattle.items.specs.Items.{resetAt, itemsAt}
 use Rattle.diagnostics.specs.Diagnostics.{diagnosticsAt}
 use Rattle.meaning.specs.Reading.{readAs}
+use Rattle.layout.specs.Record.{slotOf}
 use Rattle.reader.proofs.Slots.{got-of, list-slot}
 use borrow.Author.Needs.{needs}
 use Rattle.reader.proofs.put_value.Statement.{statement}
@@ -13,8 +14,8 @@ use Rattle.reader.proofs.put_value.Tie as tie
 enum-told : tie.Need-enum-told
 enum-told c = search needs
 
-put-carried-requires : tie.Need-put-carried-requires
-put-carried-requires c κs = search needs
+put-place-requires : tie.Need-put-place-requires
+put-place-requires c κs = search needs
 
 enum-told-2 : tie.Need-enum-told-2
 enum-told-2 c = search needs
@@ -64,35 +65,53 @@ cause-slot-requires c κs = search needs
 enum-told-7 : tie.Need-enum-told-7
 enum-told-7 c = search needs
 
+slice-aggregate-wait-slot : tie.Need-slice-aggregate-wait-slot
+slice-aggregate-wait-slot c = sym (length-take-le _ _ (c .before .before .before .before .before .before .pre .1 .within))
+
+wait-slot-requires : tie.Need-wait-slot-requires
+wait-slot-requires c κs = search needs
+
+enum-told-8 : tie.Need-enum-told-8
+enum-told-8 c = search needs
+
+slice-aggregate-name-slot : tie.Need-slice-aggregate-name-slot
+slice-aggregate-name-slot c = sym (length-take-le _ _ (c .before .before .before .before .before .before .pre .1 .within))
+
+name-slot-requires : tie.Need-name-slot-requires
+name-slot-requires c κs = search needs
+
+enum-told-9 : tie.Need-enum-told-9
+enum-told-9 c = search needs
+
 slice-aggregate-reset-slot : tie.Need-slice-aggregate-reset-slot
 slice-aggregate-reset-slot c = sym (length-take-le _ _ (c .before .before .before .before .before .before .pre .1 .within))
 
 reset-slot-requires : tie.Need-reset-slot-requires
 unfolding readAs
-reset-slot-requires c κs = (omega arith, got-of (resetAt _ _) _ (rw (c .before .before .enum-told7 .given .1) at (c .before .before .before .before .before .before .pre .1 .value)))
+reset-slot-requires c κs = (omega arith, got-of (resetAt _ _) _ (rw (c .before .before .enum-told9 .given .1) at (c .before .before .before .before .before .before .pre .1 .value)))
 
-enum-told-8 : tie.Need-enum-told-8
-enum-told-8 c = search needs
+enum-told-10 : tie.Need-enum-told-10
+enum-told-10 c = search needs
 
 put-first-requires : tie.Need-put-first-requires
 put-first-requires c κs = search needs
 
-enum-told-9 : tie.Need-enum-told-9
-enum-told-9 c = search needs
+enum-told-11 : tie.Need-enum-told-11
+enum-told-11 c = search needs
 
 slice-aggregate-diagnostics-slot : tie.Need-slice-aggregate-diagnostics-slot
 slice-aggregate-diagnostics-slot c = sym (length-take-le _ _ (c .before .before .before .before .before .before .pre .1 .within))
 
 diagnostics-slot-requires : tie.Need-diagnostics-slot-requires
 unfolding readAs
-diagnostics-slot-requires c κs = (omega arith, got-of (diagnosticsAt _ _) _ (rw (c .before .before .enum-told9 .given .1) at (c .before .before .before .before .before .before .pre .1 .value)))
+diagnostics-slot-requires c κs = (omega arith, got-of (diagnosticsAt _ _) _ (rw (c .before .before .enum-told11 .given .1) at (c .before .before .before .before .before .before .pre .1 .value)))
 
 same-length : tie.Need-same-length
 same-length c = search needs
 
 returns : tie.Need-returns
-unfolding readAs
-returns c = rw (c .before .before .before .before .enum-told .given .1) (c .before .before .put-carried .ensures)
+unfolding readAs slotOf
+returns c = rw (c .before .before .before .before .enum-told .given .1) (c .before .before .put-place .ensures)
 
 same-length-2 : tie.Need-same-length-2
 same-length-2 c = search needs
@@ -134,28 +153,42 @@ same-length-7 c = search needs
 
 returns-7 : tie.Need-returns-7
 unfolding readAs
-returns-7 c = rw (c .before .before .before .before .before .enum-told7 .given .1) (c .before .before .reset-slot .ensures)
+returns-7 c = rw (c .before .before .before .before .before .enum-told7 .given .1) (c .before .before .wait-slot .ensures)
 
 same-length-8 : tie.Need-same-length-8
 same-length-8 c = search needs
 
 returns-8 : tie.Need-returns-8
 unfolding readAs
-returns-8 c = rw (c .before .before .before .before .enum-told8 .given .1, list-slot (itemsAt _ _) (got-of (itemsAt _ _) _ (rw (c .before .before .before .before .enum-told8 .given .1) at (c .before .before .before .before .before .before .before .before .pre .1 .value)))) (c .before .before .put-first .ensures)
+returns-8 c = rw (c .before .before .before .before .before .enum-told8 .given .1) (c .before .before .name-slot .ensures)
 
 same-length-9 : tie.Need-same-length-9
 same-length-9 c = search needs
 
 returns-9 : tie.Need-returns-9
 unfolding readAs
-returns-9 c = rw (c .before .before .before .before .before .enum-told9 .given .1) (c .before .before .diagnostics-slot .ensures)
+returns-9 c = rw (c .before .before .before .before .before .enum-told9 .given .1) (c .before .before .reset-slot .ensures)
+
+same-length-10 : tie.Need-same-length-10
+same-length-10 c = search needs
+
+returns-10 : tie.Need-returns-10
+unfolding readAs
+returns-10 c = rw (c .before .before .before .before .enum-told10 .given .1, list-slot (itemsAt _ _) (got-of (itemsAt _ _) _ (rw (c .before .before .before .before .enum-told10 .given .1) at (c .before .before .before .before .before .before .before .before .pre .1 .value)))) (c .before .before .put-first .ensures)
+
+same-length-11 : tie.Need-same-length-11
+same-length-11 c = search needs
+
+returns-11 : tie.Need-returns-11
+unfolding readAs
+returns-11 c = rw (c .before .before .before .before .before .enum-told11 .given .1) (c .before .before .diagnostics-slot .ensures)
 
 pub put-value-spec : {M : Type 1} → statement M
 put-value-spec =
     tie.close
     (tie.spec
     enum-told
-    put-carried-requires
+    put-place-requires
     enum-told-2
     slice-aggregate-mme-slot
     mme-slot-requires
@@ -172,11 +205,17 @@ put-value-spec =
     slice-aggregate-cause-slot
     cause-slot-requires
     enum-told-7
+    slice-aggregate-wait-slot
+    wait-slot-requires
+    enum-told-8
+    slice-aggregate-name-slot
+    name-slot-requires
+    enum-told-9
     slice-aggregate-reset-slot
     reset-slot-requires
-    enum-told-8
+    enum-told-10
     put-first-requires
-    enum-told-9
+    enum-told-11
     slice-aggregate-diagnostics-slot
     diagnostics-slot-requires
     same-length
@@ -196,4 +235,8 @@ put-value-spec =
     same-length-8
     returns-8
     same-length-9
-    returns-9)
+    returns-9
+    same-length-10
+    returns-10
+    same-length-11
+    returns-11)

@@ -5,7 +5,8 @@ use denote.Ref.{now}
 use borrow.Author.Needs.{needs}
 use lib.Seq.{length-take-le}
 use Rattle.rows.specs.declared.Kind.the-variants as kind
-use Rattle.values.specs.Values.{mmeAt, mceAt, tmgiAt, sessionAt, causeAt}
+use Rattle.values.specs.Values.{mmeAt, mceAt, tmgiAt, sessionAt, causeAt, waitAt}
+use Rattle.names.specs.Names.{nameAt}
 use Rattle.items.specs.Items.{itemsAt, resetAt}
 use Rattle.diagnostics.specs.Diagnostics.{diagnosticsAt}
 use Rattle.meaning.specs.Value as value
@@ -77,6 +78,18 @@ enum-told-8 c = search needs
 enum-told-9 : tie.Need-enum-told-9
 enum-told-9 c = search needs
 
+enum-told-10 : tie.Need-enum-told-10
+enum-told-10 c = search needs
+
+enum-told-11 : tie.Need-enum-told-11
+enum-told-11 c = search needs
+
+slice-aggregate-with-wait : tie.Need-slice-aggregate-with-wait
+slice-aggregate-with-wait c = sym (length-take-le _ (now (c .before .before .before .before .before .before .before .args .s)) (omega (arith, c .before .before .before .lesser .ensures)))
+
+with-wait-requires : tie.Need-with-wait-requires
+with-wait-requires c κs = search needs
+
 returns-2 : tie.Need-returns-2
 unfolding readAs
 returns-2 c = let a = c .before .before .before .before .before .before .before .before .args in rw (c .before .before .enum-told .given .1) (seen-value kind.Mme (now (a .s)) (a .v) (a .x) mmeAt value.mme refl (omega (arith, c .before .before .before .before .before .if1 .left)) (c .before .before .before .before .lesser .ensures) (c .with-mme .ensures))
@@ -113,6 +126,14 @@ returns-10 : tie.Need-returns-10
 unfolding readAs
 returns-10 c = let a = c .before .before .before .before .before .before .args in rw (c .enum-told9 .given .1) (not-seen kind.Diagnostics (now (a .s)) (a .v) (a .x) diagnosticsAt value.diagnostics refl (λ _. refl))
 
+returns-11 : tie.Need-returns-11
+unfolding readAs
+returns-11 c = let a = c .before .before .before .before .before .before .args in rw (c .enum-told10 .given .1) (not-seen kind.Name (now (a .s)) (a .v) (a .x) nameAt value.name refl (λ _. refl))
+
+returns-12 : tie.Need-returns-12
+unfolding readAs
+returns-12 c = let a = c .before .before .before .before .before .before .before .before .args in rw (c .before .before .enum-told11 .given .1) (seen-value kind.Wait (now (a .s)) (a .v) (a .x) waitAt value.wait refl (omega (arith, c .before .before .before .before .before .if1 .left)) (c .before .before .before .before .lesser .ensures) (c .with-wait .ensures))
+
 pub with-value-spec : {M : Type 1} → statement M
 with-value-spec =
     tie.close
@@ -138,6 +159,10 @@ with-value-spec =
     enum-told-7
     enum-told-8
     enum-told-9
+    enum-told-10
+    enum-told-11
+    slice-aggregate-with-wait
+    with-wait-requires
     returns-2
     returns-3
     returns-4
@@ -146,4 +171,6 @@ with-value-spec =
     returns-7
     returns-8
     returns-9
-    returns-10)
+    returns-10
+    returns-11
+    returns-12)

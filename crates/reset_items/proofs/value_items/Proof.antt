@@ -4,7 +4,7 @@ use native.Mathlib.Omega.{arith}
 use denote.Ref.{now}
 use lib.Seq.{length-take-le}
 use Rattle.rows.specs.declared.Kind.the-variants as kind
-use Rattle.reset_items.proofs.Laws.{none-there, of-reset, of-list, none-front, silent-none, carried-silent, mme-silent, mce-silent, tmgi-silent, session-silent, cause-silent, diagnostics-silent}
+use Rattle.reset_items.proofs.Laws.{none-there, of-reset, of-list, none-front, silent-none, carried-silent, mme-silent, mce-silent, tmgi-silent, session-silent, cause-silent, wait-silent, name-silent, diagnostics-silent}
 use borrow.Author.Needs.{needs}
 use Rattle.reset_items.proofs.value_items.Statement.{statement}
 use Rattle.reset_items.proofs.value_items.Tie as tie
@@ -54,6 +54,12 @@ enum-told-8 c = search needs
 enum-told-9 : tie.Need-enum-told-9
 enum-told-9 c = search needs
 
+enum-told-10 : tie.Need-enum-told-10
+enum-told-10 c = search needs
+
+enum-told-11 : tie.Need-enum-told-11
+enum-told-11 c = search needs
+
 same-length : tie.Need-same-length
 same-length c = search needs
 
@@ -85,7 +91,13 @@ returns-9 : tie.Need-returns-9
 returns-9 c = let a = c .before .before .before .before .before .before .before .args in rw (c .enum-told8 .given .1) (none-front _ _ (silent-none (now (a .s)) (a .v) kind.Cause (cause-silent (now (a .s)) (a .v))))
 
 returns-10 : tie.Need-returns-10
-returns-10 c = let a = c .before .before .before .before .before .before .before .args in rw (c .enum-told9 .given .1) (none-front _ _ (silent-none (now (a .s)) (a .v) kind.Diagnostics (diagnostics-silent (now (a .s)) (a .v))))
+returns-10 c = let a = c .before .before .before .before .before .before .before .args in rw (c .enum-told9 .given .1) (none-front _ _ (silent-none (now (a .s)) (a .v) kind.Wait (wait-silent (now (a .s)) (a .v))))
+
+returns-11 : tie.Need-returns-11
+returns-11 c = let a = c .before .before .before .before .before .before .before .args in rw (c .enum-told10 .given .1) (none-front _ _ (silent-none (now (a .s)) (a .v) kind.Name (name-silent (now (a .s)) (a .v))))
+
+returns-12 : tie.Need-returns-12
+returns-12 c = let a = c .before .before .before .before .before .before .before .args in rw (c .enum-told11 .given .1) (none-front _ _ (silent-none (now (a .s)) (a .v) kind.Diagnostics (diagnostics-silent (now (a .s)) (a .v))))
 
 pub value-items-spec : {M : Type 1} → statement M
 value-items-spec =
@@ -106,6 +118,8 @@ value-items-spec =
     enum-told-7
     enum-told-8
     enum-told-9
+    enum-told-10
+    enum-told-11
     same-length
     returns-2
     same-length-2
@@ -116,4 +130,6 @@ value-items-spec =
     returns-7
     returns-8
     returns-9
-    returns-10)
+    returns-10
+    returns-11
+    returns-12)

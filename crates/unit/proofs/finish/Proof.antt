@@ -3,7 +3,7 @@ use denote.Ref.{now}
 use mathlib.Core.Path.{refl}
 use mathlib.Core.List.{[]}
 use Rattle.table.specs.Table.{without}
-use Rattle.unit.proofs.Laws.{put-out, put-start, put-stop, reset-rows, not-touched}
+use Rattle.unit.proofs.Laws.{put-out, put-start, put-stop, reset-rows, not-touched, put-set-up, put-closed}
 use borrow.Author.Needs.{needs}
 use Rattle.unit.proofs.finish.Statement.{statement}
 use Rattle.unit.proofs.finish.Tie as tie
@@ -83,6 +83,30 @@ table-out-requires-4 c κs = search needs
 hand-back-requires-6 : tie.Need-hand-back-requires-6
 hand-back-requires-6 c κs = search needs
 
+enum-told-3 : tie.Need-enum-told-3
+enum-told-3 c = search needs
+
+empty-requires-2 : tie.Need-empty-requires-2
+empty-requires-2 c κs = search needs
+
+table-out-requires-5 : tie.Need-table-out-requires-5
+table-out-requires-5 c κs = search needs
+
+put-open-requires : tie.Need-put-open-requires
+put-open-requires c κs = search needs
+
+hand-back-requires-7 : tie.Need-hand-back-requires-7
+hand-back-requires-7 c κs = search needs
+
+enum-known-change-4 : tie.Need-enum-known-change-4
+enum-known-change-4 c = search needs
+
+put-open-requires-2 : tie.Need-put-open-requires-2
+put-open-requires-2 c κs = search needs
+
+hand-back-requires-8 : tie.Need-hand-back-requires-8
+hand-back-requires-8 c κs = search needs
+
 returns-2 : tie.Need-returns-2
 returns-2 c = λ w. rw (c .before .before .change .given .1) (record { back = c .hand-back .ensures; unit = refl })
 
@@ -109,6 +133,18 @@ same-length-5 c = search needs
 
 returns-6 : tie.Need-returns-6
 returns-6 c = let s = c .before .before .before .before .before .before .before .before .before .before .before .before .before .before .before in λ w. rw (c .before .before .before .before .before .before .before .before .before .before .before .enum-told2 .given .1) (record { back = c .hand-back6 .ensures; unit = put-out (s .args .n) (now (s .args .unit)) (s .pre) (without _ _) (reset-rows _ _ (c .before .before .before .before .before .before .rows-in3 .ensures) (c .before .before .before .before .before .reset .ensures)) (c .before .before .before .table-out4 .ensures) })
+
+same-length-6 : tie.Need-same-length-6
+same-length-6 c = search needs
+
+returns-7 : tie.Need-returns-7
+returns-7 c = let s = c .before .before .before .before .before .before .before .before .before .before .before .before .before .before in λ w. rw (c .before .before .before .before .before .before .before .before .before .before .enum-told3 .given .1) (record { back = c .hand-back7 .ensures; unit = put-set-up (s .args .n) (now (s .args .unit)) (s .pre) (put-out (s .args .n) (now (s .args .unit)) (s .pre) [] (c .before .before .before .before .before .before .before .before .before .empty2 .ensures) (c .before .before .before .before .before .before .before .table-out5 .ensures)) (c .before .before .before .put-open .ensures) })
+
+same-length-7 : tie.Need-same-length-7
+same-length-7 c = search needs
+
+returns-8 : tie.Need-returns-8
+returns-8 c = let s = c .before .before .before .before .before .before .before .before .before .before in λ w. rw (c .before .before .before .before .before .before .change4 .given .1) (record { back = c .hand-back8 .ensures; unit = put-closed (s .args .n) (now (s .args .unit)) (s .pre) (c .before .before .before .put-open2 .ensures) })
 
 pub finish-spec : {M : Type 1} → statement M
 finish-spec =
@@ -139,6 +175,14 @@ finish-spec =
     reset-requires
     table-out-requires-4
     hand-back-requires-6
+    enum-told-3
+    empty-requires-2
+    table-out-requires-5
+    put-open-requires
+    hand-back-requires-7
+    enum-known-change-4
+    put-open-requires-2
+    hand-back-requires-8
     returns-2
     same-length-2
     returns-3
@@ -147,4 +191,8 @@ finish-spec =
     same-length-4
     returns-5
     same-length-5
-    returns-6)
+    returns-6
+    same-length-6
+    returns-7
+    same-length-7
+    returns-8)

@@ -1,4 +1,4 @@
--- `vectors::played` is safe and ends. The room lent is as long as the entry says. Assumes nothing.
+-- `vectors::played` is safe and ends. The parts lent are as long as the entry says. Assumes nothing.
 use lib.Seq.{length-take-le}
 use native.Mathlib.Omega.{arith}
 use mathlib.Core.Path.{sym}
@@ -6,11 +6,11 @@ use borrow.Author.Needs.{needs}
 use Rattle.vectors.proofs.played.Statement.{statement}
 use Rattle.vectors.proofs.played.Tie as tie
 
-read-requires : tie.Need-read-requires
-read-requires c κs = search needs
+cast-lesser : tie.Need-cast-lesser
+cast-lesser c = search needs
 
-returns : tie.Need-returns
-returns c = search needs
+lesser-requires : tie.Need-lesser-requires
+lesser-requires c κs = search needs
 
 cast-n : tie.Need-cast-n
 cast-n c = search needs
@@ -18,47 +18,47 @@ cast-n c = search needs
 large-buffer-requires : tie.Need-large-buffer-requires
 large-buffer-requires c κs = search needs
 
+slice-aggregate-given : tie.Need-slice-aggregate-given
+slice-aggregate-given c = sym (length-take-le _ _ (omega arith))
+
+sub-given : tie.Need-sub-given
+sub-given c = search needs
+
+part-given-start : tie.Need-part-given-start
+part-given-start c = search needs
+
+part-given-end : tie.Need-part-given-end
+part-given-end c = search needs
+
 array-borrow-prefix-room : tie.Need-array-borrow-prefix-room
 array-borrow-prefix-room c = search needs
 
-slice-aggregate-written-again : tie.Need-slice-aggregate-written-again
-slice-aggregate-written-again c = sym (length-take-le _ _ (omega arith))
+slice-aggregate-given-2 : tie.Need-slice-aggregate-given-2
+slice-aggregate-given-2 c = sym (length-take-le _ _ (omega arith))
 
-written-again-requires : tie.Need-written-again-requires
-written-again-requires c κs = search needs
-
-returns-2 : tie.Need-returns-2
-returns-2 c = search needs
-
-array-borrow-prefix-room-2 : tie.Need-array-borrow-prefix-room-2
-array-borrow-prefix-room-2 c = search needs
-
-slice-aggregate-called : tie.Need-slice-aggregate-called
-slice-aggregate-called c = sym (length-take-le _ _ (omega arith))
-
-called-requires : tie.Need-called-requires
-called-requires c κs = search needs
+given-requires : tie.Need-given-requires
+given-requires c κs = search needs
 
 same-length : tie.Need-same-length
 same-length c = search needs
 
-returns-3 : tie.Need-returns-3
-returns-3 c = search needs
+returns : tie.Need-returns
+returns c = search needs
 
 pub played-spec : {M : Type 1} → statement M
 played-spec =
     tie.close
     (tie.spec
-    read-requires
-    returns
+    cast-lesser
+    lesser-requires
     cast-n
     large-buffer-requires
+    slice-aggregate-given
+    sub-given
+    part-given-start
+    part-given-end
     array-borrow-prefix-room
-    slice-aggregate-written-again
-    written-again-requires
-    returns-2
-    array-borrow-prefix-room-2
-    slice-aggregate-called
-    called-requires
+    slice-aggregate-given-2
+    given-requires
     same-length
-    returns-3)
+    returns)

@@ -22,6 +22,9 @@ enum-known-n c = search needs
 cast-marks-with : tie.Need-cast-marks-with
 cast-marks-with c = let x = found (c .before .before .before .before .before .args .unit .now) emptyItem (sym (c .before .n .given .1) ∙ c .before .before .before .look-up .ensures) in record { fits = omega (arith, x .few) }
 
+open-mark-requires : tie.Need-open-mark-requires
+open-mark-requires c κs = search needs
+
 marks-with-requires-2 : tie.Need-marks-with-requires-2
 marks-with-requires-2 c κs = search needs
 
@@ -29,7 +32,7 @@ returns : tie.Need-returns
 returns c = let x = no-unit (c .before .before .before .before .before .args .unit .now) emptyItem (sym (c .before .enum-told .given .1) ∙ c .before .before .before .look-up .ensures) in rw (x, c .marks-with .ensures)
 
 returns-2 : tie.Need-returns-2
-returns-2 c = let x = found (c .before .before .before .before .before .before .args .unit .now) emptyItem (sym (c .before .before .n .given .1) ∙ c .before .before .before .before .look-up .ensures) in rw (x .unit, c .marks-with2 .ensures, x .count)
+returns-2 c = let x = found (c .before .before .before .before .before .before .before .args .unit .now) emptyItem (sym (c .before .before .before .n .given .1) ∙ c .before .before .before .before .before .look-up .ensures) in rw (x .unit, c .marks-with2 .ensures, c .before .open-mark .ensures, x .count)
 
 pub m3ap-marks-spec : {M : Type 1} → statement M
 m3ap-marks-spec =
@@ -40,6 +43,7 @@ m3ap-marks-spec =
     marks-with-requires
     enum-known-n
     cast-marks-with
+    open-mark-requires
     marks-with-requires-2
     returns
     returns-2)

@@ -1,9 +1,8 @@
--- `reader::put_carried` meets its contract. The place and the length, the low 16 bits of each. Assumes nothing.
-use Rattle.layout.specs.Record.{slotOf}
+-- `reader::put_place` meets its contract. The place and the length, the low 16 bits of each. Assumes nothing.
 use Rattle.reader.proofs.Slots.{number-cut}
 use borrow.Author.Needs.{needs}
-use Rattle.reader.proofs.put_carried.Statement.{statement}
-use Rattle.reader.proofs.put_carried.Tie as tie
+use Rattle.reader.proofs.put_place.Statement.{statement}
+use Rattle.reader.proofs.put_place.Tie as tie
 
 between-requires : tie.Need-between-requires
 between-requires c κs = search needs
@@ -27,11 +26,10 @@ same-length : tie.Need-same-length
 same-length c = search needs
 
 returns : tie.Need-returns
-unfolding slotOf
 returns c = rw (number-cut, number-cut, ← c .before .before .before .before .between .ensures) (c .before .before .put-eight .ensures)
 
-pub put-carried-spec : {M : Type 1} → statement M
-put-carried-spec =
+pub put-place-spec : {M : Type 1} → statement M
+put-place-spec =
     tie.close
     (tie.spec
     between-requires

@@ -1,0 +1,11 @@
+pub mod OneFound
+pub mod Chars
+pub mod Size
+pub mod Allowed
+pub mod Put
+pub mod Determined
+pub mod Back
+pub mod Good
+pub mod Again
+pub mod Different
+pub mod ExamplesHold

@@ -1,0 +1,4 @@
+pub mod Found
+pub mod Names
+pub mod Written
+pub mod Examples

@@ -1,0 +1,1 @@
+// The name on the plate: what is promised of it. No code.
