@@ -8,6 +8,7 @@ pub mod Sound
 pub mod Decisions
 pub mod JudgedSound
 pub mod SetupAnswers
+pub mod Waits
 pub mod UnitOut
 pub mod Demand
 pub mod Accepted

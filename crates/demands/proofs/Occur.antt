@@ -84,10 +84,10 @@ octets-by (x ∷ s) e zero = ltb-true x 256 (not-false (ltb x 256) (or-left (not
 octets-by (x ∷ s) e (suc i) = octets-by s (or-right (not (ltb x 256)) (some (λ (y : ℕ). not (ltb y 256)) s) e) i
 
 -- on a unit that holds these, with no request open; whatever the room
-abbrev with : State → Unit
+abbrev pub with : State → Unit
 with l = record { held = l; isOpen = false }
 
-abbrev of : List ℕ → Call
+abbrev pub of : List ℕ → Call
 of s = record { message = s; offered = offer; room = [] }
 
 gives : (l : State) (s : List ℕ) {n : ℕ} → Good l → some (λ (x : ℕ). not (ltb x 256)) s ≡ false → number (decidedOn Release18 (with l) (of s)) ≡ n → Gives l s n

@@ -31,6 +31,7 @@ use Rattle.demands.specs.Words.{Asks, PartialReset}
 use Rattle.demands.specs.WhatIsDone.{Leaves, WhatIsDone}
 use Rattle.demands.proofs.UnitOut.{call-on}
 use Rattle.demands.proofs.SetupAnswers.{ofSetup, as-judged, open-judged, none-open}
+use Rattle.demands.proofs.Waits.{call-waits}
 use Rattle.demands.proofs.Done.{number, replyTo, done, start-decided, start-accepted, stop-decided, stop-accepted, reset-decided}
 
 -- there is room, so a start appends
@@ -112,5 +113,6 @@ what-is-done e = record {
   part = λ t c u items q p h. part e t c u q items p h;
   setup = λ t c u q p h. setup e t c u q p h;
   failed = λ t c u w q p h. failed e t c u q w p h;
+  waits = λ t c. call-waits e c t;
   indication = λ t c u q p. indication e t c u q p;
 }

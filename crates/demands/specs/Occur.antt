@@ -1,7 +1,7 @@
 -- Each answer of the table call occurs: messages and units that get it. And 01's bench examples of calls.
 use Prim.Native.Nat.{ℕ, zero, suc, _+_, _<_, _≤_}
 use mathlib.Core.Path.{_≡_}
-use mathlib.Core.Bool.{false}
+use mathlib.Core.Bool.{true, false}
 use mathlib.Core.List.{List, [], _∷_, _++_}
 use lib.ListN.{length, drop, replicate}
 use Rattle.identity.specs.declared.MceId.{MceId}
@@ -14,6 +14,7 @@ use Rattle.editions.specs.declared.Edition.{Edition}
 use Rattle.editions.specs.declared.Edition.the-variants.{Release18}
 use Rattle.round_trips.specs.Examples.{partialReset, acknowledgement}
 use Rattle.round_trips.specs.Ties.{ReadBack, Rewritten}
+use Rattle.requests.specs.declared.MaybeWait.the-variants as wait
 use Rattle.carry.specs.declared.Answer.the-variants as answer
 use Rattle.answers.specs.Answers.{numbered}
 use Rattle.calls.specs.Call.{call}
@@ -124,6 +125,10 @@ emptyReset =
 abbrev pub noList : List ℕ
 noList = 0x20 ∷ 0x04 ∷ 0x00 ∷ 0x03 ∷ 0x00 ∷ 0x00 ∷ 0x00 ∷ []
 
+-- a unit that holds these, with a setup request open
+abbrev pub opened : State → Unit
+opened l = record { held = l; isOpen = true }
+
 -- whatever the room, if the reply fits: carried out, with that reply, and that is held
 abbrev pub Does : State → List ℕ → List ℕ → State → Type 0
 Does l s os l′ =
@@ -140,6 +145,11 @@ pub record BenchCalls : Type 0 where
   -- the acknowledgement of a whole reset, or of empty items only
   pub whole : Does (pair 1 3 ∷ []) whole noList []
   pub empty : Does (pair 1 3 ∷ []) emptyReset noList (pair 1 3 ∷ [])
+  -- with a setup request open, its response empties the table, and its failure keeps it and hands back 60 seconds; both close it, whatever the room
+  pub set-up : (d : List ℕ) → call Release18 (unitOctets (opened (pair 1 3 ∷ []))) (record { message = response; offered = offer; room = d })
+      ≡ record { answer = answer.CarriedOut; reply = []; unit = holding []; room = d }
+  pub set-up-failed : (d : List ℕ) → call Release18 (unitOctets (opened (pair 1 3 ∷ []))) (record { message = failure; offered = offer; room = d })
+      ≡ record { answer = answer.SetupFailed (wait.Is 5); reply = []; unit = holding (pair 1 3 ∷ []); room = d }
   -- a reply room of 20 for the 21 octets
   pub no-room : (d : List ℕ) → length d ≡ 20 → numberOf (holding []) partialReset d ≡ 10
 

@@ -45,5 +45,7 @@ module _ (e : Edition) where
     -- "a failure keeps it and hands back Time to Wait"
     pub failed : (t : List ℕ) (c : Call) (u : Unit) (w : MaybeWait) → readUnit t ≡ isUnit u → Asks (judged e (c .message)) (request.SetupFailure w) → numberOf e t c ≡ 0
         → (u .isOpen ≡ true) × (call e t c .unit ≡ unitOctets (withOpen false u)) × (numbered (call e t c .answer) .wait ≡ waitOf w)
+    -- and nothing else hands back a time to wait
+    pub waits : (t : List ℕ) (c : Call) → (numbered (call e t c .answer) .wait ≡ 0 → ⊥) → (w : MaybeWait) × Asks (judged e (c .message)) (request.SetupFailure w)
     -- "ERROR INDICATION changes nothing and gets no reply."
     pub indication : (t : List ℕ) (c : Call) (u : Unit) → readUnit t ≡ isUnit u → Asks (judged e (c .message)) request.Indication → (call e t c .unit ≡ t) × (call e t c .reply ≡ [])
