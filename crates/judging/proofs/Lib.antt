@@ -1,6 +1,7 @@
 pub mod TallyLaws
 pub mod StepLaws
 pub mod OpenedLaws
+pub mod Steps
 pub mod NotedLaws
 pub mod FrontLaws
 pub mod Determined

@@ -20,7 +20,7 @@ use Rattle.identity.specs.declared.Mme.{Mme}
 use Rattle.identity.specs.declared.Mme.the-variants as mme
 use Rattle.identity.specs.declared.Mce.{Mce}
 use Rattle.identity.specs.declared.Mce.the-variants as mce
-use Rattle.table.specs.Table.{State, emptyAssociation, tableOf, names, hasMme, hasMce, hasPair, full, heldBy, shareMme, shareMce, distinctHeld}
+use Rattle.table.specs.Table.{State, emptyAssociation, unheld, tableOf, names, hasMme, hasMce, hasPair, full, heldBy, shareMme, shareMce, distinctHeld}
 use Rattle.table.specs.declared.Association.{Association}
 use Rattle.lent.specs.Lent.{rowOf, rowIn, rowsOf}
 use Rattle.lent.specs.Tests.{sessionGood, rowsGood, rowsRight, seriesOf}
@@ -212,9 +212,9 @@ pub record InRows (l : State) (n : ℕ) (rows : State) (i : ℕ) : Type 0 where
   pub within : i ≤ n
   pub count : n ≡ length l
   pub long : length rows ≡ 256
-  pub array : rows ≡ fill emptyAssociation 256 (take i l)
+  pub array : rows ≡ fill unheld 256 (take i l)
 
-pub in-none : (s : List ℕ) (n : ℕ) {rows : State} → rows ≡ fill emptyAssociation 256 [] → InRows (rowsOf n s) n rows 0
+pub in-none : (s : List ℕ) (n : ℕ) {rows : State} → rows ≡ fill unheld 256 [] → InRows (rowsOf n s) n rows 0
 in-none s n e = record { within = omega arith; count = sym (length-rows n s); long = rw e; array = e }
 
 module _ {l : State} {n : ℕ} {rows : State} {i : ℕ} (g : InRows l n rows i) where
@@ -226,7 +226,7 @@ module _ {l : State} {n : ℕ} {rows : State} {i : ℕ} (g : InRows l n rows i) 
         within = omega arith;
         count = w;
         long = length-set rows i a ∙ g .long;
-        array = rw (g .array, q, take-next l i emptyAssociation (omega arith)) (fill-more emptyAssociation 256 (take i l) (getD l i emptyAssociation) i k (omega arith));
+        array = rw (g .array, q, take-next l i emptyAssociation (omega arith)) (fill-more unheld 256 (take i l) (getD l i emptyAssociation) i k (omega arith));
       }
 
   pub in-all : n ≤ i → record { rows = rows; count = n } ≡ tableOf l

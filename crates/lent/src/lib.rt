@@ -3,13 +3,13 @@
 // Rows past the count are zero, so a table has one form.
 ghost use mathlib.Core.Path.{_≡_};
 ghost use mathlib.Core.Bool.{_&&_};
-ghost use Prim.Native.Nat.{_+_, _*_, _≤_};
+ghost use Prim.Native.Nat.{min, _+_, _*_, _≤_};
 ghost use lib.ListN.{length, getD, drop};
 ghost use Rattle.lists.specs.Lists.{pick, some, apart};
 ghost use Rattle.identity.specs.declared.Mme.the-variants as mme;
 ghost use Rattle.identity.specs.declared.Mce.the-variants as mce;
 ghost use Rattle.table.specs.Table.{tableOf, names, heldBy, standing, shareMme, shareMce};
-ghost use Rattle.lent.specs.Lent.{sessionOf, rowOf, rowIn, rowsOf, firstRows, readTable, lookedUp};
+ghost use Rattle.lent.specs.Lent.{sessionOf, rowOf, rowIn, rowsOf, firstRows, room, readTable, lookedUp};
 ghost use Rattle.lent.specs.Tests.{sessionGood, rowsGood, rowsRight, zeros, OnlyIf, seriesOf};
 ghost use Rattle.lent.specs.declared.Looked.the-variants as looked;
 use distinct::MceWord;
@@ -311,15 +311,22 @@ pub fn names_row(s: &[u8], n: usize, item: Item) -> bool
     held_in(s, numbers::lesser(n, 256), item)
 }
 
+// How many of the first n rows there are: none in what is not as long as a table.
+fn rows_there(s: &[u8], n: usize) -> usize
+    ensures { λ r. ⌜ r ≡ pick (room (now (s .entry))) (min n 256) 0 ⌝ }
+{
+    if s.len() != 3074 {
+        return 0;
+    }
+    numbers::lesser(n, 256)
+}
+
 // The first n rows of octets as many as a table has, whether or not they are one.
 pub fn rows_in(s: &[u8], n: usize) -> Table
     ensures { λ r. ⌜ r ≡ tableOf (firstRows n (now (s .entry))) ⌝ }
 {
     let mut t = table::empty();
-    if s.len() != 3074 {
-        return t;
-    }
-    let k = numbers::lesser(n, 256);
+    let k = rows_there(s, n);
     let mut i = 0;
     while i < k {
         let a = row_of(&s[2 + 12 * i..]);

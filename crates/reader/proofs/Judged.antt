@@ -2,13 +2,13 @@
 --     opened-legible   so it is of each row's value
 -- Assumes nothing.
 use mathlib.Core.Path.{_≡_, refl, sym, ap, _∙_, subst}
-use mathlib.Core.Bool.{Bool, true, false}
-use mathlib.Core.List.{List, [], _∷_, _++_}
-use Prim.Native.Nat.{ℕ, zero, suc, _+_, _-_, _≤_, _<_}
+use mathlib.Core.Bool.{true}
+use mathlib.Core.List.{List, [], _∷_}
+use Prim.Native.Nat.{ℕ, zero, suc, _+_}
 use native.Mathlib.Omega.{arith}
 use lib.Dec.{ltb}
 use lib.ListN.{length, getD, take, set, replicate, length-set, length-replicate}
-use Rattle.lists.specs.Lists.{pick, fill}
+use Rattle.lists.specs.Lists.{fill}
 use Rattle.lists.proofs.Tests.{on-pick}
 use Rattle.lists.proofs.Fill.{getD-fill}
 use Rattle.octets.specs.Read.{Read, got, stop, _>>=_, _>>_}
@@ -26,7 +26,7 @@ use Rattle.envelopes.specs.Envelope.{envelopeAt, scanAt, onHead, headsAt}
 use Rattle.envelopes.proofs.ScanLaws.{envelope-in}
 use Rattle.elements.specs.Judge.{front, readInto, judgedOf, elementsAt}
 use Rattle.frames.specs.Frame.{countAt}
-use Rattle.meaning.specs.Reading.{readAs, valueIn, valuesIn}
+use Rattle.meaning.specs.Reading.{readAs}
 use Rattle.verdicts.specs.Verdict.{Opening, openingBy, openedAt}
 use Rattle.reader.specs.Steps.{Got, Legible, IfPresent, AllLegible}
 
@@ -114,10 +114,3 @@ module _ (t : List Row) (s : List ℕ) where
   -- as an array of 12
   pub array-legible : {l : List Span} → Spans l → AllLegible t s (fill noSpan 12 l)
   array-legible {l} g k h = rw (getD-fill noSpan 12 l k) (g .each k)
-
--- what stands behind the rows' spans is not looked at
-pub values-front : (t : List Row) (s : List ℕ) (l m : List Span) → length t ≤ length l → valuesIn t s (l ++ m) ≡ valuesIn t s l
-unfolding valuesIn
-values-front [] s l m h = refl
-values-front (r ∷ t) s [] m h = absurd (omega arith)
-values-front (r ∷ t) s (v ∷ l) m h = ap (valueIn (r .kind) s v ∷_) (values-front t s l m (omega arith))

@@ -3,53 +3,45 @@
 -- Assumes nothing.
 use mathlib.Core.Path.{_≡_, refl, sym, ap, _∙_, subst}
 use mathlib.Core.Bool.{Bool, true, false}
-use mathlib.Core.List.{List, [], _∷_, _++_}
+use mathlib.Core.List.{List, _++_}
 use Prim.Native.Nat.{ℕ, _+_, _-_, _≤_, _<_}
 use native.Mathlib.Omega.{arith}
-use borrow.Author.Tests.{le-leb, lt-leb, lt-ltb, le-ltb, ltb-false}
-use lib.Dec.{ltb, leb}
-use lib.ListN.{length, take, drop, replicate}
-use lib.Seq.{sets}
-use Rattle.lists.specs.Lists.{pick, fill}
-use Rattle.lists.proofs.Fill.{take-fill}
+use borrow.Author.Tests.{le-leb, lt-leb, ltb-false}
+use lib.Dec.{ltb}
+use lib.ListN.{length, drop}
+use Rattle.lists.specs.Lists.{pick}
 use Rattle.octets.specs.Read.{Read, got, stop}
 use Rattle.octets.specs.Stands.{Octets}
-use Rattle.octets.specs.declared.Stop.{Stop}
-use Rattle.octets.specs.declared.Gate.{Gate}
 use Rattle.octets.specs.declared.Gate.the-variants as gate
-use Rattle.octets.specs.declared.Span.{Span}
-use Rattle.octets.specs.Span.{noSpan}
 use Rattle.octets.proofs.Writing.{sets-front}
 use Rattle.places.specs.Places.{spansIn}
-use Rattle.rows.specs.declared.Row.{Row}
 use Rattle.rows.specs.declared.Rows.{Rows}
-use Rattle.rows.specs.Table.{noRow, rowsIn}
+use Rattle.rows.specs.Table.{rowsIn}
 use Rattle.editions.specs.declared.Edition.{Edition}
 use Rattle.editions.specs.declared.Message.{Message}
 use Rattle.editions.specs.declared.Named.{Named}
 use Rattle.editions.specs.declared.Named.the-variants as named
 use Rattle.editions.specs.Editions.{tableOf, rowsOf, namedBy}
-use Rattle.editions.proofs.Tables.{table-lawful, lawful-count}
+use Rattle.editions.proofs.Tables.{table-lawful}
 use Rattle.editions.proofs.Names.{number-names}
 use Rattle.frames.specs.declared.Frame.{Frame}
 use Rattle.frames.specs.Frame.{frameAt}
-use Rattle.meaning.specs.Value.{Given, Record}
+use Rattle.meaning.specs.Value.{Record}
 use Rattle.meaning.specs.Reading.{valuesIn}
-use Rattle.verdicts.specs.declared.Outcome.{Outcome}
 use Rattle.verdicts.specs.declared.Refusal.{Refusal}
-use Rattle.verdicts.specs.declared.Refusal.the-variants.{TooLong, Stopped, NotAmong}
+use Rattle.verdicts.specs.declared.Refusal.the-variants.{TooLong}
 use Rattle.verdicts.specs.Verdict.{Opening, openedAt, Understood, Verdict, refused, understood, understoodBy, verdictOf, every, ofThose, framed, readOf}
 use Rattle.judging.specs.declared.Opened.{Opened}
-use Rattle.judging.specs.Judging.{openedBy, spansBy, Opens}
-use Rattle.judging.proofs.OpenedLaws.{spans-back}
+use Rattle.judging.specs.Judging.{Opens}
+use Rattle.judging.proofs.Steps.{Passed, passed, rows-of}
 use Rattle.layout.specs.Held.{Held}
-use Rattle.layout.specs.Record.{recordOctets, recordOut, isRecord, readRecord}
+use Rattle.layout.specs.Record.{recordOctets, isRecord, readRecord}
 use Rattle.layout.proofs.RecordBack.{held-size, record-back}
 use Rattle.reader.specs.declared.Reading.{Reading}
 use Rattle.reader.specs.declared.Reading.the-variants.{Refused, NoRoom, Put}
 use Rattle.reader.specs.Reader.{Answers}
 use Rattle.reader.specs.Steps.{AllLegible, PutIn}
-use Rattle.reader.proofs.Judged.{Spans, opened-spans, array-legible, values-front}
+use Rattle.reader.proofs.Judged.{opened-spans, array-legible}
 use Rattle.reader.proofs.Fitting.{values-fit}
 
 -- ---- what was read can be held
@@ -100,53 +92,27 @@ put-front e r d g h p =
 
 -- ---- as the code has it: a table in an array, and what the judging hands back
 
--- what it hands back, by its gate
-by-gate : (r : Read Opening) {x : Opened} → x ≡ openedBy r → x .gate ≡ gate.Pass → (y : Opening) × (got y ≡ r) × (x .outcome ≡ y .outcome)
-by-gate (got y) q g = (y, refl, ap (λ (z : Opened). z .outcome) q)
-by-gate (stop p) q g = absurd (let n : gate.Pass ≡ gate.Stop p = sym g ∙ ap (λ (z : Opened). z .gate) q in let z : _≡_ {A = ℕ} 0 1 = cc in omega arith)
-
-by-stop : (r : Read Opening) {x : Opened} {p : Stop} → x ≡ openedBy r → x .gate ≡ gate.Stop p → r ≡ stop p
-by-stop (got y) {x} {p} q g = absurd (let n : gate.Stop p ≡ gate.Pass = sym g ∙ ap (λ (z : Opened). z .gate) q in let z : _≡_ {A = ℕ} 0 1 = cc in omega arith)
-by-stop (stop w) {x} {p} q g = let n : gate.Stop p ≡ gate.Stop w = sym g ∙ ap (λ (z : Opened). z .gate) q in let k : w ≡ p = cc in ap stop k
-
 module _ (e : Edition) (m : Message) (f : Frame) (s : List ℕ) {t : Rows} {x : Opened} {ps : List ℕ} (is : t ≡ rowsOf e m) (q : Opens (openedAt (rowsIn t) s (f .from)) x ps) where
-  table : rowsIn t ≡ tableOf e m
-  table = ap rowsIn is ∙ take-fill noRow 12 (tableOf e m)
-
-  judged : Opens (openedAt (tableOf e m) s (f .from)) x ps
-  judged = rw table at q
-
-  spans-are : {y : Opening} → got y ≡ openedAt (tableOf e m) s (f .from) → spansIn ps ≡ fill noSpan 12 (y .spans)
-  spans-are a = spans-back (tableOf e m) s (f .from) (lawful-count (tableOf e m) (table-lawful e m)) (judged .places) ∙ ap spansBy (sym a)
-
-  pub is-stopped : {p : Stop} → x .gate ≡ gate.Stop p → verdictOf (tableOf e m) m f s (openedAt (tableOf e m) s (f .from)) ≡ refused (Stopped p)
-  is-stopped g = ap (verdictOf (tableOf e m) m f s) (by-stop (openedAt (tableOf e m) s (f .from)) (judged .result) g)
-
   module _ (g : x .gate ≡ gate.Pass) where
+    found : Passed e m f s t x ps
+    found = passed e m f s is q g
+
     pub all-legible : AllLegible (rowsIn t) s (spansIn ps)
-    all-legible =
-        let y = by-gate (openedAt (tableOf e m) s (f .from)) (judged .result) g in
-        rw (table, spans-are (y .1)) (array-legible (tableOf e m) s (opened-spans (tableOf e m) s (f .from) (y .1)))
+    all-legible = rw (rows-of e m is, found .spans) (array-legible (tableOf e m) s (opened-spans (tableOf e m) s (f .from) (sym (found .is))))
 
     pub too-small : {d : List ℕ} → length d < 2662 → Answers e (verdictOf (tableOf e m) m f s (openedAt (tableOf e m) s (f .from))) d NoRoom d
     too-small {d} h =
-        let y = by-gate (openedAt (tableOf e m) s (f .from)) (judged .result) g in
         let z = lt-leb 2662 (length d) h in
-        subst (λ (r : Read Opening). Answers e (verdictOf (tableOf e m) m f s r) d NoRoom d) (y .1) (rw z, rw z)
+        subst (λ (r : Read Opening). Answers e (verdictOf (tableOf e m) m f s r) d NoRoom d) (sym (found .is)) (rw z, rw z)
 
     pub is-put : Octets s → length s ≤ 8192 → (d : List ℕ) {k : List ℕ} → 2662 ≤ length d
         → PutIn e (record { message = m; crit = f .crit; values = valuesIn (rowsIn t) s (spansIn ps) }) d k
         → Answers e (verdictOf (tableOf e m) m f s (openedAt (tableOf e m) s (f .from))) d (Put (x .outcome)) k
     is-put o b d {k} h p =
-        let y = by-gate (openedAt (tableOf e m) s (f .from)) (judged .result) g in
-        let l = opened-spans (tableOf e m) s (f .from) (y .1) in
-        let v : valuesIn (rowsIn t) s (spansIn ps) ≡ valuesIn (tableOf e m) s (y .0 .spans)
-        = ap (λ (z : List Row). valuesIn z s (spansIn ps)) table
-        ∙ (ap (valuesIn (tableOf e m) s) (spans-are (y .1)) ∙ values-front (tableOf e m) s (y .0 .spans) (replicate (12 - length (y .0 .spans)) noSpan) (omega (arith, l .count))) in
-        let put : PutIn e (record { message = m; crit = f .crit; values = valuesIn (tableOf e m) s (y .0 .spans) }) d k = rw v at p in
+        let put : PutIn e (record { message = m; crit = f .crit; values = valuesIn (tableOf e m) s (found .opening .spans) }) d k = rw (found .values) at p in
         let z = le-leb 2662 (length d) h in
-        let front = put-front e (understoodBy (tableOf e m) m f s (y .0) .what) d (opening-held e m f s o b (y .1)) h put in
-        subst (λ (r : Read Opening). Answers e (verdictOf (tableOf e m) m f s r) d (Put (x .outcome)) k) (y .1) (rw z (ap Put (y .2)), rw z front)
+        let front = put-front e (understoodBy (tableOf e m) m f s (found .opening) .what) d (opening-held e m f s o b (sym (found .is))) h put in
+        subst (λ (r : Read Opening). Answers e (verdictOf (tableOf e m) m f s r) d (Put (x .outcome)) k) (sym (found .is)) (rw z (ap Put (found .outcome)), rw z front)
 
 -- ---- which verdict it is
 
@@ -155,22 +121,3 @@ answers-as e d {r} {k} q a = subst (λ (x : Verdict). Answers e x d r k) (sym q)
 
 pub answers-refused : (e : Edition) {v : Verdict} {x : Refusal} (d : List ℕ) → v ≡ refused x → Answers e v d (Refused x) d
 answers-refused e d q = answers-as e d q (refl, refl)
-
-module _ (e : Edition) (s : List ℕ) where
-  pub read-long : 8192 < length s → readOf e every s ≡ refused TooLong
-  unfolding readOf
-  read-long h = rw (lt-ltb 8192 (length s) h)
-
-  module _ (h : length s ≤ 8192) where
-    pub read-framed : {f : Frame} {m : Message} → got f ≡ frameAt s → namedBy e (f .kind) (f .code) ≡ named.Is m
-        → readOf e every s ≡ verdictOf (tableOf e m) m f s (openedAt (tableOf e m) s (f .from))
-    unfolding readOf
-    read-framed q n = rw (le-ltb 8192 (length s) h, ← q, n)
-
-    pub read-other : {f : Frame} → got f ≡ frameAt s → namedBy e (f .kind) (f .code) ≡ named.Other → readOf e every s ≡ refused NotAmong
-    unfolding readOf
-    read-other q n = rw (le-ltb 8192 (length s) h, ← q, n)
-
-    pub read-stopped : {x : Stop} → stop x ≡ frameAt s → readOf e every s ≡ refused (Stopped x)
-    unfolding readOf
-    read-stopped q = rw (le-ltb 8192 (length s) h, ← q)

@@ -20,7 +20,7 @@ use Rattle.table.specs.declared.Standing.{Standing}
 abbrev pub State : Type 0
 State = List Association
 
--- what stands in a row that holds none
+-- what is said of a row that holds none
 abbrev pub emptyAssociation : Association
 emptyAssociation = record {
   mme = record { 0 = 0 };
@@ -29,17 +29,21 @@ emptyAssociation = record {
   session = session.Absent;
 }
 
+-- what stands in a row that holds none, which is never looked at
+abbrev pub unheld : Association
+unheld = record { mme = record { 0 = 0 }; mce = record { 0 = 0 }; tmgi = emptyAssociation .tmgi; session = session.Is 0 }
+
 -- the first count rows; all 256 where the count is more
 abbrev pub held : Table → State
 held t = take (t .count) (t .rows)
 
--- the table of a state of at most 256: in the rows behind it, the empty association
+-- the table of a state of at most 256: none stands in the rows behind it
 abbrev pub tableOf : State → Table
-tableOf l = record { rows = fill emptyAssociation 256 l; count = length l }
+tableOf l = record { rows = fill unheld 256 l; count = length l }
 
 -- the rows of a table with those emptied that are held
 abbrev pub vacated : Table → State
-vacated t = replicate (length (held t)) emptyAssociation ++ drop (t .count) (t .rows)
+vacated t = replicate (length (held t)) unheld ++ drop (t .count) (t .rows)
 
 -- the table holds others instead: they stand in front of what is left when those held are gone
 unfoldable pub holding : State → Table → Table

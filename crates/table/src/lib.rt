@@ -34,7 +34,6 @@ pub struct Standing {
     pub full: bool,
 }
 
-// A constant, so that a table is cleared many octets at a time.
 const NO_ASSOCIATION: Association = Association {
     mme: MmeId(0),
     mce: MceId(0),
@@ -45,34 +44,45 @@ const NO_ASSOCIATION: Association = Association {
     session: Session::Absent,
 };
 
-// What stands in a row that holds none.
+// What is said of a row that holds none.
 pub fn no_association() -> Association
     ensures { λ r. ⌜ r ≡ emptyAssociation ⌝ }
 {
     NO_ASSOCIATION
 }
 
+// What stands in a row that holds none. Every octet of it is 0, so that a table is cleared many octets at a time.
+const UNHELD: Association = Association {
+    mme: MmeId(0),
+    mce: MceId(0),
+    tmgi: Tmgi {
+        plmn: Plmn(0, 0, 0),
+        service: Service(0, 0, 0),
+    },
+    session: Session::Is(0),
+};
+
 // The table that holds nothing; a whole reset leaves it.
 pub fn empty() -> Table
     ensures { λ r. ⌜ r ≡ tableOf [] ⌝ }
 {
     Table {
-        rows: [NO_ASSOCIATION; 256],
+        rows: [UNHELD; 256],
         count: 0,
     }
 }
 
 // Identities are compared within their series alone.
-fn same_mme(x: MmeId, y: MmeId) -> bool
-    ensures { λ r. ⌜ r ≡ eqb (x .0) (y .0) ⌝ }
+fn same_mme(m: MmeId, n: MmeId) -> bool
+    ensures { λ r. ⌜ r ≡ eqb (m .0) (n .0) ⌝ }
 {
-    x.0 == y.0
+    m.0 == n.0
 }
 
-fn same_mce(x: MceId, y: MceId) -> bool
-    ensures { λ r. ⌜ r ≡ eqb (x .0) (y .0) ⌝ }
+fn same_mce(c: MceId, d: MceId) -> bool
+    ensures { λ r. ⌜ r ≡ eqb (c .0) (d .0) ⌝ }
 {
-    x.0 == y.0
+    c.0 == d.0
 }
 
 // The association has both identities.
@@ -112,12 +122,11 @@ pub fn start(t: Table, a: Association) -> Table
 {
     let n = numbers::lesser(t.count, 256);
     let mut out = t;
+    out.count = n;
     if n < 256 {
         out.rows[n] = a;
         out.count = n + 1;
-        return out;
     }
-    out.count = n;
     out
 }
 
@@ -131,7 +140,7 @@ pub fn stop(t: Table, m: MmeId, c: MceId) -> Table
     let mut i = 0;
     while i < n {
         let a = out.rows[i];
-        out.rows[i] = NO_ASSOCIATION;
+        out.rows[i] = UNHELD;
         i += 1;
         if !has_pair(m, c, a) {
             out.rows[k] = a;

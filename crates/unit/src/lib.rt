@@ -108,8 +108,8 @@ fn finish(change: Change, n: usize, kept: &[u64], unit: &mut [u8], octets: usize
             if names_none(unit, n, kept) {
                 return hand_back(Answer::CarriedOut, octets);
             }
-            let t = units::rows_in(unit, n);
-            units::table_out(reset::reset(t, kept), 0, unit);
+            let rows = units::rows_in(unit, n);
+            units::table_out(reset::reset(rows, kept), 0, unit);
             hand_back(Answer::CarriedOut, octets)
         }
         Change::SetsUp => {

@@ -1,7 +1,8 @@
 -- `reader::read_inside` meets its contract. The judging says which verdict it is; behind its gate the record is put where there is room. Assumes nothing.
 use native.Mathlib.Omega.{arith}
 use denote.Ref.{now}
-use Rattle.reader.proofs.Record.{is-stopped, all-legible, too-small, is-put, answers-refused}
+use Rattle.judging.proofs.Steps.{verdict-stops}
+use Rattle.reader.proofs.Record.{all-legible, too-small, is-put, answers-refused}
 use borrow.Author.Needs.{needs}
 use Rattle.reader.proofs.read_inside.Statement.{statement}
 use Rattle.reader.proofs.read_inside.Tie as tie
@@ -19,7 +20,7 @@ enum-known-gate : tie.Need-enum-known-gate
 enum-known-gate c = search needs
 
 returns : tie.Need-returns
-returns c = let a = c .before .before .before .before .before .before .before .before .args in answers-refused (a .e) (now (a .room)) (is-stopped (a .e) (a .m) (a .f) (now (a .s)) (c .before .before .before .before .before .rows-of .ensures) (c .before .before .before .opened-at .ensures) (c .before .gate .given .1))
+returns c = let a = c .before .before .before .before .before .before .before .before .args in answers-refused (a .e) (now (a .room)) (verdict-stops (a .e) (a .m) (a .f) (now (a .s)) (c .before .before .before .before .before .rows-of .ensures) (c .before .before .before .opened-at .ensures) (c .before .gate .given .1))
 
 returns-2 : tie.Need-returns-2
 returns-2 c = let a = c .before .before .before .before .before .before .before .before .args in too-small (a .e) (a .m) (a .f) (now (a .s)) (c .before .before .before .before .before .rows-of .ensures) (c .before .before .before .opened-at .ensures) (c .before .enum-told .given .1) (c .if1 .taken)

@@ -7,7 +7,7 @@ use borrow.Author.Needs.{needs}
 use lib.ListN.{length}
 use Rattle.lists.proofs.Slices.{length-of}
 use Rattle.lists.proofs.Filter.{Kept, kept-none, kept-one, kept-not}
-use Rattle.table.specs.Table.{emptyAssociation, named, without}
+use Rattle.table.specs.Table.{unheld, named, without}
 use Rattle.table.specs.declared.Association.{Association}
 use Rattle.table.proofs.Rows.{table-kept}
 use Rattle.reset.proofs.Slots.{wordItems}
@@ -15,7 +15,7 @@ use Rattle.reset.proofs.reset.Statement.{statement}
 use Rattle.reset.proofs.reset.Tie as tie
 
 abbrev Inv-loop : tie.InvT-loop
-Inv-loop words t head next n out₀ k₀ i₀ out k i = Kept emptyAssociation 256 (λ (a : Association). not (named (wordItems words) a)) (t .rows) n (out .rows) k i
+Inv-loop words t head next n out₀ k₀ i₀ out k i = Kept unheld 256 (λ (a : Association). not (named (wordItems words) a)) (t .rows) n (out .rows) k i
 
 abbrev μ-loop : tie.MeasureT-loop
 μ-loop words t head next n out₀ k₀ i₀ out k i = n - i

@@ -4,7 +4,8 @@ use mathlib.Core.Path.{_∙_}
 use Rattle.units.specs.Unit.{readUnit}
 use Rattle.carry.specs.Carry.{ruling}
 use Rattle.verdicts.specs.declared.Refusal.the-variants as refusal
-use Rattle.unit.proofs.Reading.{numbers-fit, noted-count, verdict-stops, decided-by}
+use Rattle.judging.proofs.Steps.{verdict-stops}
+use Rattle.unit.proofs.Reading.{numbers-fit, noted-count, decided-by}
 use Rattle.unit.proofs.Laws.{none-listed, on-same, bare-called}
 use borrow.Author.Needs.{needs}
 use Rattle.unit.proofs.asked.Statement.{statement}
@@ -29,7 +30,7 @@ rule-requires : tie.Need-rule-requires
 rule-requires c κs = search needs
 
 carried-out-requires : tie.Need-carried-out-requires
-carried-out-requires c κs = let a = c .before .before .before .before .before .before .before .before .before .before .before .before .before .before .before .args in (none-listed (c .before .before .before .before .ask-of .result) (c .before .before .before .before .before .seen-in .result) (c .before .before .before .before .before .before .before .before .before .opened-at .result .outcome) (c .before .before .before .rule .ensures), numbers-fit (a .e) (a .m) (c .before .before .before .before .before .before .before .before .before .before .before .rows-of .ensures), noted-count (a .e) (a .m) (a .f) (now (a .message)) (c .before .before .before .before .before .before .before .before .before .before .before .rows-of .ensures) (c .before .before .before .before .before .before .before .before .before .opened-at .ensures) (c .before .before .before .before .before .before .before .enum-told .given .1))
+carried-out-requires c κs = let a = c .before .before .before .before .before .before .before .before .before .before .before .before .before .before .before .args in (none-listed (c .before .before .before .before .ask-of .result) (c .before .before .before .before .before .seen-in .result) (c .before .before .before .before .before .before .before .before .before .opened-at .result .outcome) (c .before .before .before .rule .ensures), numbers-fit (a .e) (a .m) (c .before .before .before .before .before .before .before .before .before .before .before .rows-of .ensures), noted-count _ (c .before .before .before .before .before .before .before .before .before .opened-at .ensures))
 
 enum-known-gate : tie.Need-enum-known-gate
 enum-known-gate c = search needs
