@@ -41,7 +41,7 @@ use Rattle.carry.specs.declared.Answer.the-variants as answer
 use Rattle.calls.specs.Judged.{judgedBy, setupAnswer}
 use Rattle.calls.specs.Decided.{Decided, decided}
 use Rattle.calls.specs.Call.{call, decidedOn, replyOf, repliedIn, answerOf, unitAfter, fits, settledIf, settled}
-use Rattle.demands.specs.Occur.{holding, offer, pair, whole, response, failure, emptyReset, opened, Does, BenchCalls, Demand2}
+use Rattle.demands.specs.Occur.{unitHolding, offer, pair, whole, response, failure, emptyReset, opened, Does, BenchCalls, Demand2}
 use Rattle.demands.proofs.Settle.{none-said}
 use Rattle.demands.proofs.Decisions.{none-good}
 use Rattle.demands.proofs.UnitOut.{call-on}
@@ -55,11 +55,11 @@ abbrev made : State → List ℕ → Decided
 made l s = decidedOn Release18 (record { held = l; isOpen = false }) (record { message = s; offered = offer; room = [] })
 
 does : (l : State) (s : List ℕ) {os : List ℕ} (l′ : State) → Good l → answerOf (made l s) ≡ answer.CarriedOut
-    → replyOf Release18 (made l s) ≡ os → unitAfter (holding l) (made l s) ≡ holding l′ → Does l s os l′
+    → replyOf Release18 (made l s) ≡ os → unitAfter (unitHolding l) (made l s) ≡ unitHolding l′ → Does l s os l′
 unfolding settled decidedOn
 does l s l′ g a r t d h =
     let f : fits Release18 d (made l s) ≡ true = le-leb (length (replyOf Release18 (made l s))) (length d) (rw r h) in
-    call-on Release18 (holding l) (record { message = s; offered = offer; room = d }) (record { held = l; isOpen = false }) (one-unit .back (record { held = l; isOpen = false }) (record { held = g })) ∙ rw (f, a, r, t)
+    call-on Release18 (unitHolding l) (record { message = s; offered = offer; room = d }) (record { held = l; isOpen = false }) (one-unit .back (record { held = l; isOpen = false }) (record { held = g })) ∙ rw (f, a, r, t)
 
 -- without a reply, in any room
 settled-silently : (t d : List ℕ) (x : Decided) {a : Answer} {y : List ℕ} → answerOf x ≡ a → repliedIn x ≡ silent → unitAfter t x ≡ y → settled Release18 t d x ≡ record { answer = a; reply = []; unit = y; room = d }
@@ -87,6 +87,7 @@ bench-calls = record {
   empty = does (pair 1 3 ∷ []) emptyReset (pair 1 3 ∷ []) (one-good 1 3 (omega arith) (omega arith)) refl refl refl;
   set-up = silently (pair 1 3 ∷ []) response fresh (one-good 1 3 (omega arith) (omega arith)) refl refl refl;
   set-up-failed = silently (pair 1 3 ∷ []) failure (with (pair 1 3 ∷ [])) (one-good 1 3 (omega arith) (omega arith)) refl refl refl;
+  in-seconds = refl;
   no-room = λ d h. room-number partialReset refl d (omega arith);
 }
 

@@ -2,7 +2,7 @@
 use Prim.Native.Nat.{ℕ, zero, suc, _+_, _<_, _≤_}
 use mathlib.Core.Path.{_≡_}
 use mathlib.Core.Bool.{true, false}
-use mathlib.Core.List.{List, [], _∷_, _++_}
+use mathlib.Core.List.{List, [], _∷_, _++_, map}
 use lib.ListN.{length, drop, replicate}
 use Rattle.identity.specs.declared.MceId.{MceId}
 use Rattle.identity.specs.declared.Session.the-variants as session
@@ -23,15 +23,15 @@ use Rattle.demands.specs.WhatIsDone.{WhatIsDone}
 
 -- ---- on a unit that holds these, with the MCE identity 9 offered
 
-abbrev pub holding : State → List ℕ
-holding l = unitOctets (record { held = l; isOpen = false })
+abbrev pub unitHolding : State → List ℕ
+unitHolding l = unitOctets (record { held = l; isOpen = false })
 
 abbrev pub offer : MceId
 offer = record { 0 = 9 }
 
 -- whatever the room, if it is large enough
 abbrev pub Gives : State → List ℕ → ℕ → Type 0
-Gives l s n = (d : List ℕ) → 3200 ≤ length d → numbered (call Release18 (holding l) (record { message = s; offered = offer; room = d }) .answer) .number ≡ n
+Gives l s n = (d : List ℕ) → 3200 ≤ length d → numbered (call Release18 (unitHolding l) (record { message = s; offered = offer; room = d }) .answer) .number ≡ n
 
 -- MME and MCE identity, and a TMGI of zeros
 abbrev pub pair : ℕ → ℕ → Association
@@ -107,7 +107,7 @@ pub record EveryAnswer : Type 0 where
   pub all-held : (l : State) → Good l → length l ≡ 256 → holdsMme (record { 0 = 5 }) l ≡ false → holdsMce offer l ≡ false → Gives l start 9
   pub so-many : Gives (many 256) start 9
   -- the whole reset, whose reply has seven octets
-  pub no-room : (d : List ℕ) → length d < 7 → numberOf (holding []) whole d ≡ 10
+  pub no-room : (d : List ℕ) → length d < 7 → numberOf (unitHolding []) whole d ≡ 10
   -- any call on octets that are no unit; no octets are none, nor is a table without its marks
   pub no-unit : (t s d : List ℕ) → readUnit t ≡ noUnit → numberOf t s d ≡ 21
   pub not-a-unit : (readUnit [] ≡ noUnit) × (readUnit (replicate 3074 0) ≡ noUnit)
@@ -133,8 +133,8 @@ opened l = record { held = l; isOpen = true }
 abbrev pub Does : State → List ℕ → List ℕ → State → Type 0
 Does l s os l′ =
     (d : List ℕ) → length os ≤ length d
-    → call Release18 (holding l) (record { message = s; offered = offer; room = d })
-    ≡ record { answer = answer.CarriedOut; reply = os; unit = holding l′; room = os ++ drop (length os) d }
+    → call Release18 (unitHolding l) (record { message = s; offered = offer; room = d })
+    ≡ record { answer = answer.CarriedOut; reply = os; unit = unitHolding l′; room = os ++ drop (length os) d }
 
 pub record BenchCalls : Type 0 where
   -- the RESET of the item 1 and 2: what it names is removed; where nothing is named, it is acknowledged all the same
@@ -145,13 +145,15 @@ pub record BenchCalls : Type 0 where
   -- the acknowledgement of a whole reset, or of empty items only
   pub whole : Does (pair 1 3 ∷ []) whole noList []
   pub empty : Does (pair 1 3 ∷ []) emptyReset noList (pair 1 3 ∷ [])
-  -- with a setup request open, its response empties the table, and its failure keeps it and hands back 60 seconds; both close it, whatever the room
+  -- with a setup request open, its response empties the table, and its failure keeps it and hands back a Time to Wait; both close it, whatever the room
   pub set-up : (d : List ℕ) → call Release18 (unitOctets (opened (pair 1 3 ∷ []))) (record { message = response; offered = offer; room = d })
-      ≡ record { answer = answer.CarriedOut; reply = []; unit = holding []; room = d }
+      ≡ record { answer = answer.CarriedOut; reply = []; unit = unitHolding []; room = d }
   pub set-up-failed : (d : List ℕ) → call Release18 (unitOctets (opened (pair 1 3 ∷ []))) (record { message = failure; offered = offer; room = d })
-      ≡ record { answer = answer.SetupFailed (wait.Is 5); reply = []; unit = holding (pair 1 3 ∷ []); room = d }
+      ≡ record { answer = answer.SetupFailed (wait.Is 5); reply = []; unit = unitHolding (pair 1 3 ∷ []); room = d }
+  -- each Time to Wait in seconds, as its name in 9.3.5 says
+  pub in-seconds : map (λ (v : ℕ). numbered (answer.SetupFailed (wait.Is v)) .wait) (0 ∷ 1 ∷ 2 ∷ 3 ∷ 4 ∷ 5 ∷ []) ≡ 1 ∷ 2 ∷ 5 ∷ 10 ∷ 20 ∷ 60 ∷ []
   -- a reply room of 20 for the 21 octets
-  pub no-room : (d : List ℕ) → length d ≡ 20 → numberOf (holding []) partialReset d ≡ 10
+  pub no-room : (d : List ℕ) → length d ≡ 20 → numberOf (unitHolding []) partialReset d ≡ 10
 
 -- Demand 2: each answer is given exactly when 01's table says, with the reply that it says, and each is given; what is done to the unit;
 -- and both round trips.

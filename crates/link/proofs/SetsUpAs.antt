@@ -39,22 +39,24 @@ module _ (t : List ℕ) (c : Setup) (u : Unit) where
   record Right (b d : Bool) (x : Encoded) : Type 0 where
     answers : setupNumber (done b d x .answer) ≡ dueBy b d x .number
     opens : setupNumber (done b d x .answer) ≡ 0 → done b d x .unit ≡ unitOctets (withOpen true u)
+    room : done b d x .room ≡ done b d x .request ++ drop (length (done b d x .request)) (c .room)
     refused : (setupNumber (done b d x .answer) ≡ 0 → ⊥) → (done b d x .unit ≡ t) × (done b d x .room ≡ c .room)
 
   right : (b d : Bool) (x : Encoded) → Right b d x
-  right true d x = record { answers = refl; opens = λ h. absurd (omega (arith, h)); refused = λ h. (refl, refl) }
-  right false true x = record { answers = refl; opens = λ h. absurd (omega (arith, h)); refused = λ h. (refl, refl) }
-  right false false none = record { answers = refl; opens = λ h. absurd (omega (arith, h)); refused = λ h. (refl, refl) }
-  right false false (octets os) = record { answers = fit (leb (length os) (length (c .room))) .0; opens = fit (leb (length os) (length (c .room))) .1; refused = fit (leb (length os) (length (c .room))) .2 }
+  right true d x = record { answers = refl; opens = λ h. absurd (omega (arith, h)); room = refl; refused = λ h. (refl, refl) }
+  right false true x = record { answers = refl; opens = λ h. absurd (omega (arith, h)); room = refl; refused = λ h. (refl, refl) }
+  right false false none = record { answers = refl; opens = λ h. absurd (omega (arith, h)); room = refl; refused = λ h. (refl, refl) }
+  right false false (octets os) = let f = fit (leb (length os) (length (c .room))) in record { answers = f .0; opens = f .1; room = f .2; refused = f .3 }
     where
       sent : Bool → SetupDone
       sent b = pick b (record { answer = Opened; request = os; unit = unitOctets (withOpen true u); room = os ++ drop (length os) (c .room) }) (refusing NoRoom t (c .room))
 
       fit : (b : Bool) → (setupNumber (sent b .answer) ≡ firstDue (0 when true reply due.none) (10 when not b reply due.none ∷ []) .number)
           × (setupNumber (sent b .answer) ≡ 0 → sent b .unit ≡ unitOctets (withOpen true u))
+          × (sent b .room ≡ sent b .request ++ drop (length (sent b .request)) (c .room))
           × ((setupNumber (sent b .answer) ≡ 0 → ⊥) → (sent b .unit ≡ t) × (sent b .room ≡ c .room))
-      fit true = (refl, λ h. refl, λ h. absurd (h refl))
-      fit false = (refl, λ h. absurd (omega (arith, h)), λ h. (refl, refl))
+      fit true = (refl, λ h. refl, refl, λ h. absurd (h refl))
+      fit false = (refl, λ h. absurd (omega (arith, h)), refl, λ h. (refl, refl))
 
 answers : (t : List ℕ) (c : Setup) (x : MaybeUnit) → setupNumber (setupOn Release18 t c x .answer) ≡ setupDue x c .number
 answers t c (isUnit u) = right t c u (nameRefused Release18 (c .said) (c .values)) (u .isOpen) (requestOf Release18 c) .answers
@@ -63,6 +65,10 @@ answers t c noUnit = refl
 refused : (t : List ℕ) (c : Setup) (x : MaybeUnit) → (setupNumber (setupOn Release18 t c x .answer) ≡ 0 → ⊥) → (setupOn Release18 t c x .unit ≡ t) × (setupOn Release18 t c x .room ≡ c .room)
 refused t c (isUnit u) = right t c u (nameRefused Release18 (c .said) (c .values)) (u .isOpen) (requestOf Release18 c) .refused
 refused t c noUnit = λ h. (refl, refl)
+
+in-room : (t : List ℕ) (c : Setup) (x : MaybeUnit) → setupOn Release18 t c x .room ≡ setupOn Release18 t c x .request ++ drop (length (setupOn Release18 t c x .request)) (c .room)
+in-room t c (isUnit u) = right t c u (nameRefused Release18 (c .said) (c .values)) (u .isOpen) (requestOf Release18 c) .room
+in-room t c noUnit = refl
 
 -- ---- a request has at most 8,192 octets
 
@@ -92,5 +98,6 @@ unfolding setup
 sets-up-as = record {
   answers = λ t c. answers t c (readUnit t);
   opens = λ t c u q h. rw q (right t c u (nameRefused Release18 (c .said) (c .values)) (u .isOpen) (requestOf Release18 c) .opens (rw q at h));
+  room = λ t c. in-room t c (readUnit t);
   refused = λ t c. refused t c (readUnit t);
 }

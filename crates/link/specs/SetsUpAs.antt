@@ -3,9 +3,9 @@
 use Prim.Native.Nat.{ℕ}
 use mathlib.Core.Path.{_≡_}
 use mathlib.Core.Bool.{Bool, true, false, not}
-use mathlib.Core.List.{List, [], _∷_}
+use mathlib.Core.List.{List, [], _∷_, _++_}
 use lib.Dec.{leb}
-use lib.ListN.{length}
+use lib.ListN.{length, drop}
 use Rattle.meaning.specs.Written.{Encoded, octets, none}
 use Rattle.layout.specs.Record.{nameRefused}
 use Rattle.units.specs.Unit.{Unit, MaybeUnit, isUnit, readUnit, withOpen, unitOctets}
@@ -36,5 +36,7 @@ pub record SetsUpAs : Type 0 where
   pub answers : (t : List ℕ) (c : Setup) → setupNumber (setup Release18 t c .answer) ≡ setupDue (readUnit t) c .number
   -- only 0 opens, and changes nothing else
   pub opens : (t : List ℕ) (c : Setup) (u : Unit) → readUnit t ≡ isUnit u → setupNumber (setup Release18 t c .answer) ≡ 0 → setup Release18 t c .unit ≡ unitOctets (withOpen true u)
+  -- the request stands in the front of the room, and what is behind it keeps its octets
+  pub room : (t : List ℕ) (c : Setup) → setup Release18 t c .room ≡ setup Release18 t c .request ++ drop (length (setup Release18 t c .request)) (c .room)
   -- a refusal leaves unit and room
   pub refused : (t : List ℕ) (c : Setup) → (setupNumber (setup Release18 t c .answer) ≡ 0 → ⊥) → (setup Release18 t c .unit ≡ t) × (setup Release18 t c .room ≡ c .room)

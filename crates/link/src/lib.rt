@@ -7,7 +7,7 @@ ghost use Rattle.calls.specs.Call.{call};
 ghost use Rattle.editions.specs.declared.Edition.the-variants.{Release18};
 ghost use Rattle.link.specs.Link.{Handed, refusalNumber, refusalPlace, readFor, allowedFor, writeFor, SetupHanded, partFor, Put};
 ghost use Rattle.setup.specs.Setup.{setup};
-ghost use Rattle.shown.specs.Shown.{partOf};
+ghost use Rattle.shown.specs.Shown.{shownPart};
 use editions::Edition;
 use identity::MceId;
 use octets::Stop;
@@ -171,7 +171,7 @@ fn flag(b: bool) -> u32
 // Which part of the request is its name, or else which part of the label is shown.
 #[no_mangle]
 pub extern "C" fn m3ap_shown(request: &[u8], label: &[u8]) -> Part
-    ensures { λ r. ⌜ r ≡ partFor (partOf Release18 (now (request .entry)) (now (label .entry))) ⌝ }
+    ensures { λ r. ⌜ r ≡ partFor (shownPart Release18 (now (request .entry)) (now (label .entry))) ⌝ }
 {
     let p = shown::part_of(Edition::Release18, request, label);
     let v = p.span;

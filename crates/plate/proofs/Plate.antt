@@ -26,7 +26,7 @@ use Rattle.round_trips.proofs.Accepted.{opened}
 use Rattle.setup.specs.Setup.{Setup, setupOn, setup}
 use Rattle.shown.specs.declared.Found.{Found}
 use Rattle.shown.specs.declared.Found.the-variants as found
-use Rattle.shown.specs.Shown.{setupRequests, foundAmong, foundIn, nameIn, partBy, partOf, within, shownOf}
+use Rattle.shown.specs.Shown.{setupRequests, foundAmong, foundIn, nameIn, partBy, shownPart, partOctets, shownOf}
 use Rattle.plate.specs.Name.{Name, called, nameless, nameAmong}
 use Rattle.plate.specs.Plate.{nameHanded, nameOn, nameFound, nameRead, Sent, Plate}
 use Rattle.plate.proofs.Sent.{Written, sent-written}
@@ -98,11 +98,11 @@ in-octets s v os n = by (leb (v .to) (length s))
     by true q = q
     by false q = absurd (n q)
 
-shown-name : (s l os : List ℕ) (x : Found) → nameAllowed os ≡ true → nameAt s x ≡ called os → within s l (partBy l x) ≡ os
+shown-name : (s l os : List ℕ) (x : Found) → nameAllowed os ≡ true → nameAt s x ≡ called os → partOctets s l (partBy l x) ≡ os
 shown-name s l os (found.Name v) a q = in-octets s v os (some-octets os a) (same-called q)
 shown-name s l os found.Nothing a q = not-called q
 
-shown-label : (s l : List ℕ) (x : Found) → nameAt s x ≡ nameless → within s l (partBy l x) ≡ take 150 l
+shown-label : (s l : List ℕ) (x : Found) → nameAt s x ≡ nameless → partOctets s l (partBy l x) ≡ take 150 l
 shown-label s l (found.Name v) q = not-called (sym q)
 shown-label s l found.Nothing q = by (leb 150 (length l)) refl
   where
@@ -160,11 +160,11 @@ module _ (e : Edition) (t : List ℕ) (c : Setup) (q : List ℕ) (s : Sent e t c
   name-is = ap (nameAt q) found-is ∙ (sym (among-found q (w .back .what .what .values)) ∙ (ap (λ (x : Said). nameAmong (x .values)) (w .back .said) ∙ sym handed-is))
 
   shows : (os label : List ℕ) → nameHanded e c ≡ called os → shownOf e q label ≡ os
-  unfolding shownOf partOf
+  unfolding shownOf shownPart
   shows os label h = shown-name q label os (nameIn e q) (allowed os h) (name-is ∙ h)
 
   labelled : (label : List ℕ) → nameHanded e c ≡ nameless → shownOf e q label ≡ take 150 label
-  unfolding shownOf partOf
+  unfolding shownOf shownPart
   labelled label h = shown-label q label (nameIn e q) (name-is ∙ h)
 
 -- a name that is not allowed is refused

@@ -7,7 +7,8 @@ use mathlib.Core.List.{List, _++_}
 use native.Mathlib.Omega.{arith}
 use borrow.Author.Tests.{eqb-true}
 use lib.Dec.{leb, eqb}
-use lib.ListN.{length, getD, drop}
+use lib.ListN.{length, getD, take, drop}
+use lib.Seq.{take-append-seam}
 use Rattle.lists.specs.Lists.{pick}
 use Rattle.editions.specs.declared.Edition.{Edition}
 use Rattle.editions.specs.declared.Message.{Message}
@@ -25,7 +26,7 @@ use Rattle.round_trips.proofs.LentDiffer.{Lent, lent-record, in-types}
 use Rattle.setup.specs.declared.SetupAnswer.{SetupAnswer}
 use Rattle.setup.specs.declared.SetupAnswer.the-variants.{Opened, NameNotAllowed, AlreadyOpen, NotWritten, NoRoom, NoUnit}
 use Rattle.setup.specs.Setup.{setupNumber, Setup, SetupDone, refusing, isRequest, requestOf, opening, setupOn, setup}
-use Rattle.plate.specs.Plate.{Handed, Sent}
+use Rattle.plate.specs.Plate.{LentOctets, Sent}
 
 -- two answers by their numbers
 apart : {x y : SetupAnswer} {A : Type 0} → x ≡ y → (setupNumber x ≡ setupNumber y → ⊥) → A
@@ -37,7 +38,7 @@ record Wrote (e : Edition) (c : Setup) (q : List ℕ) : Type 0 where
 
 module _ (e : Edition) (t : List ℕ) (c : Setup) (q : List ℕ) where
   abbrev Opens : SetupDone → Type 0
-  Opens b = b .answer ≡ Opened → b .request ≡ q → Wrote e c q
+  Opens b = b .answer ≡ Opened → take (length (b .request)) (b .room) ≡ q → Wrote e c q
 
   opened-by : (u : Unit) → nameRefused e (c .said) (c .values) ≡ false → (x : Encoded) → requestOf e c ≡ x → Opens (opening e u t (c .room) x)
   opened-by u n none k = λ a r. apart a (λ z. omega (arith, z))
@@ -47,7 +48,7 @@ module _ (e : Edition) (t : List ℕ) (c : Setup) (q : List ℕ) where
       sent = record { answer = Opened; request = os; unit = unitOctets (withOpen true u); room = os ++ drop (length os) (c .room) }
 
       by : (b : Bool) → Opens (pick b sent (refusing NoRoom t (c .room)))
-      by true a r = record { named = n; request = k ∙ ap octets r }
+      by true a r = record { named = n; request = k ∙ ap octets (sym (take-append-seam os (drop (length os) (c .room))) ∙ r) }
       by false a r = apart a (λ z. omega (arith, z))
 
   on-unit : (u : Unit) → Opens (setupOn e t c (isUnit u))

@@ -21,12 +21,12 @@ abbrev pub areas : List ℕ
 areas = 0x01 ∷ 0x00 ∷ 0x01 ∷ []
 
 -- n octets from a place on
-abbrev pub placed : ℕ → ℕ → Span
-placed from n = record { from = from; to = from + n }
+abbrev pub lying : ℕ → ℕ → Span
+lying from n = record { from = from; to = from + n }
 
 -- a request with a name of n characters, its values one behind another
 abbrev pub requestRecord : ℕ → Record
-requestRecord n = record { message = message.SetupRequest; crit = 0; values = given (carried (placed 0 6)) ∷ given (name (placed 6 n)) ∷ given (carried (placed (6 + n) 3)) ∷ [] }
+requestRecord n = record { message = message.SetupRequest; crit = 0; values = given (carried (lying 0 6)) ∷ given (name (lying 6 n)) ∷ given (carried (lying (6 + n) 3)) ∷ [] }
 
 abbrev pub asking : List ℕ → List ℕ → Setup
 asking os d = record { said = recordOctets Release18 (requestRecord (length os)); values = globalId ++ (os ++ areas); room = d }

@@ -6,7 +6,7 @@ use Prim.Native.Nat.{ℕ}
 use mathlib.Core.Path.{_≡_}
 use mathlib.Core.Bool.{true, false}
 use mathlib.Core.List.{List}
-use lib.ListN.{take}
+use lib.ListN.{length, take}
 use Rattle.octets.specs.Stands.{Octets}
 use Rattle.editions.specs.declared.Edition.{Edition}
 use Rattle.names.specs.Names.{nameAllowed}
@@ -20,7 +20,7 @@ use Rattle.shown.specs.Shown.{shownOf}
 use Rattle.plate.specs.Name.{Name, called, nameless, nameAmong}
 
 -- what the types let anyone hand over
-pub record Handed (c : Setup) : Type 0 where
+pub record LentOctets (c : Setup) : Type 0 where
   pub said : Octets (c .said)
   pub values : Octets (c .values)
 
@@ -41,11 +41,11 @@ module _ (e : Edition) where
   abbrev pub nameRead : List ℕ → Name
   nameRead q = nameFound q (readOf e every q)
 
-  -- a setup that was answered 0, with this request
+  -- a setup that was answered 0, with this request in the front of the room
   pub record Sent (t : List ℕ) (c : Setup) (q : List ℕ) : Type 0 where
-    pub handed : Handed c
+    pub handed : LentOctets c
     pub answer : setup e t c .answer ≡ Opened
-    pub request : setup e t c .request ≡ q
+    pub request : take (length (setup e t c .request)) (setup e t c .room) ≡ q
 
   -- With whatever units, records, values and rooms:
   pub record Plate : Type 0 where

@@ -42,7 +42,7 @@ use Rattle.verdicts.specs.Verdict.{Opening, openedAt, refused, verdictOf, ofTho
 use Rattle.shown.specs.declared.Found.{Found}
 use Rattle.shown.specs.declared.Found.the-variants.{Name, Nothing}
 use Rattle.shown.specs.declared.Part.{Part}
-use Rattle.shown.specs.Shown.{setupRequests, foundWith, foundAmong, ifAccepted, foundIn, nameIn, partBy, partOf, within, shownOf, orElse}
+use Rattle.shown.specs.Shown.{setupRequests, foundWith, foundAmong, ifAccepted, foundIn, nameIn, partBy, shownPart, partOctets, shownOf, orElse}
 use Rattle.shown.proofs.Values.{name-read, Unnamed, name-or-not}
 
 -- a part of s
@@ -119,8 +119,8 @@ module _ (e : Edition) (s : List ℕ) where
   unfolding nameIn readOf
   name-inside = on-pick (λ v. Inside s (foundIn v)) (ltb 8192 (length s)) tt (framed-inside (frameAt s))
 
-  pub part-inside : (l : List ℕ) → Within (pick (partOf e s l .«of_label») l s) (partOf e s l .span)
-  unfolding partOf
+  pub part-inside : (l : List ℕ) → Within (pick (shownPart e s l .«of_label») l s) (shownPart e s l .span)
+  unfolding shownPart
   part-inside l = by (nameIn e s) name-inside
     where
       by : (x : Found) → Inside s x → Within (pick (partBy l x .«of_label») l s) (partBy l x .span)
@@ -144,8 +144,8 @@ module _ (e : Edition) (s : List ℕ) where
       by true q = tt
       by false q = any (ltb-false 8192 (length s) q) (foundIn (framed e setupRequests s (frameAt s)))
 
-  pub part-early : (l : List ℕ) → partOf e s l .span .to ≤ 8192
-  unfolding partOf
+  pub part-early : (l : List ℕ) → shownPart e s l .span .to ≤ 8192
+  unfolding shownPart
   part-early l = by (nameIn e s) name-inside name-short
     where
       by : (x : Found) → Inside s x → Short x → partBy l x .span .to ≤ 8192
@@ -153,16 +153,16 @@ module _ (e : Edition) (s : List ℕ) where
       by Nothing i h = omega arith
 
   pub shown-few : (l : List ℕ) → length (shownOf e s l) ≤ 150
-  unfolding shownOf partOf
+  unfolding shownOf shownPart
   shown-few l = by (nameIn e s) name-inside
     where
-      by : (x : Found) → Inside s x → length (within s l (partBy l x)) ≤ 150
+      by : (x : Found) → Inside s x → length (partOctets s l (partBy l x)) ≤ 150
       by (Name v) i = name-size (slice (v .from) (v .to) s) (i .1) .1
       by Nothing i = let b : min 150 (length l) ≤ length l = omega arith in omega (arith, length-slice 0 (min 150 (length l)) l b)
 
 -- ---- the part that is cut out, of the label or of the request
 
-module _ (e : Edition) (s l : List ℕ) {p : Part} (q : p ≡ partOf e s l) {b : Bool} (o : p .«of_label» ≡ b) where
+module _ (e : Edition) (s l : List ℕ) {p : Part} (q : p ≡ shownPart e s l) {b : Bool} (o : p .«of_label» ≡ b) where
   pub lies : Within (pick b l s) (p .span)
   lies = subst (λ (i : Bool). Within (pick i l s) (p .span)) o (subst (λ (x : Part). Within (pick (x .«of_label») l s) (x .span)) (sym q) (part-inside e s l))
 
@@ -172,4 +172,4 @@ module _ (e : Edition) (s l : List ℕ) {p : Part} (q : p ≡ partOf e s l) {b :
       let h = lies .order in
       let k : p .span .from + (p .span .to - p .span .from) ≡ p .span .to = omega arith in
       take-drop (p .span .to - p .span .from) (p .span .from) (pick b l s)
-      ∙ (ap (λ (n : ℕ). slice (p .span .from) n (pick b l s)) k ∙ (ap (λ (i : Bool). slice (p .span .from) (p .span .to) (pick i l s)) (sym o) ∙ ap (within s l) q))
+      ∙ (ap (λ (n : ℕ). slice (p .span .from) n (pick b l s)) k ∙ (ap (λ (i : Bool). slice (p .span .from) (p .span .to) (pick i l s)) (sym o) ∙ ap (partOctets s l) q))

@@ -74,15 +74,15 @@ abbrev pub partBy : List ℕ → Found → Part
 partBy l (Name v) = record { «of_label» = false; span = v }
 partBy l Nothing = record { «of_label» = true; span = record { from = 0; to = min 150 (length l) } }
 
-unfoldable pub partOf : Edition → List ℕ → List ℕ → Part
-partOf e s l = partBy l (nameIn e s)
+unfoldable pub shownPart : Edition → List ℕ → List ℕ → Part
+shownPart e s l = partBy l (nameIn e s)
 
 -- the octets of that part
-abbrev pub within : List ℕ → List ℕ → Part → List ℕ
-within s l p = slice (p .span .from) (p .span .to) (pick (p .«of_label») l s)
+abbrev pub partOctets : List ℕ → List ℕ → Part → List ℕ
+partOctets s l p = slice (p .span .from) (p .span .to) (pick (p .«of_label») l s)
 
 unfoldable pub shownOf : Edition → List ℕ → List ℕ → List ℕ
-shownOf e s l = within s l (partOf e s l)
+shownOf e s l = partOctets s l (shownPart e s l)
 
 -- a name that is read, or else what was found before
 abbrev pub orElse : Read Span → Found → Found

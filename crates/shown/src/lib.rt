@@ -6,7 +6,7 @@ ghost use Rattle.names.specs.Names.{nameAt};
 ghost use Rattle.editions.specs.Editions.{tableOf};
 ghost use Rattle.meaning.specs.Reading.{valueIn, valuesIn};
 ghost use Rattle.verdicts.specs.Verdict.{openedAt, verdictOf};
-ghost use Rattle.shown.specs.Shown.{setupRequests, orElse, foundWith, foundAmong, ifAccepted, foundIn, nameIn, partOf, shownOf};
+ghost use Rattle.shown.specs.Shown.{setupRequests, orElse, foundWith, foundAmong, ifAccepted, foundIn, nameIn, shownPart, shownOf};
 use editions::Edition;
 use editions::Message;
 use editions::Named;
@@ -140,7 +140,7 @@ pub fn name_in(e: Edition, request: &[u8]) -> Found
 
 // Which part is shown, for a host that cannot be handed one.
 pub fn part_of(e: Edition, request: &[u8], label: &[u8]) -> Part
-    ensures { λ r. ⌜ r ≡ partOf e (now (request .entry)) (now (label .entry)) ⌝ }
+    ensures { λ r. ⌜ r ≡ shownPart e (now (request .entry)) (now (label .entry)) ⌝ }
 {
     match name_in(e, request) {
         Found::Name(v) => Part {

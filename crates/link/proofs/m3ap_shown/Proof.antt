@@ -7,14 +7,14 @@ use native.Mathlib.Omega.{arith}
 use borrow.Author.Needs.{needs}
 use Rattle.editions.specs.declared.Edition.the-variants.{Release18}
 use Rattle.shown.specs.declared.Part.{Part}
-use Rattle.shown.specs.Shown.{partOf}
+use Rattle.shown.specs.Shown.{shownPart}
 use Rattle.shown.proofs.Inside.{part-inside, part-early}
 use Rattle.link.specs.Link.{partFor}
 use Rattle.link.proofs.m3ap_shown.Statement.{statement}
 use Rattle.link.proofs.m3ap_shown.Tie as tie
 
 -- the part has its end behind its begin, and not far in
-small : (s l : List ℕ) {p : Part} → p ≡ partOf Release18 s l → (p .span .from ≤ p .span .to) × (p .span .to ≤ 8192)
+small : (s l : List ℕ) {p : Part} → p ≡ shownPart Release18 s l → (p .span .from ≤ p .span .to) × (p .span .to ≤ 8192)
 small s l q = rw q (part-inside Release18 s l .order, part-early Release18 s l)
 
 part-of-requires : tie.Need-part-of-requires

@@ -2,7 +2,7 @@
 use mathlib.Core.Path.{sym, ap, _∙_}
 use denote.Ref.{now}
 use borrow.Author.Needs.{needs}
-use Rattle.shown.specs.Shown.{partBy, partOf}
+use Rattle.shown.specs.Shown.{partBy, shownPart}
 use Rattle.shown.proofs.part_of.Statement.{statement}
 use Rattle.shown.proofs.part_of.Tie as tie
 
@@ -19,11 +19,11 @@ lesser-requires : tie.Need-lesser-requires
 lesser-requires c κs = search needs
 
 returns : tie.Need-returns
-unfolding partOf
+unfolding shownPart
 returns c = ap (partBy (now (c .before .before .before .before .before .before .args .label))) (sym (c .before .v .given .1) ∙ c .before .before .before .name-in .ensures)
 
 returns-2 : tie.Need-returns-2
-unfolding partOf
+unfolding shownPart
 returns-2 c = rw (c .lesser .ensures) (ap (partBy (now (c .before .before .before .before .before .before .args .label))) (sym (c .before .enum-told .given .1) ∙ c .before .before .before .name-in .ensures))
 
 pub part-of-spec : {M : Type 1} → statement M
