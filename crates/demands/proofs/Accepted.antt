@@ -17,7 +17,7 @@ use Rattle.octets.specs.declared.Span.{Span}
 use Rattle.octets.specs.Span.{noSpan, present}
 use Rattle.octets.proofs.Chain.{same-got}
 use Rattle.octets.specs.Many.{Each}
-use Rattle.values.specs.Values.{mmeAt, mceAt, tmgiAt, sessionAt, causeAt, waitAt}
+use Rattle.values.specs.Values.{mmeAt, mceAt, tmgiAt, oneAt, twoAt, causeAt, waitAt}
 use Rattle.names.specs.Names.{nameAt}
 use Rattle.items.specs.Items.{itemsAt, resetAt}
 use Rattle.entries.specs.declared.Entry.{Entry}
@@ -26,7 +26,7 @@ use Rattle.kinds.specs.Kinds.{valueAt}
 use Rattle.rows.specs.declared.Kind.{Kind}
 use Rattle.rows.specs.declared.Kind.the-variants as kind
 use Rattle.rows.specs.declared.Row.{Row}
-use Rattle.rows.specs.Table.{find, known, kindOf, noRow}
+use Rattle.rows.specs.Table.{find, known, kindOf, noRow, meanings}
 use Rattle.envelopes.specs.declared.Head.{Head}
 use Rattle.envelopes.specs.Envelope.{scanAt, headsAt}
 use Rattle.elements.specs.Judge as elements
@@ -173,13 +173,14 @@ read-kind kind.Carried s p q = ap valueKind (same-got q)
 read-kind kind.Mme s p q = of-read (λ v. valueKind v ≡ kind.Mme) value.mme (mmeAt (take (p .to) s) (p .from)) q (λ a h. refl)
 read-kind kind.Mce s p q = of-read (λ v. valueKind v ≡ kind.Mce) value.mce (mceAt (take (p .to) s) (p .from)) q (λ a h. refl)
 read-kind kind.Tmgi s p q = of-read (λ v. valueKind v ≡ kind.Tmgi) value.tmgi (tmgiAt (take (p .to) s) (p .from)) q (λ a h. refl)
-read-kind kind.Session s p q = of-read (λ v. valueKind v ≡ kind.Session) value.session (sessionAt (take (p .to) s) (p .from)) q (λ a h. refl)
+read-kind kind.OneOctet s p q = of-read (λ v. valueKind v ≡ kind.OneOctet) value.one (oneAt (take (p .to) s) (p .from)) q (λ a h. refl)
+read-kind kind.TwoOctets s p q = of-read (λ v. valueKind v ≡ kind.TwoOctets) value.two (twoAt (take (p .to) s) (p .from)) q (λ a h. refl)
 read-kind kind.Cause s p q = of-read (λ v. valueKind v ≡ kind.Cause) value.cause (causeAt (take (p .to) s) (p .from)) q (λ a h. refl)
 read-kind kind.Wait s p q = of-read (λ v. valueKind v ≡ kind.Wait) value.wait (waitAt (take (p .to) s) (p .from)) q (λ a h. refl)
 read-kind kind.Name s p q = of-read (λ v. valueKind v ≡ kind.Name) value.name (nameAt (take (p .to) s) (p .from)) q (λ a h. refl)
 read-kind kind.ResetType s p q = of-read (λ v. valueKind v ≡ kind.ResetType) value.reset (resetAt (take (p .to) s) (p .from)) q (λ a h. refl)
 read-kind kind.Acknowledged s p q = of-read (λ v. valueKind v ≡ kind.Acknowledged) value.list (itemsAt (take (p .to) s) (p .from)) q (λ a h. refl)
-read-kind kind.Diagnostics s p q = of-read (λ v. valueKind v ≡ kind.Diagnostics) value.diagnostics (diagnosticsAt (take (p .to) s) (p .from)) q (λ a h. refl)
+read-kind (kind.Diagnostics t) s p q = of-read (λ v. valueKind v ≡ kind.Diagnostics t) (value.diagnostics t) (diagnosticsAt (meanings t) (take (p .to) s) (p .from)) q (λ a h. refl)
 
 -- the value of a row
 value-at : (t : List Row) (s : List ℕ) (l : List Span) (k : ℕ) → length l ≡ length t → k < length t

@@ -48,7 +48,7 @@ use Rattle.demands.proofs.Taken.{Takes, Taken, taken-none, taken-more, 
 use Rattle.demands.proofs.Written.{items-size, takes-mme, takes-mce, takes-cause}
 use Rattle.demands.proofs.Seen.{asking}
 use Rattle.demands.proofs.Verdicts.{judged-as-read}
-use Rattle.demands.proofs.MessageOctets.{AllElement, message-octets, value-cause, value-part, value-mme, value-mce, value-tmgi, value-session, value-carried}
+use Rattle.demands.proofs.MessageOctets.{AllElement, message-octets, value-cause, value-part, value-mme, value-mce, value-tmgi, value-one, value-carried}
 
 -- what is read back and asks is accepted, with the request that it says
 asked-so : (e : Edition) (os : List ℕ) (w : Said) (q : Request) → ReadAs e os w → asks (w .message) ≡ true → requestOf (askOf (w .message)) (seen (w .values)) ≡ wanted.Is q
@@ -99,12 +99,12 @@ GoodSession (session.Is v) = v < 256
 GoodSession session.Absent = Unit
 
 abbrev sessionIf : Session → List Element
-sessionIf (session.Is v) = id-MBMS-Session-ID is value.session v ∷ []
+sessionIf (session.Is v) = id-MBMS-Session-ID is value.one v ∷ []
 sessionIf session.Absent = []
 
-takes-session : {r : Row} (v : ℕ) → kind.Session ≡ r .kind → v < 256 → Takes r (given (value.session v)) 6
+takes-one : {r : Row} (v : ℕ) → kind.OneOctet ≡ r .kind → v < 256 → Takes r (given (value.one v)) 6
 unfolding hasOctets octetsOf
-takes-session v k g = takes-value (value.session v) 1 k g refl (let l = length-number 1 v in omega arith)
+takes-one v k g = takes-value (value.one v) 1 k g refl (let l = length-number 1 v in omega arith)
 
 takes-carried : {r : Row} → kind.Carried ≡ r .kind → Takes r (given (value.carried (0 ∷ []))) 6
 unfolding hasOctets octetsOf
@@ -130,7 +130,7 @@ module _ (m : MmeId) (t : Tmgi) where
       → Taken (tableOf e message.StartRequest) (saying e message.StartRequest (startElements v) .values) 55
   unfolding release18 valueOf
   start-suits Release18 (session.Is v) g h f =
-      taken-more (takes-mme m refl g) (taken-more (takes-tmgi t refl h) (taken-more (takes-session v refl f)
+      taken-more (takes-mme m refl g) (taken-more (takes-tmgi t refl h) (taken-more (takes-one v refl f)
       (taken-more (takes-carried refl) (taken-more (takes-carried refl) (taken-more (takes-carried refl) (taken-more (takes-carried refl) (taken-more (takes-carried refl)
       (taken-more (takes-absent 0 refl) (taken-more (takes-absent 0 refl) (taken-more (takes-absent 0 refl) (taken-more (takes-absent 0 refl) taken-none)))))))))))
   start-suits Release18 session.Absent g h f =
@@ -145,7 +145,7 @@ module _ (m : MmeId) (t : Tmgi) where
   start-asks Release18 session.Absent = refl
 
   all-session : (v : Session) → Each AllElement (sessionIf v)
-  all-session (session.Is v) = (value-session v, tt)
+  all-session (session.Is v) = (value-one v, tt)
   all-session session.Absent = tt
 
 module _ (e : Edition) (m : MmeId) (t : Tmgi) (v : Session) where

@@ -150,9 +150,9 @@ value-tmgi t g =
     all-packed (bit false ∷ []) (omega arith, omega arith, tt)
     (all-more (g .0) (all-more (g .1) (all-more (g .2) (all-more (g .3) (all-more (g .4) (all-more (g .5) all-none))))))
 
-pub value-session : (v : ℕ) → All (octetsOf (value.session v))
+pub value-one : (v : ℕ) → All (octetsOf (value.one v))
 unfolding octetsOf
-value-session v = all-number 1 v
+value-one v = all-number 1 v
 
 -- one octet that is carried
 pub value-carried : (v : ℕ) → v < 256 → All (octetsOf (value.carried (v ∷ [])))

@@ -41,14 +41,15 @@ module _ {C D : Type 0} (f : C → D) where
       by (value.mme m) q = ap (seeing {C = C} (value.mme m)) q
       by (value.mce c) q = ap (seeing {C = C} (value.mce c)) q
       by (value.tmgi t) q = ap (seeing {C = C} (value.tmgi t)) q
-      by (value.session s) q = ap (seeing {C = C} (value.session s)) q
+      by (value.one s) q = ap (seeing {C = C} (value.one s)) q
+      by (value.two s) q = q
       by (value.cause c) q = q
       by (value.wait v) q = ap (seeing {C = C} (value.wait v)) q
       by (value.name c) q = q
       by (value.reset whole) q = ap (seeing {C = C} (value.reset whole)) q
       by (value.reset (part items)) q = ap (seeing {C = C} (value.reset (part items))) q
       by (value.list items) q = q
-      by (value.diagnostics d) q = q
+      by (value.diagnostics t d) q = q
 
   pub items-map : (vs : List (Given C)) → listsOf (map (onGiven f) vs) .items ≡ listsOf vs .items
   unfolding listsOf onCarried
@@ -61,14 +62,15 @@ module _ {C D : Type 0} (f : C → D) where
       by (value.mme m) q = q
       by (value.mce c) q = q
       by (value.tmgi t) q = q
-      by (value.session s) q = q
+      by (value.one s) q = q
+      by (value.two s) q = q
       by (value.cause c) q = q
       by (value.wait v) q = q
       by (value.name c) q = q
       by (value.reset whole) q = q
       by (value.reset (part items)) q = refl
       by (value.list items) q = refl
-      by (value.diagnostics d) q = q
+      by (value.diagnostics t d) q = q
 
 -- so a record asks what it says
 pub record Asking (r : Record) (w : Said) : Type 0 where
@@ -97,11 +99,12 @@ GoodValue (value.reset r) = GoodReset r
 GoodValue (value.list items) = GoodItems items
 GoodValue (value.carried c) = Unit
 GoodValue (value.tmgi t) = Unit
-GoodValue (value.session s) = Unit
+GoodValue (value.one s) = Unit
+GoodValue (value.two s) = Unit
 GoodValue (value.cause c) = Unit
 GoodValue (value.wait v) = Unit
 GoodValue (value.name c) = Unit
-GoodValue (value.diagnostics d) = Unit
+GoodValue (value.diagnostics t d) = Unit
 
 abbrev pub GoodGiven : {C : Type 0} → Given C → Type 0
 GoodGiven (given v) = GoodValue v
@@ -123,14 +126,15 @@ module _ {C : Type 0} where
       by (value.mme m) h k = record { mme = h; mce = k .mce }
       by (value.mce c) h k = record { mme = k .mme; mce = h }
       by (value.tmgi t) h k = record { mme = k .mme; mce = k .mce }
-      by (value.session s) h k = record { mme = k .mme; mce = k .mce }
+      by (value.one s) h k = record { mme = k .mme; mce = k .mce }
+      by (value.two s) h k = k
       by (value.cause c) h k = k
       by (value.wait v) h k = record { mme = k .mme; mce = k .mce }
       by (value.name c) h k = k
       by (value.reset whole) h k = record { mme = k .mme; mce = k .mce }
       by (value.reset (part items)) h k = record { mme = k .mme; mce = k .mce }
       by (value.list items) h k = k
-      by (value.diagnostics d) h k = k
+      by (value.diagnostics t d) h k = k
 
   -- items are in range, and a part of the interface has one
   pub record GoodListed (vs : List (Given C)) : Type 0 where
@@ -148,14 +152,15 @@ module _ {C : Type 0} where
       by (value.mme m) h k = record { list = k .list; some = k .some }
       by (value.mce c) h k = record { list = k .list; some = k .some }
       by (value.tmgi t) h k = record { list = k .list; some = k .some }
-      by (value.session s) h k = record { list = k .list; some = k .some }
+      by (value.one s) h k = record { list = k .list; some = k .some }
+      by (value.two s) h k = record { list = k .list; some = k .some }
       by (value.cause c) h k = record { list = k .list; some = k .some }
       by (value.wait v) h k = record { list = k .list; some = k .some }
       by (value.name c) h k = record { list = k .list; some = k .some }
       by (value.reset whole) h k = record { list = k .list; some = λ q. let z : _≡_ {A = ℕ} 0 1 = cc in absurd (omega arith) }
       by (value.reset (part items)) h k = record { list = record { few = h .1; each = h .2 }; some = λ q. h .0 }
       by (value.list items) h k = record { list = record { few = h .1; each = h .2 }; some = λ q. h .0 }
-      by (value.diagnostics d) h k = record { list = k .list; some = k .some }
+      by (value.diagnostics t d) h k = record { list = k .list; some = k .some }
 
 -- ---- what is there is seen
 
@@ -183,12 +188,13 @@ Has kind.Mce x = IsMce (x .mce)
 Has kind.Tmgi x = IsTmgi (x .tmgi)
 Has kind.ResetType x = IsReset (x .reset)
 Has kind.Carried x = Unit
-Has kind.Session x = Unit
+Has kind.OneOctet x = Unit
+Has kind.TwoOctets x = Unit
 Has kind.Cause x = Unit
 Has kind.Wait x = Unit
 Has kind.Name x = Unit
 Has kind.Acknowledged x = Unit
-Has kind.Diagnostics x = Unit
+Has (kind.Diagnostics t) x = Unit
 
 -- one value more takes nothing away
 record Kept (x y : Seen) : Type 0 where
@@ -203,12 +209,13 @@ has-kept kind.Mce q h = q .mce h
 has-kept kind.Tmgi q h = q .tmgi h
 has-kept kind.ResetType q h = q .reset h
 has-kept kind.Carried q h = tt
-has-kept kind.Session q h = tt
+has-kept kind.OneOctet q h = tt
+has-kept kind.TwoOctets q h = tt
 has-kept kind.Cause q h = tt
 has-kept kind.Wait q h = tt
 has-kept kind.Name q h = tt
 has-kept kind.Acknowledged q h = tt
-has-kept kind.Diagnostics q h = tt
+has-kept (kind.Diagnostics t) q h = tt
 
 module _ {C : Type 0} where
   seeing-has : (v : Value C) (x : Seen) → Has (valueKind v) (seeing v x)
@@ -216,28 +223,30 @@ module _ {C : Type 0} where
   seeing-has (value.mme m) x = tt
   seeing-has (value.mce c) x = tt
   seeing-has (value.tmgi t) x = tt
-  seeing-has (value.session s) x = tt
+  seeing-has (value.one s) x = tt
+  seeing-has (value.two s) x = tt
   seeing-has (value.cause c) x = tt
   seeing-has (value.wait v) x = tt
   seeing-has (value.name c) x = tt
   seeing-has (value.reset whole) x = tt
   seeing-has (value.reset (part items)) x = tt
   seeing-has (value.list items) x = tt
-  seeing-has (value.diagnostics d) x = tt
+  seeing-has (value.diagnostics t d) x = tt
 
   seeing-kept : (v : Value C) (x : Seen) → Kept x (seeing v x)
   seeing-kept (value.carried c) x = record { mme = λ h. h; mce = λ h. h; tmgi = λ h. h; reset = λ h. h }
   seeing-kept (value.mme m) x = record { mme = λ h. tt; mce = λ h. h; tmgi = λ h. h; reset = λ h. h }
   seeing-kept (value.mce c) x = record { mme = λ h. h; mce = λ h. tt; tmgi = λ h. h; reset = λ h. h }
   seeing-kept (value.tmgi t) x = record { mme = λ h. h; mce = λ h. h; tmgi = λ h. tt; reset = λ h. h }
-  seeing-kept (value.session s) x = record { mme = λ h. h; mce = λ h. h; tmgi = λ h. h; reset = λ h. h }
+  seeing-kept (value.one s) x = record { mme = λ h. h; mce = λ h. h; tmgi = λ h. h; reset = λ h. h }
+  seeing-kept (value.two s) x = record { mme = λ h. h; mce = λ h. h; tmgi = λ h. h; reset = λ h. h }
   seeing-kept (value.cause c) x = record { mme = λ h. h; mce = λ h. h; tmgi = λ h. h; reset = λ h. h }
   seeing-kept (value.wait v) x = record { mme = λ h. h; mce = λ h. h; tmgi = λ h. h; reset = λ h. h }
   seeing-kept (value.name c) x = record { mme = λ h. h; mce = λ h. h; tmgi = λ h. h; reset = λ h. h }
   seeing-kept (value.reset whole) x = record { mme = λ h. h; mce = λ h. h; tmgi = λ h. h; reset = λ h. tt }
   seeing-kept (value.reset (part items)) x = record { mme = λ h. h; mce = λ h. h; tmgi = λ h. h; reset = λ h. tt }
   seeing-kept (value.list items) x = record { mme = λ h. h; mce = λ h. h; tmgi = λ h. h; reset = λ h. h }
-  seeing-kept (value.diagnostics d) x = record { mme = λ h. h; mce = λ h. h; tmgi = λ h. h; reset = λ h. h }
+  seeing-kept (value.diagnostics t d) x = record { mme = λ h. h; mce = λ h. h; tmgi = λ h. h; reset = λ h. h }
 
   pub seen-has : (vs : List (Given C)) (i : ℕ) (v : Value C) → getD vs i absent ≡ given v → Has (valueKind v) (seen vs)
   unfolding seen

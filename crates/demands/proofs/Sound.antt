@@ -18,7 +18,7 @@ use Rattle.octets.proofs.Got.{number-got, choice-got}
 use Rattle.octets.proofs.Again.{value-below}
 use Rattle.octets.proofs.Stood.{octets-front}
 use Rattle.octets.specs.Many.{Each}
-use Rattle.values.specs.Values.{mmeAt, mceAt, tmgiAt, sessionAt, causeAt, waitAt}
+use Rattle.values.specs.Values.{mmeAt, mceAt, tmgiAt, oneAt, twoAt, causeAt, waitAt}
 use Rattle.names.specs.Names.{nameAt}
 use Rattle.values.proofs.Good.{mme-good, mce-good}
 use Rattle.items.specs.Items.{itemsAt, resetAt}
@@ -28,7 +28,7 @@ use Rattle.diagnostics.specs.Written.{GoodEntry}
 use Rattle.rows.specs.declared.Kind.{Kind}
 use Rattle.rows.specs.declared.Kind.the-variants as kind
 use Rattle.rows.specs.declared.Row.{Row}
-use Rattle.rows.specs.Table.{find, known}
+use Rattle.rows.specs.Table.{find, known, meanings}
 use Rattle.envelopes.specs.declared.Head.{Head}
 use Rattle.envelopes.specs.Envelope.{criticalityAt, envelopeAt, onHead, headsAt}
 use Rattle.elements.specs.Judge as elements
@@ -172,13 +172,14 @@ module _ (s : List ℕ) (o : Octets s) where
     read-good kind.Mme q = of-read GoodValue value.mme (mmeAt (take (p .to) s) (p .from)) q (λ a h. mme-good (take (p .to) s) (p .from) cut h)
     read-good kind.Mce q = of-read GoodValue value.mce (mceAt (take (p .to) s) (p .from)) q (λ a h. mce-good (take (p .to) s) (p .from) cut h)
     read-good kind.Tmgi q = of-read GoodValue value.tmgi (tmgiAt (take (p .to) s) (p .from)) q (λ a h. tt)
-    read-good kind.Session q = of-read GoodValue value.session (sessionAt (take (p .to) s) (p .from)) q (λ a h. tt)
+    read-good kind.OneOctet q = of-read GoodValue value.one (oneAt (take (p .to) s) (p .from)) q (λ a h. tt)
+    read-good kind.TwoOctets q = of-read GoodValue value.two (twoAt (take (p .to) s) (p .from)) q (λ a h. tt)
     read-good kind.Cause q = of-read GoodValue value.cause (causeAt (take (p .to) s) (p .from)) q (λ a h. tt)
     read-good kind.Wait q = of-read GoodValue value.wait (waitAt (take (p .to) s) (p .from)) q (λ a h. tt)
     read-good kind.Name q = of-read GoodValue value.name (nameAt (take (p .to) s) (p .from)) q (λ a h. tt)
     read-good kind.ResetType q = of-read GoodValue value.reset (resetAt (take (p .to) s) (p .from)) q (λ a h. reset-good (take (p .to) s) (p .from) cut h)
     read-good kind.Acknowledged q = of-read GoodValue value.list (itemsAt (take (p .to) s) (p .from)) q (λ a h. items-good (take (p .to) s) (p .from) cut h)
-    read-good kind.Diagnostics q = of-read GoodValue value.diagnostics (diagnosticsAt (take (p .to) s) (p .from)) q (λ a h. tt)
+    read-good (kind.Diagnostics t) q = of-read GoodValue (value.diagnostics t) (diagnosticsAt (meanings t) (take (p .to) s) (p .from)) q (λ a h. tt)
 
     value-good : (k : Kind) → GoodGiven (valueIn k s p)
     unfolding valueIn

@@ -36,6 +36,9 @@ use Rattle.diagnostics.specs.Written.{headOctets, listOctets, diagnosticsOctets
 use Rattle.put_diagnostics.proofs.Sizes.{head-small, list-size}
 use Rattle.rows.specs.declared.Kind.the-variants as kind
 use Rattle.rows.specs.declared.Row.{Row}
+use Rattle.rows.specs.declared.Triggers.{Triggers}
+use Rattle.rows.specs.declared.Triggers.the-variants.{Three}
+use Rattle.rows.specs.Table.{meanings}
 use Rattle.editions.specs.declared.Message.{Message}
 use Rattle.editions.specs.declared.Message.the-variants as message
 use Rattle.editions.specs.declared.Edition.{Edition}
@@ -114,9 +117,9 @@ items-size crit items h =
     let b = each-small crit items in
     rw (length-append (numberOctets 1 (length items - 1)) (eachOctets (itemElementOctets crit) items)) (omega arith)
 
-diagnostics-size : (d : Diagnostics) → Good d → length (diagnosticsOctets d) ≤ 773
+diagnostics-size : (n : ℕ) (d : Diagnostics) → Good n d → length (diagnosticsOctets d) ≤ 773
 unfolding diagnosticsOctets
-diagnostics-size d g = rw length-append (by (d .head .listed))
+diagnostics-size n d g = rw length-append (by (d .head .listed))
   where
     by : (t : Bool) → length (headOctets (d .head)) + length (listOctets t (d .entries)) ≤ 773
     by true = let a = head-small (d .head) in let b = list-size (d .entries) in let c = g .count in omega arith
@@ -139,12 +142,12 @@ module _ {r : Row} where
   unfolding hasOctets octetsOf
   takes-list items k p b g = takes-value (value.list items) 2305 k g (counted-good (length items) p b) (items-size ignore items b)
 
-  takes-diagnostics : (d : Diagnostics) → kind.Diagnostics ≡ r .kind → Good d → Takes r (given (value.diagnostics d)) 778
+  takes-diagnostics : (t : Triggers) (d : Diagnostics) → kind.Diagnostics t ≡ r .kind → Good (meanings t) d → Takes r (given (value.diagnostics t d)) 778
   unfolding hasOctets octetsOf
-  takes-diagnostics d k g =
-      takes-value (value.diagnostics d) 773 k
+  takes-diagnostics t d k g =
+      takes-value (value.diagnostics t d) 773 k
       (record { code = g .head .code; ids = ids (d .entries) (g .entries); none = none })
-      (diagnostics-has d g) (diagnostics-size d g)
+      (diagnostics-has (meanings t) d g) (diagnostics-size (meanings t) d g)
     where
       ids : (es : List Entry) → Each GoodEntry es → Each (λ (e : Entry). e .id < 65536) es
       ids [] h = tt
@@ -157,13 +160,13 @@ module _ {r : Row} where
   takes-none : {v : Given (List ℕ)} (n : ℕ) → v ≡ absent → r .mandatory ≡ false → Takes r v n
   takes-none n q e = rw q (takes-absent n e)
 
-  takes-only : (es : List Entry) → kind.Diagnostics ≡ r .kind → r .mandatory ≡ false → GoodEntries es → Takes r (valueOf (listOnly es) id-CriticalityDiagnostics) 778
+  takes-only : (es : List Entry) → kind.Diagnostics Three ≡ r .kind → r .mandatory ≡ false → GoodEntries es → Takes r (valueOf (listOnly es) id-CriticalityDiagnostics) 778
   unfolding listOnly valueOf
   takes-only es k e n = by (someOf es) refl
     where
       by : (t : Bool) → someOf es ≡ t
-          → Takes r (valueOf (pick t (id-CriticalityDiagnostics is value.diagnostics (record { head = listHead; entries = es }) ∷ []) []) id-CriticalityDiagnostics) 778
-      by true q = takes-diagnostics (record { head = listHead; entries = es }) k (record { head = record { code = tt; trigger = tt; crit = tt }; entries = n .each; listed = sym q; count = n .few })
+          → Takes r (valueOf (pick t (id-CriticalityDiagnostics is value.diagnostics Three (record { head = listHead; entries = es }) ∷ []) []) id-CriticalityDiagnostics) 778
+      by true q = takes-diagnostics Three (record { head = listHead; entries = es }) k (record { head = record { code = tt; trigger = tt; crit = tt }; entries = n .each; listed = sym q; count = n .few })
       by false q = takes-absent 778 e
 
 -- ---- the elements of each reply
@@ -215,7 +218,7 @@ module _ (es : List Entry) (n : GoodEntries es) where
 record Diagnosing (d : List Element) : Type 0 where
   mme : valueOf d id-MME-MBMS-M3AP-ID ≡ absent
   mce : valueOf d id-MCE-MBMS-M3AP-ID ≡ absent
-  list : (r : Row) → kind.Diagnostics ≡ r .kind → r .mandatory ≡ false → Takes r (valueOf d id-CriticalityDiagnostics) 778
+  list : (r : Row) → kind.Diagnostics Three ≡ r .kind → r .mandatory ≡ false → Takes r (valueOf d id-CriticalityDiagnostics) 778
 
 error-suits : (e : Edition) (x : Mme) (y : Mce) (why : Cause) (d : List Element) → GoodMme x → GoodMce y → GoodCause why → Diagnosing d
     → Suit e message.ErrorIndication (mmeIf x ++ (mceIf y ++ (id-Cause is value.cause why ∷ d))) 798
@@ -234,7 +237,7 @@ unfolding ofFrame valueOf
 frame-diagnosing f es u n = record {
   mme = refl;
   mce = refl;
-  list = λ r k m. takes-diagnostics (record { head = frameHead f es; entries = es }) k
+  list = λ r k m. takes-diagnostics Three (record { head = frameHead f es; entries = es }) k
       (record { head = record { code = u .code; trigger = u .kind; crit = u .crit }; entries = n .each; listed = refl; count = n .few });
 }
 

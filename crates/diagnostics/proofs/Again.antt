@@ -61,26 +61,26 @@ module _ (s : List ℕ) (o : Octets s) where
         good = x .3;
       }
 
-  abbrev pub Again : ℕ → Diagnostics → Type 0
-  Again at d = Stands s at (diagnosticsOctets d) × (length s ≡ at + length (diagnosticsOctets d)) × Good d
+  abbrev pub Again : ℕ → ℕ → Diagnostics → Type 0
+  Again n at d = Stands s at (diagnosticsOctets d) × (length s ≡ at + length (diagnosticsOctets d)) × Good n d
 
-  joined : (at next : ℕ) (h : Head) (es : List Entry) → Stands s at (headOctets h) → next ≡ at + length (headOctets h) → GoodHead h → List-again next (h .listed) es
-      → Again at (record { head = h; entries = es })
+  joined : (n at next : ℕ) (h : Head) (es : List Entry) → Stands s at (headOctets h) → next ≡ at + length (headOctets h) → GoodHead n h → List-again next (h .listed) es
+      → Again n at (record { head = h; entries = es })
   unfolding diagnosticsOctets
-  joined at next h es x e g l =
+  joined n at next h es x e g l =
       let a = length-append (headOctets h) (listOctets (h .listed) es) in
       let both = stands-join {vs = headOctets h} {ws = listOctets (h .listed) es} x (rw e at (l .octets)) in
       let r = both .room in
       let z = l .ends in
       (both, omega arith, record { head = g; entries = l .good; listed = l .listed; count = l .count })
 
-  pub diagnostics-again : (at : ℕ) (d : Diagnostics) → got d ≡ diagnosticsAt s at → Again at d
+  pub diagnostics-again : (n at : ℕ) (d : Diagnostics) → got d ≡ diagnosticsAt n s at → Again n at d
   unfolding diagnosticsAt
-  diagnostics-again at d q =
-      let a = then-got (headAt s at) _ q in
+  diagnostics-again n at d q =
+      let a = then-got (headAt n s at) _ q in
       let b = then-got (maybeListAt (a .0 .value .listed) s (a .0 .next)) _ (a .2) in
-      let x = head-again s o at (a .0) (a .1) in
+      let x = head-again s o at n (a .0) (a .1) in
       let r = x .0 .room in
       let e = x .1 in
-      subst (Again at) (sym (same-got (b .2)))
-      (joined at (a .0 .next) (a .0 .value) (b .0) (x .0) e (x .2) (list-again (a .0 .next) (a .0 .value .listed) (b .0) (omega arith) (b .1)))
+      subst (Again n at) (sym (same-got (b .2)))
+      (joined n at (a .0 .next) (a .0 .value) (b .0) (x .0) e (x .2) (list-again (a .0 .next) (a .0 .value .listed) (b .0) (omega arith) (b .1)))

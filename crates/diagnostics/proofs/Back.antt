@@ -39,10 +39,10 @@ module _ (s : List ℕ) where
       past _ _ (number-back 1 s at (length es - 1) (omega arith) (x .0))
       (rw m (entries-back s (at + 1) es l g (rw d at (x .1)) (omega (arith, entries-length [] es))))
 
-  pub diagnostics-back : (at : ℕ) (d : Diagnostics) → Good d → Stands s at (diagnosticsOctets d) → length s ≡ at + length (diagnosticsOctets d) → got d ≡ diagnosticsAt s at
+  pub diagnostics-back : (n : ℕ) → n ≤ 4 → (at : ℕ) (d : Diagnostics) → Good n d → Stands s at (diagnosticsOctets d) → length s ≡ at + length (diagnosticsOctets d) → got d ≡ diagnosticsAt n s at
   unfolding diagnosticsAt diagnosticsOctets
-  diagnostics-back at d g h e =
+  diagnostics-back n w at d g h e =
       let x = stands-split (headOctets (d .head)) (listOctets (d .head .listed) (d .entries)) h in
       let a = length-append (headOctets (d .head)) (listOctets (d .head .listed) (d .entries)) in
-      past _ _ (head-back s at (d .head) (g .head) (x .0))
+      past _ _ (head-back n w s at (d .head) (g .head) (x .0))
       (past _ _ (list-back (at + length (headOctets (d .head))) (d .head .listed) (d .entries) (g .listed) (g .count) (g .entries) (x .1) (omega arith)) refl)

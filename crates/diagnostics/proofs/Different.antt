@@ -2,7 +2,7 @@
 -- Assumes nothing.
 use mathlib.Core.Path.{_≡_, _∙_, sym, ap}
 use mathlib.Core.List.{List}
-use Prim.Native.Nat.{ℕ}
+use Prim.Native.Nat.{ℕ, _≤_}
 use native.Mathlib.Nat.{zero-add}
 use Rattle.octets.specs.Read.{got}
 use Rattle.octets.specs.Stands.{StaysDifferent}
@@ -12,8 +12,8 @@ use Rattle.diagnostics.specs.Diagnostics.{Diagnostics, diagnosticsAt}
 use Rattle.diagnostics.specs.Written.{diagnosticsOctets, Good}
 use Rattle.diagnostics.proofs.Back.{diagnostics-back}
 
-pub diagnostics : StaysDifferent Good diagnosticsOctets
-diagnostics v w a b e = same-got (alone v a ∙ (ap (λ (s : List ℕ). diagnosticsAt s 0) e ∙ sym (alone w b)))
+pub diagnostics : (n : ℕ) → n ≤ 4 → StaysDifferent (Good n) diagnosticsOctets
+diagnostics n l v w a b e = same-got (alone v a ∙ (ap (λ (s : List ℕ). diagnosticsAt n s 0) e ∙ sym (alone w b)))
   where
-    alone : (d : Diagnostics) → Good d → got d ≡ diagnosticsAt (diagnosticsOctets d) 0
-    alone d g = diagnostics-back (diagnosticsOctets d) 0 d g (stands-alone (diagnosticsOctets d)) (sym (zero-add _))
+    alone : (d : Diagnostics) → Good n d → got d ≡ diagnosticsAt n (diagnosticsOctets d) 0
+    alone d g = diagnostics-back (diagnosticsOctets d) n l 0 d g (stands-alone (diagnosticsOctets d)) (sym (zero-add _))

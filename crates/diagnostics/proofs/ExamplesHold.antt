@@ -14,4 +14,4 @@ use Rattle.diagnostics.specs.Examples.{Hold}
 pub hold : Hold
 unfolding _>>=_ bitsOf flagAt plainAt choiceAt padAt numberAt endsAt many marksAt codeAt maybeAt headAt critAt entryAt entriesAt listAt diagnosticsAt
     packedIn numberOctets pairs headOctets entriesOctets diagnosticsOctets
-hold = (refl, refl, refl)
+hold = (refl, refl, refl, refl)

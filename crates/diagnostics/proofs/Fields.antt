@@ -57,6 +57,10 @@ pub bits-mod : (x b w : ℕ) → bitsOf x (b % 8) w ≡ bitsOf x b w
 unfolding bitsOf
 bits-mod x b w = rw (mod-mod b 8)
 
+pub pair-small : (x b : ℕ) → bitsOf x b 2 < 4
+unfolding bitsOf
+pair-small x b = mod-lt _ (omega arith)
+
 module _ (s : List ℕ) (at b : ℕ) where
   flag-mod : flagAt s at (b % 8) ≡ flagAt s at b
   unfolding flagAt

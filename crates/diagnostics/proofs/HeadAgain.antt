@@ -25,7 +25,7 @@ use Rattle.diagnostics.specs.declared.Number.{Number}
 use Rattle.diagnostics.specs.declared.Head.{Head}
 use Rattle.diagnostics.specs.Diagnostics.{Marks, after, behindCode, behindTrigger, behindCrit, marksAt, codeAt, maybeAt, headAt}
 use Rattle.diagnostics.specs.Written.{isThere, marksOf, marks, numbers, octetOf, pairs, withCode, headOctets, Under, GoodHead}
-use Rattle.diagnostics.proofs.Fields.{bits-mod, fields-behind, bit-again, pad-low, octet-again}
+use Rattle.diagnostics.proofs.Fields.{bits-mod, pair-small, fields-behind, bit-again, pad-low, octet-again}
 use Rattle.diagnostics.proofs.Pairs.{Begun, begun-none, begun-more, begun-marks, more, more-width, octet-some}
 use Rattle.diagnostics.proofs.HeadBack.{head-length}
 
@@ -60,24 +60,25 @@ module _ (s : List ℕ) (o : Octets s) (at : ℕ) where
   Held-then us p q vs =
       (ws : List Field) × Held ws q × ((xs : List ℕ) → Stands s (at + q / 8) (pairs ws xs) → Stands s (at + p / 8) (pairs us (vs ++ xs)))
 
-  held-number : (m : Bool) (n : Number) (us : List Field) (p : ℕ) → Held us p → got n ≡ maybeAt m s at p
-      → (m ≡ isThere n) × Under 3 n × Held-then us p (after m 2 p) (numbers n)
+  held-number : (n : ℕ) (m : Bool) (y : Number) (us : List Field) (p : ℕ) → Held us p → got y ≡ maybeAt n m s at p
+      → (m ≡ isThere y) × Under n y × Held-then us p (after m 2 p) (numbers y)
   unfolding maybeAt Held-then pairs
-  held-number false n us p k q = subst (λ (x : Number). (false ≡ isThere x) × Under 3 x × Held-then us p p (numbers x)) (sym (same-got q)) (refl, tt, (us, k, λ xs h. h))
-  held-number true n us p k q =
-      let t = then-got (choiceAt 3 2 s (at + p / 8) p) _ q in
-      let g = choice-got s (at + p / 8) 3 2 p (t .1) in
-      subst (λ (x : Number). (true ≡ isThere x) × Under 3 x × Held-then us p (p + 2) (numbers x)) (sym (same-got (t .2)))
-      (refl, g .2, by (t .0) (g .0) (g .1) (g .2) (ltb (widths (more us (t .0))) 8) refl)
+  held-number n false y us p k q = subst (λ (x : Number). (false ≡ isThere x) × Under n x × Held-then us p p (numbers x)) (sym (same-got q)) (refl, tt, (us, k, λ xs h. h))
+  held-number n true y us p k q =
+      let t = then-got (choiceAt n 2 s (at + p / 8) p) _ q in
+      let g = choice-got s (at + p / 8) n 2 p (t .1) in
+      subst (λ (x : Number). (true ≡ isThere x) × Under n x × Held-then us p (p + 2) (numbers x)) (sym (same-got (t .2)))
+      (refl, g .2, by (t .0) (g .0) (g .1) (ltb (widths (more us (t .0))) 8) refl)
     where
-      held-more : (v : ℕ) → v ≡ bitsOf (getD s (at + p / 8) 0) p 2 → v < 3 → more us v ≡ fieldsOf (getD s (at + p / 8) 0) 0 (k .ws ++ 2 ∷ [])
-      held-more v e l =
+      held-more : (v : ℕ) → v ≡ bitsOf (getD s (at + p / 8) 0) p 2 → more us v ≡ fieldsOf (getD s (at + p / 8) 0) 0 (k .ws ++ 2 ∷ [])
+      held-more v e =
           let x : ℕ = getD s (at + p / 8) 0 in
+          let l = pair-small x p in
           let m : v % 4 ≡ bitsOf x (widths us) 2 = mod-eq-of-lt (omega arith) ∙ (e ∙ (sym (bits-mod x p 2) ∙ ap (λ (b : ℕ). bitsOf x b 2) (sym (k .begun .width)))) in
           ap (λ (n : ℕ). us ++ 2 bits n ∷ []) m ∙ fields-behind x us (k .ws) (2 ∷ []) (k .fields)
 
-      by : (v : ℕ) → at + p / 8 + 1 ≤ length s → v ≡ bitsOf (getD s (at + p / 8) 0) p 2 → v < 3 → (b : Bool) → ltb (widths (more us v)) 8 ≡ b → Held-then us p (p + 2) (v ∷ [])
-      by v r e l true h =
+      by : (v : ℕ) → at + p / 8 + 1 ≤ length s → v ≡ bitsOf (getD s (at + p / 8) 0) p 2 → (b : Bool) → ltb (widths (more us v)) 8 ≡ b → Held-then us p (p + 2) (v ∷ [])
+      by v r e true h =
           let c = ltb-true (widths (more us v)) 8 h in
           let w = more-width (k .begun) v in
           let d : at + p / 8 ≡ at + (p + 2) / 8 = omega arith in (
@@ -85,18 +86,18 @@ module _ (s : List ℕ) (o : Octets s) (at : ℕ) where
             record {
               begun = begun-more (k .begun) v c;
               ws = k .ws ++ 2 ∷ [];
-              fields = rw d at (held-more v e l);
+              fields = rw d at (held-more v e);
               room = omega arith;
             },
             λ xs g. rw (h, d) g,
           )
-      by v r e l false h =
+      by v r e false h =
           let c = ltb-false (widths (more us v)) 8 h in
           let w = more-width (k .begun) v in
           let n = k .begun .even in
           let d : at + p / 8 + 1 ≡ at + (p + 2) / 8 = omega arith in
           let a : widths (more us v) ≡ 8 = omega arith in
-          let y = octet-again s o (more us v) (at + p / 8) (k .ws ++ 2 ∷ []) (held-more v e l) r (omega arith) (rw a (mod-one _)) in
+          let y = octet-again s o (more us v) (at + p / 8) (k .ws ++ 2 ∷ []) (held-more v e) r (omega arith) (rw a (mod-one _)) in
           ([], held-none (p + 2) (omega arith) (omega arith), λ xs g. rw h (stands-join {vs = packed (more us v) ∷ []} {ws = pairs [] xs} y (rw d g)))
 
   -- the marks are the first six bits
@@ -163,32 +164,32 @@ module _ (s : List ℕ) (o : Octets s) (at : ℕ) where
       )
 
   -- a head that was read: its octets stand, up to the next place, and it is good
-  abbrev pub Again : Part Head → Type 0
-  Again p = Stands s at (headOctets (p .value)) × (p .next ≡ at + length (headOctets (p .value))) × GoodHead (p .value)
+  abbrev pub Again : ℕ → Part Head → Type 0
+  Again n p = Stands s at (headOctets (p .value)) × (p .next ≡ at + length (headOctets (p .value))) × GoodHead n (p .value)
 
-  joined : (m : Marks) (c t k : Number) → got m ≡ marksAt s at → got c ≡ codeAt (m .code) s at
-      → got t ≡ maybeAt (m .trigger) s at (behindCode m) → got k ≡ maybeAt (m .crit) s at (behindTrigger m)
+  joined : (n : ℕ) (m : Marks) (c t k : Number) → got m ≡ marksAt s at → got c ≡ codeAt (m .code) s at
+      → got t ≡ maybeAt n (m .trigger) s at (behindCode m) → got k ≡ maybeAt 3 (m .crit) s at (behindTrigger m)
       → got tt ≡ padAt s (at + behindCrit m / 8) (behindCrit m)
-      → Again (record { value = record { code = c; trigger = t; crit = k; listed = m .listed }; next = at + (behindCrit m + 7) / 8 })
+      → Again n (record { value = record { code = c; trigger = t; crit = k; listed = m .listed }; next = at + (behindCrit m + 7) / 8 })
   unfolding headOctets Held-then Coded pairs
-  joined m c t k qm qc qt qk qp =
+  joined n m c t k qm qc qt qk qp =
       let x = held-code (m .code) c m (held-marks m qm) qc in
-      let y = held-number (m .trigger) t (x .2 .0) (behindCode m) (x .2 .1) qt in
-      let z = held-number (m .crit) k (y .2 .0) (behindTrigger m) (y .2 .1) qk in
+      let y = held-number n (m .trigger) t (x .2 .0) (behindCode m) (x .2 .1) qt in
+      let z = held-number 3 (m .crit) k (y .2 .0) (behindTrigger m) (y .2 .1) qk in
       let h : Head = record { code = c; trigger = t; crit = k; listed = m .listed } in
       let e : m ≡ marksOf h = λ i. record { code = x .0 i; trigger = y .0 i; crit = z .0 i; listed = m .listed } in
       let last = rw (append-nil (numbers k)) at (z .2 .2 [] (held-end (z .2 .0) (behindCrit m) (z .2 .1) qp)) in (
-        subst (λ (n : Marks). Stands s at (withCode c (map bit (marks n)) (numbers t ++ numbers k))) e (x .2 .2 (numbers t ++ numbers k) (y .2 .2 (numbers k) last)),
-        ap (λ (n : Marks). at + (behindCrit n + 7) / 8) e ∙ ap (λ (n : ℕ). at + n) (sym (head-length h)),
+        subst (λ (y : Marks). Stands s at (withCode c (map bit (marks y)) (numbers t ++ numbers k))) e (x .2 .2 (numbers t ++ numbers k) (y .2 .2 (numbers k) last)),
+        ap (λ (y : Marks). at + (behindCrit y + 7) / 8) e ∙ ap (λ (y : ℕ). at + y) (sym (head-length h)),
         record { code = x .1; trigger = y .1; crit = z .1 },
       )
 
-  pub head-again : (p : Part Head) → got p ≡ headAt s at → Again p
+  pub head-again : (n : ℕ) (p : Part Head) → got p ≡ headAt n s at → Again n p
   unfolding headAt
-  head-again p q =
+  head-again n p q =
       let a = then-got (marksAt s at) _ q in
       let b = then-got (codeAt (a .0 .code) s at) _ (a .2) in
-      let c = then-got (maybeAt (a .0 .trigger) s at (behindCode (a .0))) _ (b .2) in
-      let d = then-got (maybeAt (a .0 .crit) s at (behindTrigger (a .0))) _ (c .2) in
+      let c = then-got (maybeAt n (a .0 .trigger) s at (behindCode (a .0))) _ (b .2) in
+      let d = then-got (maybeAt 3 (a .0 .crit) s at (behindTrigger (a .0))) _ (c .2) in
       let e = then-got (padAt s (at + behindCrit (a .0) / 8) (behindCrit (a .0))) _ (d .2) in
-      subst Again (sym (same-got (e .2))) (joined (a .0) (b .0) (c .0) (d .0) (a .1) (b .1) (c .1) (d .1) (e .1))
+      subst (Again n) (sym (same-got (e .2))) (joined n (a .0) (b .0) (c .0) (d .0) (a .1) (b .1) (c .1) (d .1) (e .1))

@@ -3,7 +3,7 @@
 use mathlib.Core.Path.{_≡_, refl, sym}
 use mathlib.Core.Bool.{Bool, true, false}
 use mathlib.Core.List.{List, [], _∷_, _++_, map, append-nil, append-assoc}
-use Prim.Native.Nat.{ℕ, _+_, _*_, _-_, _/_, _%_, _<_}
+use Prim.Native.Nat.{ℕ, _+_, _*_, _-_, _/_, _%_, _<_, _≤_}
 use native.Mathlib.Omega.{arith}
 use native.Mathlib.Nat.{add-zero, mod-eq-of-lt}
 use borrow.Author.Tests.{ltb-true, ltb-false, eqb-false}
@@ -53,19 +53,19 @@ module _ (s : List ℕ) where
     Next : ℕ → List ℕ → Type 0
     Next p vs = (us : List Field) × Begun us p × Stands s (at + p / 8) (pairs us vs)
 
-    number-next : (n : Number) (vs : List ℕ) (us : List Field) (p : ℕ) → Under 3 n → Begun us p → Stands s (at + p / 8) (pairs us (numbers n ++ vs))
-        → (got n ≡ maybeAt (isThere n) s at p) × Next (after (isThere n) 2 p) vs
+    number-next : (n : ℕ) → n ≤ 4 → (y : Number) (vs : List ℕ) (us : List Field) (p : ℕ) → Under n y → Begun us p → Stands s (at + p / 8) (pairs us (numbers y ++ vs))
+        → (got y ≡ maybeAt n (isThere y) s at p) × Next (after (isThere y) 2 p) vs
     unfolding maybeAt pairs Next
-    number-next Absent vs us p g b h = (refl, (us, b, h))
-    number-next (Is v) vs us p g b h = by (ltb (widths (more us v)) 8) refl h
+    number-next n w Absent vs us p g b h = (refl, (us, b, h))
+    number-next n w (Is v) vs us p g b h = by (ltb (widths (more us v)) 8) refl h
       where
-        read : (fs ls : List Field) → us ++ 2 bits (v % 4) ∷ ls ≡ fs → Fit 8 fs → Stands s (at + p / 8) (packed fs ∷ []) → got (Is v) ≡ maybeAt true s at p
+        read : (fs ls : List Field) → us ++ 2 bits (v % 4) ∷ ls ≡ fs → Fit 8 fs → Stands s (at + p / 8) (packed fs ∷ []) → got (Is v) ≡ maybeAt n true s at p
         read fs ls e ok k =
             let m : v % 4 ≡ v = mod-eq-of-lt (omega arith) in
-            past _ v (rw m at (choice-in s (at + p / 8) fs ok k us ls p (b .width) 2 (v % 4) 3 e (rw m g))) refl
+            past _ v (rw m at (choice-in s (at + p / 8) fs ok k us ls p (b .width) 2 (v % 4) n e (rw m g))) refl
 
         by : (t : Bool) → ltb (widths (more us v)) 8 ≡ t → Stands s (at + p / 8) (pick t (pairs (more us v) vs) (packed (more us v) ∷ pairs [] vs))
-            → (got (Is v) ≡ maybeAt true s at p) × Next (p + 2) vs
+            → (got (Is v) ≡ maybeAt n true s at p) × Next (p + 2) vs
         by true e k =
             let l = ltb-true (widths (more us v)) 8 e in
             let m = more-width b v in
@@ -142,11 +142,11 @@ head-length h = by (h .code) (length-append (numbers (h .trigger)) (numbers (h .
         let e = pairs-length (map bit (marks (marksOf h))) (numbers (h .trigger) ++ numbers (h .crit)) 6 (begun-marks (marksOf h)) in
         rw (after-two (h .crit) (after (isThere (h .trigger)) 2 6), after-two (h .trigger) 6) (omega arith)
 
-pub head-back : (s : List ℕ) (at : ℕ) (h : Head) → GoodHead h → Stands s at (headOctets h)
-    → got (record { value = h; next = at + length (headOctets h) }) ≡ headAt s at
+pub head-back : (n : ℕ) → n ≤ 4 → (s : List ℕ) (at : ℕ) (h : Head) → GoodHead n h → Stands s at (headOctets h)
+    → got (record { value = h; next = at + length (headOctets h) }) ≡ headAt n s at
 unfolding headAt headOctets Next
-head-back s at h g k =
+head-back n w s at h g k =
     let c = code-back s at (h .code) (marksOf h) (numbers (h .trigger) ++ numbers (h .crit)) (g .code) k in
-    let t = number-next s at (h .trigger) (numbers (h .crit)) (c .2 .0) _ (g .trigger) (c .2 .1) (c .2 .2) in
-    let d = number-next s at (h .crit) [] (t .1 .0) _ (g .crit) (t .1 .1) (rw (append-nil (numbers (h .crit))) (t .1 .2)) in
+    let t = number-next s at n w (h .trigger) (numbers (h .crit)) (c .2 .0) _ (g .trigger) (c .2 .1) (c .2 .2) in
+    let d = number-next s at 3 (omega arith) (h .crit) [] (t .1 .0) _ (g .crit) (t .1 .1) (rw (append-nil (numbers (h .crit))) (t .1 .2)) in
     past _ _ (c .0) (past _ _ (c .1) (past _ _ (t .0) (past _ _ (d .0) (past _ _ (pad-end s at (d .1 .0) _ (d .1 .1) (d .1 .2)) (rw (head-length h))))))

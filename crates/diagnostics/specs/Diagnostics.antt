@@ -24,10 +24,10 @@ abbrev pub after : Bool → ℕ → ℕ → ℕ
 after false n p = p
 after true n p = p + n
 
--- a choice among 3, p bits behind the begin, if it is there
-unfoldable pub maybeAt : Bool → List ℕ → ℕ → ℕ → Read Number
-maybeAt false s at p = got Absent
-maybeAt true s at p = choiceAt 3 2 s (at + p / 8) p >>= λ v. got (Is v)
+-- a choice among n, p bits behind the begin, if it is there
+unfoldable pub maybeAt : ℕ → Bool → List ℕ → ℕ → ℕ → Read Number
+maybeAt n false s at p = got Absent
+maybeAt n true s at p = choiceAt n 2 s (at + p / 8) p >>= λ v. got (Is v)
 
 -- the procedure code, an aligned octet behind the pad of the first, if it is there
 unfoldable pub codeAt : Bool → List ℕ → ℕ → Read Number
@@ -62,21 +62,21 @@ behindTrigger m = after (m .trigger) 2 (behindCode m)
 abbrev pub behindCrit : Marks → ℕ
 behindCrit m = after (m .crit) 2 (behindTrigger m)
 
--- the fields before the list, and pad
-unfoldable pub headAt : List ℕ → ℕ → Read (Part Head)
-headAt s at = do
+-- the fields before the list, and pad; the triggering message has n meanings
+unfoldable pub headAt : ℕ → List ℕ → ℕ → Read (Part Head)
+headAt n s at = do
   m ← marksAt s at
   code ← codeAt (m .code) s at
-  trigger ← maybeAt (m .trigger) s at (behindCode m)
-  crit ← maybeAt (m .crit) s at (behindTrigger m)
+  trigger ← maybeAt n (m .trigger) s at (behindCode m)
+  crit ← maybeAt 3 (m .crit) s at (behindTrigger m)
   padAt s (at + behindCrit m / 8) (behindCrit m)
   got (record {
     value = record { code = code; trigger = trigger; crit = crit; listed = m .listed };
     next = at + (behindCrit m + 7) / 8;
   })
 
-unfoldable pub diagnosticsAt : List ℕ → ℕ → Read Diagnostics
-diagnosticsAt s at = do
-  h ← headAt s at
+unfoldable pub diagnosticsAt : ℕ → List ℕ → ℕ → Read Diagnostics
+diagnosticsAt n s at = do
+  h ← headAt n s at
   es ← maybeListAt (h .value .listed) s (h .next)
   got (record { head = h .value; entries = es })

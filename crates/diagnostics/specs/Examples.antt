@@ -56,9 +56,10 @@ refusals =
     ∷ record { octets = 0x08 ∷ 0x01 ∷ 0x20 ∷ 0x00 ∷ 0x63 ∷ 0x4C ∷ 0x00 ∷ 0x64 ∷ 0x00 ∷ []; reason = noMeaning 5 }
     ∷ []
 
--- each is written as its octets and read back whole; each refusal stops where it says
+-- of three meanings, each is written as its octets and read back whole, and each refusal stops where it says; of four, the last is one
 abbrev pub Hold : Type 0
 Hold =
     (map (λ (e : Example). diagnosticsOctets (e .value)) examples ≡ map (λ (e : Example). e .octets) examples)
-    × (map (λ (e : Example). diagnosticsAt (e .octets) 0) examples ≡ map (λ (e : Example). got (e .value)) examples)
-    × (map (λ (r : Refusal). diagnosticsAt (r .octets) 0) refusals ≡ map (λ (r : Refusal). stop (r .reason)) refusals)
+    × (map (λ (e : Example). diagnosticsAt 3 (e .octets) 0) examples ≡ map (λ (e : Example). got (e .value)) examples)
+    × (map (λ (r : Refusal). diagnosticsAt 3 (r .octets) 0) refusals ≡ map (λ (r : Refusal). stop (r .reason)) refusals)
+    × (diagnosticsAt 4 (0x23 ∷ []) 0 ≡ got (record { head = record { code = Absent; trigger = Is 3; crit = Absent; listed = false }; entries = [] }))

@@ -71,7 +71,7 @@ listOctets true es = numberOctets 1 (length es - 1) ++ entriesOctets [] es
 unfoldable pub diagnosticsOctets : Diagnostics → List ℕ
 diagnosticsOctets d = headOctets (d .head) ++ listOctets (d .head .listed) (d .entries)
 
--- ---- good values: each number fits its field and has a meaning
+-- ---- good values: each number fits its field and has a meaning, one of n for the triggering message
 
 abbrev pub Under : ℕ → Number → Type 0
 Under n (Is v) = v < n
@@ -82,14 +82,14 @@ pub record GoodEntry (e : Entry) : Type 0 where
   pub id : e .id < 65536
   pub error : e .error < 2
 
-pub record GoodHead (h : Head) : Type 0 where
+pub record GoodHead (n : ℕ) (h : Head) : Type 0 where
   pub code : Under 256 (h .code)
-  pub trigger : Under 3 (h .trigger)
+  pub trigger : Under n (h .trigger)
   pub crit : Under 3 (h .crit)
 
 -- a list is there exactly if it has an entry; it has at most 256
-pub record Good (d : Diagnostics) : Type 0 where
-  pub head : GoodHead (d .head)
+pub record Good (n : ℕ) (d : Diagnostics) : Type 0 where
+  pub head : GoodHead n (d .head)
   pub entries : Each GoodEntry (d .entries)
   pub listed : d .head .listed ≡ ltb 0 (length (d .entries))
   pub count : length (d .entries) ≤ 256

@@ -111,15 +111,15 @@ fn code_at(there: bool, s: &[u8], at: usize) -> NumberRead
     }
 }
 
-// A choice among 3, p bits behind the begin, if it is there.
-fn maybe_at(there: bool, s: &[u8], at: usize, p: u8) -> NumberRead
+// A choice among n, p bits behind the begin, if it is there.
+fn maybe_at(n: u8, there: bool, s: &[u8], at: usize, p: u8) -> NumberRead
     requires { ⌜ at < length (now s) ⌝ }
-    ensures { λ r. ⌜ foundNumber r ≡ maybeAt there (now (s .entry)) at p ⌝ }
+    ensures { λ r. ⌜ foundNumber r ≡ maybeAt n there (now (s .entry)) at p ⌝ }
 {
     if !there {
         return NumberRead::Is(Number::Absent);
     }
-    match octets::choice_at(3, 2, s, at + numbers::wide(p / 8), p) {
+    match octets::choice_at(n, 2, s, at + numbers::wide(p / 8), p) {
         Octet::Is(v) => NumberRead::Is(Number::Is(v)),
         Octet::Stop(x) => NumberRead::Stop(x),
     }
@@ -133,9 +133,9 @@ fn after_bits(there: bool, n: u8, p: u8) -> u8
     if there { p + n } else { p }
 }
 
-// The fields before the list.
-pub fn head_at(s: &[u8], at: usize) -> HeadRead
-    ensures { λ r. ⌜ foundHead r ≡ headAt (now (s .entry)) at ⌝ }
+// The fields before the list; the triggering message has n meanings.
+pub fn head_at(n: u8, s: &[u8], at: usize) -> HeadRead
+    ensures { λ r. ⌜ foundHead r ≡ headAt n (now (s .entry)) at ⌝ }
 {
     let m = match marks_at(s, at) {
         MarksRead::Is(v) => v,
@@ -152,13 +152,13 @@ pub fn head_at(s: &[u8], at: usize) -> HeadRead
             return HeadRead::Stop(x);
         }
     };
-    let trigger = match maybe_at(m.trigger, s, at, p) {
+    let trigger = match maybe_at(n, m.trigger, s, at, p) {
         NumberRead::Is(v) => v,
         NumberRead::Stop(x) => {
             return HeadRead::Stop(x);
         }
     };
-    let crit = match maybe_at(m.crit, s, at, q) {
+    let crit = match maybe_at(3, m.crit, s, at, q) {
         NumberRead::Is(v) => v,
         NumberRead::Stop(x) => {
             return HeadRead::Stop(x);

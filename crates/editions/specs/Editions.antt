@@ -7,7 +7,8 @@ use lib.Dec.{eqb}
 use lib.ListN.{length}
 use Rattle.lists.specs.Lists.{pick, fill}
 use Rattle.rows.specs.declared.Kind.{Kind}
-use Rattle.rows.specs.declared.Kind.the-variants.{Carried, Mme, Mce, Tmgi, Session, Cause, Wait, Name, ResetType, Acknowledged, Diagnostics}
+use Rattle.rows.specs.declared.Kind.the-variants.{Carried, Mme, Mce, Tmgi, OneOctet, Cause, Wait, Name, ResetType, Acknowledged, Diagnostics}
+use Rattle.rows.specs.declared.Triggers.the-variants.{Three}
 use Rattle.rows.specs.declared.Row.{Row}
 use Rattle.rows.specs.declared.Rows.{Rows}
 use Rattle.rows.specs.Table.{noRow}
@@ -48,7 +49,7 @@ abbrev pub form18 : Message → Form
 form18 StartRequest = form 1 (frame 0 0 reject)
     (mandatory id-MME-MBMS-M3AP-ID reject Mme
     ∷ mandatory id-TMGI reject Tmgi
-    ∷ optional id-MBMS-Session-ID ignore Session
+    ∷ optional id-MBMS-Session-ID ignore OneOctet
     ∷ mandatory id-MBMS-E-RAB-QoS-Parameters reject Carried
     ∷ mandatory id-MBMS-Session-Duration reject Carried
     ∷ mandatory id-MBMS-Service-Area reject Carried
@@ -61,11 +62,11 @@ form18 StartRequest = form 1 (frame 0 0 reject)
 form18 StartResponse = form 2 (frame 1 0 reject)
     (mandatory id-MME-MBMS-M3AP-ID ignore Mme
     ∷ mandatory id-MCE-MBMS-M3AP-ID ignore Mce
-    ∷ optional id-CriticalityDiagnostics ignore Diagnostics ∷ [])
+    ∷ optional id-CriticalityDiagnostics ignore (Diagnostics Three) ∷ [])
 form18 StartFailure = form 3 (frame 2 0 reject)
     (mandatory id-MME-MBMS-M3AP-ID ignore Mme
     ∷ mandatory id-Cause ignore Cause
-    ∷ optional id-CriticalityDiagnostics ignore Diagnostics ∷ [])
+    ∷ optional id-CriticalityDiagnostics ignore (Diagnostics Three) ∷ [])
 form18 StopRequest = form 4 (frame 0 1 reject)
     (mandatory id-MME-MBMS-M3AP-ID reject Mme
     ∷ mandatory id-MCE-MBMS-M3AP-ID reject Mce
@@ -73,28 +74,28 @@ form18 StopRequest = form 4 (frame 0 1 reject)
 form18 StopResponse = form 5 (frame 1 1 reject)
     (mandatory id-MME-MBMS-M3AP-ID ignore Mme
     ∷ mandatory id-MCE-MBMS-M3AP-ID ignore Mce
-    ∷ optional id-CriticalityDiagnostics ignore Diagnostics ∷ [])
+    ∷ optional id-CriticalityDiagnostics ignore (Diagnostics Three) ∷ [])
 form18 Reset = form 6 (frame 0 4 reject)
     (mandatory id-Cause ignore Cause
     ∷ mandatory id-ResetType reject ResetType ∷ [])
 form18 ResetAcknowledge = form 7 (frame 1 4 reject)
     (optional id-MBMS-Service-associatedLogicalM3-ConnectionListResAck ignore Acknowledged
-    ∷ optional id-CriticalityDiagnostics ignore Diagnostics ∷ [])
+    ∷ optional id-CriticalityDiagnostics ignore (Diagnostics Three) ∷ [])
 form18 ErrorIndication = form 8 (frame 0 2 ignore)
     (optional id-MME-MBMS-M3AP-ID ignore Mme
     ∷ optional id-MCE-MBMS-M3AP-ID ignore Mce
     ∷ optional id-Cause ignore Cause
-    ∷ optional id-CriticalityDiagnostics ignore Diagnostics ∷ [])
+    ∷ optional id-CriticalityDiagnostics ignore (Diagnostics Three) ∷ [])
 form18 SetupRequest = form 9 (frame 0 7 reject)
     (mandatory id-Global-MCE-ID reject Carried
     ∷ optional id-MCEname ignore Name
     ∷ mandatory id-MBMSServiceAreaList reject Carried ∷ [])
 form18 SetupResponse = form 10 (frame 1 7 reject)
-    (optional id-CriticalityDiagnostics ignore Diagnostics ∷ [])
+    (optional id-CriticalityDiagnostics ignore (Diagnostics Three) ∷ [])
 form18 SetupFailure = form 11 (frame 2 7 reject)
     (mandatory id-Cause ignore Cause
     ∷ optional id-TimeToWait ignore Wait
-    ∷ optional id-CriticalityDiagnostics ignore Diagnostics ∷ [])
+    ∷ optional id-CriticalityDiagnostics ignore (Diagnostics Three) ∷ [])
 
 -- the same, shut: what is shown of a message shows no table
 unfoldable pub release18 : Message → Form

@@ -1,4 +1,4 @@
--- What the definitions ask of a table: at most twelve rows, ids apart, and of each kind but carried at most one row.
+-- What the definitions ask of a table: at most twelve rows, ids apart, and at most one row for what a record has one of.
 -- One computed test for all tables of an edition (proofs/Tables.antt); no law looks into a table for another reason.
 use Prim.Native.Nat.{ℕ}
 use mathlib.Core.Bool.{Bool, not, _&&_}
@@ -13,19 +13,21 @@ use Rattle.editions.specs.declared.Edition.{Edition}
 use Rattle.editions.specs.declared.Message.{Message}
 use Rattle.editions.specs.Editions.{tableOf, messagesOf}
 
--- what a value of the kind fills, of which a record has one: a Reset Type and an acknowledgement share the items
+-- what a value of the kind fills, of which a record has one: a Reset Type and an acknowledgement share the items.
+-- What is carried, and a number that is no identity, stands in its own slot alone, and a table may have several: 0
 abbrev pub fills : Kind → ℕ
 fills kind.Carried = 0
 fills kind.Mme = 1
 fills kind.Mce = 2
 fills kind.Tmgi = 3
-fills kind.Session = 4
-fills kind.Cause = 5
+fills kind.OneOctet = 0
+fills kind.TwoOctets = 0
+fills kind.Cause = 4
+fills kind.Wait = 5
 fills kind.ResetType = 6
 fills kind.Acknowledged = 6
-fills kind.Diagnostics = 7
-fills kind.Wait = 8
-fills kind.Name = 9
+fills (kind.Diagnostics t) = 7
+fills kind.Name = 8
 
 abbrev pub lawful : List Row → Bool
 lawful t =

@@ -12,6 +12,7 @@ ghost use Rattle.editions.specs.Steps.{Heads, rowsBy};
 use rows::Kind;
 use rows::Row;
 use rows::Rows;
+use rows::Triggers;
 
 pub enum Message {
     StartRequest,
@@ -81,14 +82,14 @@ const CAUSE: Row = Row {
 const DIAG: Row = Row {
     id: 8,
     crit: IGNORE,
-    kind: Kind::Diagnostics,
+    kind: Kind::Diagnostics(Triggers::Three),
     mandatory: false,
 };
 
 const SESSION: Row = Row {
     id: 3,
     crit: IGNORE,
-    kind: Kind::Session,
+    kind: Kind::OneOctet,
     mandatory: false,
 };
 

@@ -86,11 +86,11 @@ pub fn list_gate(there: bool, s: &[u8], at: usize) -> Gate
     }
 }
 
-// Criticality Diagnostics can be read, or why not.
-pub fn diagnostics_gate(s: &[u8], at: usize) -> Gate
-    ensures { λ r. ⌜ foundGate r ≡ checked (diagnosticsAt (now (s .entry)) at) ⌝ }
+// Criticality Diagnostics can be read, or why not; the triggering message has n meanings.
+pub fn diagnostics_gate(n: u8, s: &[u8], at: usize) -> Gate
+    ensures { λ r. ⌜ foundGate r ≡ checked (diagnosticsAt n (now (s .entry)) at) ⌝ }
 {
-    match diagnostics::head_at(s, at) {
+    match diagnostics::head_at(n, s, at) {
         HeadRead::Is(h, next) => list_gate(h.listed, s, next),
         HeadRead::Stop(x) => Gate::Stop(x),
     }

@@ -6,14 +6,15 @@ use mathlib.Core.List.{List}
 use lib.ListN.{take}
 use Rattle.octets.specs.Read.{Read, got, _>>=_, _>>_}
 use Rattle.octets.specs.declared.Span.{Span}
-use Rattle.values.specs.Values.{mmeAt, mceAt, tmgiAt, sessionAt, causeAt, waitAt}
+use Rattle.values.specs.Values.{mmeAt, mceAt, tmgiAt, oneAt, twoAt, causeAt, waitAt}
 use Rattle.names.specs.Names.{nameAt}
 use Rattle.items.specs.Items.{itemsAt, resetAt}
 use Rattle.diagnostics.specs.Diagnostics.{diagnosticsAt}
 use Rattle.entry_words.proofs.Laws.{same-gate}
+use Rattle.rows.specs.Table.{meanings}
 use Rattle.rows.specs.declared.Kind.{Kind}
-use Rattle.rows.specs.declared.Kind.the-variants.{Carried, Mme, Mce, Tmgi, Session, Cause, Wait, Name, ResetType, Acknowledged, Diagnostics}
-use Rattle.meaning.specs.Value.{Value, mme, mce, tmgi, session, cause, wait, name, reset, list, diagnostics}
+use Rattle.rows.specs.declared.Kind.the-variants.{Carried, Mme, Mce, Tmgi, OneOctet, TwoOctets, Cause, Wait, Name, ResetType, Acknowledged, Diagnostics}
+use Rattle.meaning.specs.Value.{Value, mme, mce, tmgi, one, two, cause, wait, name, reset, list, diagnostics}
 use Rattle.meaning.specs.Reading.{readAs}
 use Rattle.kinds.specs.Kinds.{valueAt}
 
@@ -32,10 +33,11 @@ as-read Carried s v = refl
 as-read Mme s v = same-gate (mmeAt (take (v .to) s) (v .from)) mme
 as-read Mce s v = same-gate (mceAt (take (v .to) s) (v .from)) mce
 as-read Tmgi s v = same-gate (tmgiAt (take (v .to) s) (v .from)) tmgi
-as-read Session s v = same-gate (sessionAt (take (v .to) s) (v .from)) session
+as-read OneOctet s v = same-gate (oneAt (take (v .to) s) (v .from)) one
+as-read TwoOctets s v = same-gate (twoAt (take (v .to) s) (v .from)) two
 as-read Cause s v = same-gate (causeAt (take (v .to) s) (v .from)) cause
 as-read Wait s v = same-gate (waitAt (take (v .to) s) (v .from)) wait
 as-read Name s v = same-gate (nameAt (take (v .to) s) (v .from)) name
 as-read ResetType s v = same-gate (resetAt (take (v .to) s) (v .from)) reset
 as-read Acknowledged s v = same-gate (itemsAt (take (v .to) s) (v .from)) list
-as-read Diagnostics s v = same-gate (diagnosticsAt (take (v .to) s) (v .from)) diagnostics
+as-read (Diagnostics t) s v = same-gate (diagnosticsAt (meanings t) (take (v .to) s) (v .from)) (diagnostics t)

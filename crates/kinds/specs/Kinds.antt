@@ -2,22 +2,24 @@
 use Prim.Native.Nat.{ℕ}
 use mathlib.Core.List.{List}
 use Rattle.octets.specs.Read.{Read, got, _>>_}
-use Rattle.values.specs.Values.{mmeAt, mceAt, tmgiAt, sessionAt, causeAt, waitAt}
+use Rattle.values.specs.Values.{mmeAt, mceAt, tmgiAt, oneAt, twoAt, causeAt, waitAt}
 use Rattle.names.specs.Names.{nameAt}
 use Rattle.items.specs.Items.{itemsAt, resetAt}
 use Rattle.diagnostics.specs.Diagnostics.{diagnosticsAt}
+use Rattle.rows.specs.Table.{meanings}
 use Rattle.rows.specs.declared.Kind.{Kind}
-use Rattle.rows.specs.declared.Kind.the-variants.{Carried, Mme, Mce, Tmgi, Session, Cause, Wait, Name, ResetType, Acknowledged, Diagnostics}
+use Rattle.rows.specs.declared.Kind.the-variants.{Carried, Mme, Mce, Tmgi, OneOctet, TwoOctets, Cause, Wait, Name, ResetType, Acknowledged, Diagnostics}
 
 unfoldable pub valueAt : Kind → List ℕ → ℕ → Read Unit
 valueAt Carried s at = got tt
 valueAt Mme s at = mmeAt s at >> got tt
 valueAt Mce s at = mceAt s at >> got tt
 valueAt Tmgi s at = tmgiAt s at >> got tt
-valueAt Session s at = sessionAt s at >> got tt
+valueAt OneOctet s at = oneAt s at >> got tt
+valueAt TwoOctets s at = twoAt s at >> got tt
 valueAt Cause s at = causeAt s at >> got tt
 valueAt Wait s at = waitAt s at >> got tt
 valueAt Name s at = nameAt s at >> got tt
 valueAt ResetType s at = resetAt s at >> got tt
 valueAt Acknowledged s at = itemsAt s at >> got tt
-valueAt Diagnostics s at = diagnosticsAt s at >> got tt
+valueAt (Diagnostics t) s at = diagnosticsAt (meanings t) s at >> got tt

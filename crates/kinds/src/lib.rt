@@ -9,8 +9,9 @@ use rows::Kind;
 use values::CauseRead;
 use values::MceRead;
 use values::MmeRead;
-use values::SessionRead;
+use values::OneRead;
 use values::TmgiRead;
+use values::TwoRead;
 use values::WaitRead;
 
 fn wait_gate(s: &[u8], at: usize) -> Gate
@@ -49,9 +50,13 @@ pub fn value_at(kind: Kind, s: &[u8], at: usize) -> Gate
             TmgiRead::Is(_) => Gate::Pass,
             TmgiRead::Stop(x) => Gate::Stop(x),
         },
-        Kind::Session => match values::session_at(s, at) {
-            SessionRead::Is(_) => Gate::Pass,
-            SessionRead::Stop(x) => Gate::Stop(x),
+        Kind::OneOctet => match values::one_at(s, at) {
+            OneRead::Is(_) => Gate::Pass,
+            OneRead::Stop(x) => Gate::Stop(x),
+        },
+        Kind::TwoOctets => match values::two_at(s, at) {
+            TwoRead::Is(_) => Gate::Pass,
+            TwoRead::Stop(x) => Gate::Stop(x),
         },
         Kind::Cause => match values::cause_at(s, at) {
             CauseRead::Is(_) => Gate::Pass,
@@ -61,6 +66,6 @@ pub fn value_at(kind: Kind, s: &[u8], at: usize) -> Gate
         Kind::Name => name_gate(s, at),
         Kind::ResetType => item_words::reset_gate(s, at),
         Kind::Acknowledged => item_words::items_gate(s, at),
-        Kind::Diagnostics => entry_words::diagnostics_gate(s, at),
+        Kind::Diagnostics(t) => entry_words::diagnostics_gate(rows::meanings(t), s, at),
     }
 }

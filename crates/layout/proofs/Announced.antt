@@ -19,7 +19,7 @@ use Rattle.rows.specs.declared.Kind.{Kind}
 use Rattle.rows.specs.declared.Row.{Row}
 use Rattle.editions.specs.Lawful.{fills, lawful}
 use Rattle.editions.proofs.Tables.{lawful-rest, lawful-first}
-use Rattle.meaning.specs.Value.{Value, Given, given, absent, carried, mme, mce, tmgi, session, cause, wait, name, reset, list, diagnostics}
+use Rattle.meaning.specs.Value.{Value, Given, given, absent, carried, mme, mce, tmgi, one, two, cause, wait, name, reset, list, diagnostics}
 use Rattle.meaning.specs.Ranges.{valueKind}
 use Rattle.layout.specs.Record.{Lists, announced, listsOf}
 use Rattle.layout.specs.Held.{ItemsFit, EntriesFit, DiagnosticsFit, Fits, RowsFit}
@@ -33,14 +33,15 @@ other-items (carried x) is l h a = a
 other-items (mme x) is l h a = a
 other-items (mce x) is l h a = a
 other-items (tmgi x) is l h a = a
-other-items (session x) is l h a = a
+other-items (one x) is l h a = a
+other-items (two x) is l h a = a
 other-items (cause x) is l h a = a
 other-items (wait x) is l h a = a
 other-items (name x) is l h a = a
 other-items (reset whole) is l h a = a
 other-items (reset (part js)) is l h a = absurd (h (omega arith) refl)
 other-items (list js) is l h a = absurd (h (omega arith) refl)
-other-items (diagnostics d) is l h a = a
+other-items (diagnostics t d) is l h a = a
 
 other-entries : (w : Value Span) (es : List Entry) (l : Lists) → (0 < fills (valueKind w) → 7 ≡ fills (valueKind w) → ⊥) → Agrees l w
     → Agrees (record { items = l .items; entries = es }) w
@@ -48,14 +49,15 @@ other-entries (carried x) es l h a = a
 other-entries (mme x) es l h a = a
 other-entries (mce x) es l h a = a
 other-entries (tmgi x) es l h a = a
-other-entries (session x) es l h a = a
+other-entries (one x) es l h a = a
+other-entries (two x) es l h a = a
 other-entries (cause x) es l h a = a
 other-entries (wait x) es l h a = a
 other-entries (name x) es l h a = a
 other-entries (reset whole) es l h a = a
 other-entries (reset (part js)) es l h a = a
 other-entries (list js) es l h a = a
-other-entries (diagnostics d) es l h a = absurd (h (omega arith) refl)
+other-entries (diagnostics t d) es l h a = absurd (h (omega arith) refl)
 
 -- what fills another list than the value in front still agrees
 in-front : (v w : Value Span) (l : Lists) → (0 < fills (valueKind v) → 0 < fills (valueKind w) → fills (valueKind v) ≡ fills (valueKind w) → ⊥) → Agrees l w → Agrees (announced v l) w
@@ -63,14 +65,15 @@ in-front (carried x) w l h a = a
 in-front (mme x) w l h a = a
 in-front (mce x) w l h a = a
 in-front (tmgi x) w l h a = a
-in-front (session x) w l h a = a
+in-front (one x) w l h a = a
+in-front (two x) w l h a = a
 in-front (cause x) w l h a = a
 in-front (wait x) w l h a = a
 in-front (name x) w l h a = a
 in-front (reset whole) w l h a = a
 in-front (reset (part is)) w l h a = other-items w is l (h (omega arith)) a
 in-front (list is) w l h a = other-items w is l (h (omega arith)) a
-in-front (diagnostics d) w l h a = other-entries w (pick (d .head .listed) (d .entries) (l .entries)) l (h (omega arith)) a
+in-front (diagnostics t d) w l h a = other-entries w (pick (d .head .listed) (d .entries) (l .entries)) l (h (omega arith)) a
 
 own-entries : (d : Diagnostics) (es : List Entry) (b : Bool) → d .head .listed ≡ b → DiagnosticsFit d → pick b (pick b (d .entries) es) [] ≡ d .entries
 own-entries d es true e f = refl
@@ -82,14 +85,15 @@ own (carried x) l f = tt
 own (mme x) l f = tt
 own (mce x) l f = tt
 own (tmgi x) l f = tt
-own (session x) l f = tt
+own (one x) l f = tt
+own (two x) l f = tt
 own (cause x) l f = tt
 own (wait x) l f = tt
 own (name x) l f = tt
 own (reset whole) l f = tt
 own (reset (part is)) l f = refl
 own (list is) l f = refl
-own (diagnostics d) l f = own-entries d (l .entries) (d .head .listed) refl f
+own (diagnostics t d) l f = own-entries d (l .entries) (d .head .listed) refl f
 
 -- ---- all values of a table
 
@@ -126,14 +130,15 @@ announced-fit (carried x) l f g = g
 announced-fit (mme x) l f g = g
 announced-fit (mce x) l f g = g
 announced-fit (tmgi x) l f g = g
-announced-fit (session x) l f g = g
+announced-fit (one x) l f g = g
+announced-fit (two x) l f g = g
 announced-fit (cause x) l f g = g
 announced-fit (wait x) l f g = g
 announced-fit (name x) l f g = g
 announced-fit (reset whole) l f g = g
 announced-fit (reset (part is)) l f g = record { items = f; entries = g .entries }
 announced-fit (list is) l f g = record { items = f; entries = g .entries }
-announced-fit (diagnostics d) l f g = record { items = g .items; entries = on-pick EntriesFit (d .head .listed) (f .entries) (g .entries) }
+announced-fit (diagnostics t d) l f g = record { items = g .items; entries = on-pick EntriesFit (d .head .listed) (f .entries) (g .entries) }
 
 pub lists-fit : (t : List Row) (vs : List (Given Span)) → RowsFit t vs → ListsFit (listsOf vs)
 unfolding listsOf

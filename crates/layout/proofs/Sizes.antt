@@ -23,7 +23,7 @@ use Rattle.diagnostics.specs.declared.Number.{Number}
 use Rattle.diagnostics.specs.declared.Number.the-variants as number
 use Rattle.diagnostics.specs.declared.Head.{Head}
 use Rattle.editions.specs.declared.Edition.{Edition}
-use Rattle.meaning.specs.Value.{Value, Given, given, absent, carried, mme, mce, tmgi, session, cause, wait, name, reset, list, diagnostics, Record}
+use Rattle.meaning.specs.Value.{Value, Given, given, absent, carried, mme, mce, tmgi, one, two, cause, wait, name, reset, list, diagnostics, Record}
 use Rattle.layout.specs.Rows.{mmeRow, mceRow, itemRow, entryRow, listOctets}
 use Rattle.layout.specs.Record.{listsOf, maybeOctets, headOctets, slotOf, slotOctets, recordOctets}
 
@@ -42,14 +42,15 @@ slot-small (carried v) = omega arith
 slot-small (mme v) = omega arith
 slot-small (mce v) = omega arith
 slot-small (tmgi v) = omega arith
-slot-small (session v) = omega arith
+slot-small (one v) = omega arith
+slot-small (two v) = omega arith
 slot-small (cause v) = omega arith
 slot-small (wait v) = omega arith
 slot-small (name v) = omega arith
 slot-small (reset whole) = omega arith
 slot-small (reset (part is)) = omega arith
 slot-small (list is) = omega arith
-slot-small (diagnostics d) = omega (arith, head-size (d .head))
+slot-small (diagnostics t d) = omega (arith, head-size (d .head))
 
 pub slot-size : (v : Given Span) → length (slotOctets v) ≡ 8
 slot-size (given v) = length-fill 0 8 (slotOf v) (slot-small v)

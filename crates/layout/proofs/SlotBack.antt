@@ -21,7 +21,7 @@ use Rattle.diagnostics.specs.declared.Number.the-variants as number
 use Rattle.diagnostics.specs.declared.Head.{Head}
 use Rattle.diagnostics.specs.Diagnostics.{Diagnostics}
 use Rattle.rows.specs.declared.Row.{Row}
-use Rattle.meaning.specs.Value.{Value, Given, given, absent, carried, mme, mce, tmgi, session, cause, wait, name, reset, list, diagnostics}
+use Rattle.meaning.specs.Value.{Value, Given, given, absent, carried, mme, mce, tmgi, one, two, cause, wait, name, reset, list, diagnostics}
 use Rattle.meaning.specs.Ranges.{valueKind}
 use Rattle.layout.specs.Rows.{unless0}
 use Rattle.layout.specs.Record.{placeOctets, placeIn, Lists, slotOf, slotOctets, headOctets, headIn, slotSays, slotsSay}
@@ -37,14 +37,15 @@ Agrees l (carried v) = Unit
 Agrees l (mme v) = Unit
 Agrees l (mce v) = Unit
 Agrees l (tmgi v) = Unit
-Agrees l (session v) = Unit
+Agrees l (one v) = Unit
+Agrees l (two v) = Unit
 Agrees l (cause v) = Unit
 Agrees l (wait v) = Unit
 Agrees l (name v) = Unit
 Agrees l (reset whole) = Unit
 Agrees l (reset (part is)) = l .items ≡ is
 Agrees l (list is) = l .items ≡ is
-Agrees l (diagnostics d) = pick (d .head .listed) (l .entries) [] ≡ d .entries
+Agrees l (diagnostics t d) = pick (d .head .listed) (l .entries) [] ≡ d .entries
 
 abbrev pub AgreesGiven : Lists → Given Span → Type 0
 AgreesGiven l (given v) = Agrees l v
@@ -84,16 +85,17 @@ slot-back l (name v) rest h a = ap (λ (x : Span). name x) (place-back v rest h)
 slot-back l (mme v) rest h a = λ i. mme (record { 0 = two-back (v .0) [] h i })
 slot-back l (mce v) rest h a = λ i. mce (record { 0 = two-back (v .0) [] h i })
 slot-back l (tmgi v) rest h a = refl
-slot-back l (session v) rest h a = refl
+slot-back l (one v) rest h a = refl
+slot-back l (two v) rest h a = ap (λ (x : ℕ). two x) (two-back v [] h)
 slot-back l (cause v) rest h a = refl
 slot-back l (wait v) rest h a = refl
 slot-back l (reset whole) rest h a = refl
 slot-back l (reset (part is)) rest h a = ap (λ x. reset (part x)) a
 slot-back l (list is) rest h a = ap (λ x. list x) a
-slot-back l (diagnostics d) rest h a =
+slot-back l (diagnostics t d) rest h a =
     let e : headIn (1 ∷ headOctets (d .head) ++ rest) ≡ d .head = head-back (d .head .code) (d .head .trigger) (d .head .crit) (d .head .listed) rest in
-    ap (λ (x : Head). diagnostics (record { head = x; entries = pick (x .listed) (l .entries) [] })) e
-    ∙ ap (λ es. diagnostics (record { head = d .head; entries = es })) a
+    ap (λ (x : Head). diagnostics t (record { head = x; entries = pick (x .listed) (l .entries) [] })) e
+    ∙ ap (λ es. diagnostics t (record { head = d .head; entries = es })) a
 
 first-one : (l : Lists) (v : Value Span) (rest : List ℕ) (x : Given Span) → unless0 (slotOf v ++ rest) absent x ≡ x
 unfolding slotOf
@@ -101,14 +103,15 @@ first-one l (carried v) rest x = refl
 first-one l (mme v) rest x = refl
 first-one l (mce v) rest x = refl
 first-one l (tmgi v) rest x = refl
-first-one l (session v) rest x = refl
+first-one l (one v) rest x = refl
+first-one l (two v) rest x = refl
 first-one l (cause v) rest x = refl
 first-one l (wait v) rest x = refl
 first-one l (name v) rest x = refl
 first-one l (reset whole) rest x = refl
 first-one l (reset (part is)) rest x = refl
 first-one l (list is) rest x = refl
-first-one l (diagnostics d) rest x = refl
+first-one l (diagnostics t d) rest x = refl
 
 -- slots of values of a table's kinds, one after another
 pub slots-back : (l : Lists) (t : List Row) (vs : List (Given Span)) (rest : List ℕ) → RowsFit t vs → Each (AgreesGiven l) vs

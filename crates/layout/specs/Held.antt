@@ -1,4 +1,4 @@
--- What a record for C can hold, so that nothing of it is cut: places and identities of two octets, lists of at most 256.
+-- What a record for C can hold, so that nothing of it is cut: places and numbers of two octets, lists of at most 256.
 use Prim.Native.Nat.{ℕ, _-_, _<_, _≤_}
 use mathlib.Core.Path.{_≡_}
 use mathlib.Core.Bool.{true, false}
@@ -16,7 +16,7 @@ use Rattle.editions.specs.declared.Edition.{Edition}
 use Rattle.editions.specs.declared.Named.the-variants as named
 use Rattle.editions.specs.Editions.{tableOf, numberOf, numberedBy}
 use Rattle.editions.specs.Lawful.{lawful}
-use Rattle.meaning.specs.Value.{Value, Given, given, absent, carried, mme, mce, tmgi, session, cause, wait, name, reset, list, diagnostics, Record}
+use Rattle.meaning.specs.Value.{Value, Given, given, absent, carried, mme, mce, tmgi, one, two, cause, wait, name, reset, list, diagnostics, Record}
 use Rattle.meaning.specs.Ranges.{valueKind}
 
 pub record ItemsFit (is : List Item) : Type 0 where
@@ -41,13 +41,14 @@ Fits (name v) = PlaceFits v
 Fits (mme v) = v .0 < 65536
 Fits (mce v) = v .0 < 65536
 Fits (tmgi v) = Unit
-Fits (session v) = Unit
+Fits (one v) = Unit
+Fits (two v) = v < 65536
 Fits (cause v) = Unit
 Fits (wait v) = Unit
 Fits (reset whole) = Unit
 Fits (reset (part is)) = ItemsFit is
 Fits (list is) = ItemsFit is
-Fits (diagnostics d) = DiagnosticsFit d
+Fits (diagnostics t d) = DiagnosticsFit d
 
 abbrev pub RowFits : Row → Given Span → Type 0
 RowFits r (given v) = (valueKind v ≡ r .kind) × Fits v

@@ -27,7 +27,7 @@ use Rattle.editions.specs.declared.Named.{Named}
 use Rattle.editions.specs.declared.Named.the-variants as named
 use Rattle.editions.specs.declared.Edition.{Edition}
 use Rattle.editions.specs.Editions.{tableOf, numberOf, numberedBy}
-use Rattle.meaning.specs.Value.{Value, Given, given, absent, carried, mme, mce, tmgi, session, cause, wait, name, reset, list, diagnostics, Record, saidBy}
+use Rattle.meaning.specs.Value.{Value, Given, given, absent, carried, mme, mce, tmgi, one, two, cause, wait, name, reset, list, diagnostics, Record, saidBy}
 use Rattle.meaning.specs.Written.{Encoded, none, encoded}
 
 -- ---- the lists that values announce; no table has two rows that announce items, or two that announce entries
@@ -44,14 +44,15 @@ announced (carried v) l = l
 announced (mme v) l = l
 announced (mce v) l = l
 announced (tmgi v) l = l
-announced (session v) l = l
+announced (one v) l = l
+announced (two v) l = l
 announced (cause v) l = l
 announced (wait v) l = l
 announced (name v) l = l
 announced (reset whole) l = l
 announced (reset (part is)) l = record { items = is; entries = l .entries }
 announced (list is) l = record { items = is; entries = l .entries }
-announced (diagnostics d) l = record { items = l .items; entries = pick (d .head .listed) (d .entries) (l .entries) }
+announced (diagnostics t d) l = record { items = l .items; entries = pick (d .head .listed) (d .entries) (l .entries) }
 
 unfoldable pub listsOf : {C : Type 0} → List (Given C) → Lists
 listsOf [] = noLists
@@ -83,13 +84,14 @@ slotOf (name v) = 1 ∷ placeOctets v
 slotOf (mme v) = 1 ∷ numberOctets 2 (v .0)
 slotOf (mce v) = 1 ∷ numberOctets 2 (v .0)
 slotOf (tmgi v) = 1 ∷ v .plmn .0 ∷ v .plmn .1 ∷ v .plmn .2 ∷ v .service .0 ∷ v .service .1 ∷ v .service .2 ∷ []
-slotOf (session v) = 1 ∷ v ∷ []
+slotOf (one v) = 1 ∷ v ∷ []
+slotOf (two v) = 1 ∷ numberOctets 2 v
 slotOf (cause v) = 1 ∷ v .group ∷ v .value ∷ []
 slotOf (wait v) = 1 ∷ v ∷ []
 slotOf (reset whole) = 1 ∷ []
 slotOf (reset (part is)) = 2 ∷ []
 slotOf (list is) = 1 ∷ []
-slotOf (diagnostics d) = 1 ∷ headOctets (d .head)
+slotOf (diagnostics t d) = 1 ∷ headOctets (d .head)
 
 abbrev pub slotOctets : Given Span → List ℕ
 slotOctets (given v) = fill 0 8 (slotOf v)
@@ -121,12 +123,13 @@ slotSays l kind.Tmgi p = tmgi (record {
   plmn = record { 0 = getD p 1 0; 1 = getD p 2 0; 2 = getD p 3 0 };
   service = record { 0 = getD p 4 0; 1 = getD p 5 0; 2 = getD p 6 0 };
 })
-slotSays l kind.Session p = session (getD p 1 0)
+slotSays l kind.OneOctet p = one (getD p 1 0)
+slotSays l kind.TwoOctets p = two (valueAt 2 p 1)
 slotSays l kind.Cause p = cause (record { group = getD p 1 0; value = getD p 2 0 })
 slotSays l kind.Wait p = wait (getD p 1 0)
 slotSays l kind.ResetType p = reset (pick (eqb (getD p 0 0) 2) (part (l .items)) whole)
 slotSays l kind.Acknowledged p = list (l .items)
-slotSays l kind.Diagnostics p = diagnostics (record { head = headIn p; entries = pick (headIn p .listed) (l .entries) [] })
+slotSays l (kind.Diagnostics t) p = diagnostics t (record { head = headIn p; entries = pick (headIn p .listed) (l .entries) [] })
 
 unfoldable pub slotsSay : Lists → List Row → List ℕ → List (Given Span)
 slotsSay l [] p = []
@@ -177,12 +180,13 @@ badName (given (carried os)) = false
 badName (given (mme v)) = false
 badName (given (mce v)) = false
 badName (given (tmgi v)) = false
-badName (given (session v)) = false
+badName (given (one v)) = false
+badName (given (two v)) = false
 badName (given (cause v)) = false
 badName (given (wait v)) = false
 badName (given (reset v)) = false
 badName (given (list v)) = false
-badName (given (diagnostics v)) = false
+badName (given (diagnostics t v)) = false
 badName absent = false
 
 abbrev pub nameRefusedBy : List ℕ → LentRecord → Bool

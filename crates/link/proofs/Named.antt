@@ -10,7 +10,7 @@ use Rattle.rows.specs.declared.Row.{Row}
 use Rattle.editions.specs.declared.Edition.{Edition}
 use Rattle.editions.specs.Editions.{tableOf}
 use Rattle.names.specs.Names.{nameAllowed}
-use Rattle.meaning.specs.Value.{Value, Given, given, absent, carried, mme, mce, tmgi, session, cause, wait, name, reset, list, diagnostics, Said, saidBy}
+use Rattle.meaning.specs.Value.{Value, Given, given, absent, carried, mme, mce, tmgi, one, two, cause, wait, name, reset, list, diagnostics, Said, saidBy}
 use Rattle.meaning.specs.Written.{hasOctets, elementGood, elementsGood, octets}
 use Rattle.layout.specs.Record.{badName, LentRecord, nameRefusedBy, nameRefused, written}
 use Rattle.round_trips.proofs.Back.{has-octets}
@@ -23,12 +23,13 @@ value-named (carried os) h = refl
 value-named (mme v) h = refl
 value-named (mce v) h = refl
 value-named (tmgi v) h = refl
-value-named (session v) h = refl
+value-named (one v) h = refl
+value-named (two v) h = refl
 value-named (cause v) h = refl
 value-named (wait v) h = refl
 value-named (reset v) h = refl
 value-named (list v) h = refl
-value-named (diagnostics v) h = refl
+value-named (diagnostics t v) h = refl
 
 given-named : (r : Row) (v : Given (List ℕ)) → elementGood r v ≡ true → badName v ≡ false
 given-named r (given v) h = value-named v h

@@ -15,7 +15,7 @@ use Rattle.octets.specs.Field.{bitsAt, there, flagAt, plainAt, choiceAt, padAt,
 use Rattle.octets.specs.Many.{Part, many}
 use Rattle.octets.proofs.Chain.{then-got, same-got}
 use Rattle.octets.proofs.Got.{plain-got, choice-got, pad-got, number-got, string-got, wanted-got, open-in}
-use Rattle.values.specs.Values.{wholeAt, mmeAt, mceAt, sessionAt, tmgiAt, rootOf, bitsOfRoot, causeAt, waitAt}
+use Rattle.values.specs.Values.{wholeAt, mmeAt, mceAt, oneAt, twoAt, tmgiAt, rootOf, bitsOfRoot, causeAt, waitAt}
 use Rattle.names.specs.Names.{printable, acrossAt, sizeAt, charAt, charsAt, nameAt}
 use Rattle.names.proofs.Size.{size-got}
 use Rattle.identity.specs.declared.Mme.the-variants as mme
@@ -36,7 +36,7 @@ use Rattle.rows.specs.declared.Kind.{Kind}
 use Rattle.rows.specs.declared.Kind.the-variants as kind
 use Rattle.kinds.specs.Kinds.{valueAt}
 use Rattle.rows.specs.declared.Row.{Row}
-use Rattle.rows.specs.Table.{kindOf}
+use Rattle.rows.specs.Table.{kindOf, meanings}
 use Rattle.envelopes.specs.Envelope.{criticalityAt, envelopeAt, scanAt}
 use Rattle.elements.specs.Judge.{elementsAt}
 use Rattle.envelopes.proofs.ScanLaws.{envelope-in}
@@ -146,9 +146,13 @@ module _ (n : ℕ) (s : List ℕ) (l : length s ≤ n) (at : ℕ) (i : at ≤ n)
   unfolding mceAt
   mce-near = near-then n (wholeAt 2 s at) _ (whole-near 2) (λ v q. tt)
 
-  session-near : Near n (sessionAt s at)
-  unfolding sessionAt
-  session-near = whole-near 1
+  one-near : Near n (oneAt s at)
+  unfolding oneAt
+  one-near = whole-near 1
+
+  two-near : Near n (twoAt s at)
+  unfolding twoAt
+  two-near = whole-near 2
 
   tmgi-near : Near n (tmgiAt s at)
   unfolding tmgiAt
@@ -300,17 +304,17 @@ module _ (n : ℕ) (s : List ℕ) (l : length s ≤ n) where
       let h = number-got s (at + 1) 1 (b .1) .0 in
       omega arith
 
-  pair-near : (b : Bool) (at p : ℕ) → at + p / 8 ≤ n → Near n (diagnostics.maybeAt b s at p)
+  pair-near : (k : ℕ) (b : Bool) (at p : ℕ) → at + p / 8 ≤ n → Near n (diagnostics.maybeAt k b s at p)
   unfolding diagnostics.maybeAt
-  pair-near false at p i = tt
-  pair-near true at p i = near-then n (choiceAt 3 2 s (at + p / 8) p) _ (choice-near n s (at + p / 8) i 3 2 p) (λ v q. tt)
+  pair-near k false at p i = tt
+  pair-near k true at p i = near-then n (choiceAt k 2 s (at + p / 8) p) _ (choice-near n s (at + p / 8) i k 2 p) (λ v q. tt)
 
-  pair-ends : (b : Bool) (at p : ℕ) {x : Number} → at + p / 8 ≤ n → got x ≡ diagnostics.maybeAt b s at p → at + diagnostics.after b 2 p / 8 ≤ n
+  pair-ends : (k : ℕ) (b : Bool) (at p : ℕ) {x : Number} → at + p / 8 ≤ n → got x ≡ diagnostics.maybeAt k b s at p → at + diagnostics.after b 2 p / 8 ≤ n
   unfolding diagnostics.maybeAt
-  pair-ends false at p i q = i
-  pair-ends true at p i q =
-      let a = then-got (choiceAt 3 2 s (at + p / 8) p) _ q in
-      let h = choice-got s (at + p / 8) 3 2 p (a .1) .0 in
+  pair-ends k false at p i q = i
+  pair-ends k true at p i q =
+      let a = then-got (choiceAt k 2 s (at + p / 8) p) _ q in
+      let h = choice-got s (at + p / 8) k 2 p (a .1) .0 in
       omega arith
 
   pad-ends : (at p : ℕ) → at + p / 8 ≤ n → got tt ≡ padAt s (at + p / 8) p → at + (p + 7) / 8 ≤ n
@@ -320,30 +324,30 @@ module _ (n : ℕ) (s : List ℕ) (l : length s ≤ n) where
       by true e = let z = eqb-true (p % 8) 0 e in omega arith
       by false e = let h = pad-got s (at + p / 8) p (eqb-false (p % 8) 0 e) q .0 in omega arith
 
-  head-near : (at : ℕ) → at ≤ n → Near n (diagnostics.headAt s at)
+  head-near : (k at : ℕ) → at ≤ n → Near n (diagnostics.headAt k s at)
   unfolding diagnostics.headAt
-  head-near at i =
+  head-near k at i =
       near-then n (diagnostics.marksAt s at) _ (bits-near at i) (λ m q. let h = bounds.marks-in s at q in
       near-then n (diagnostics.codeAt (m .code) s at) _ (code-near (m .code) at (omega arith)) (λ c r. let a = code-ends (m .code) at i r in
-      near-then n (diagnostics.maybeAt (m .trigger) s at (diagnostics.behindCode m)) _ (pair-near (m .trigger) at (diagnostics.behindCode m) a) (λ t u.
-      let b = pair-ends (m .trigger) at (diagnostics.behindCode m) a u in
-      near-then n (diagnostics.maybeAt (m .crit) s at (diagnostics.behindTrigger m)) _ (pair-near (m .crit) at (diagnostics.behindTrigger m) b) (λ k v.
-      let d = pair-ends (m .crit) at (diagnostics.behindTrigger m) b v in
+      near-then n (diagnostics.maybeAt k (m .trigger) s at (diagnostics.behindCode m)) _ (pair-near k (m .trigger) at (diagnostics.behindCode m) a) (λ t u.
+      let b = pair-ends k (m .trigger) at (diagnostics.behindCode m) a u in
+      near-then n (diagnostics.maybeAt 3 (m .crit) s at (diagnostics.behindTrigger m)) _ (pair-near 3 (m .crit) at (diagnostics.behindTrigger m) b) (λ x v.
+      let d = pair-ends 3 (m .crit) at (diagnostics.behindTrigger m) b v in
       near-then n (padAt s (at + diagnostics.behindCrit m / 8) (diagnostics.behindCrit m)) _
       (pad-near n s (at + diagnostics.behindCrit m / 8) d (diagnostics.behindCrit m)) (λ e w. tt)))))
 
-  head-ends : (at : ℕ) (p : Part Head) → at ≤ n → got p ≡ diagnostics.headAt s at → p .next ≤ n
+  head-ends : (k at : ℕ) (p : Part Head) → at ≤ n → got p ≡ diagnostics.headAt k s at → p .next ≤ n
   unfolding diagnostics.headAt
-  head-ends at p i q =
+  head-ends k at p i q =
       let a = then-got (diagnostics.marksAt s at) _ q in
       let m : Marks = a .0 in
       let b = then-got (diagnostics.codeAt (m .code) s at) _ (a .2) in
-      let c = then-got (diagnostics.maybeAt (m .trigger) s at (diagnostics.behindCode m)) _ (b .2) in
-      let d = then-got (diagnostics.maybeAt (m .crit) s at (diagnostics.behindTrigger m)) _ (c .2) in
+      let c = then-got (diagnostics.maybeAt k (m .trigger) s at (diagnostics.behindCode m)) _ (b .2) in
+      let d = then-got (diagnostics.maybeAt 3 (m .crit) s at (diagnostics.behindTrigger m)) _ (c .2) in
       let e = then-got (padAt s (at + diagnostics.behindCrit m / 8) (diagnostics.behindCrit m)) _ (d .2) in
       let f = code-ends (m .code) at i (b .1) in
-      let g = pair-ends (m .trigger) at (diagnostics.behindCode m) f (c .1) in
-      let h = pair-ends (m .crit) at (diagnostics.behindTrigger m) g (d .1) in
+      let g = pair-ends k (m .trigger) at (diagnostics.behindCode m) f (c .1) in
+      let h = pair-ends 3 (m .crit) at (diagnostics.behindTrigger m) g (d .1) in
       let z : p .next ≡ at + (diagnostics.behindCrit m + 7) / 8 = ap (λ (x : Part Head). x .next) (same-got (e .2)) in
       subst (λ (x : ℕ). x ≤ n) (sym z) (pad-ends at (diagnostics.behindCrit m) h (e .1))
 
@@ -392,10 +396,10 @@ module _ (n : ℕ) (s : List ℕ) (l : length s ≤ n) where
   maybe-list-near false at i = near-then n (endsAt s at) _ (ends-near n s at i) (λ a q. tt)
   maybe-list-near true at i = list-near at i
 
-  diagnostics-near : (at : ℕ) → at ≤ n → Near n (diagnostics.diagnosticsAt s at)
+  diagnostics-near : (k at : ℕ) → at ≤ n → Near n (diagnostics.diagnosticsAt k s at)
   unfolding diagnostics.diagnosticsAt
-  diagnostics-near at i =
-      near-then n (diagnostics.headAt s at) _ (head-near at i) (λ h q. let j = head-ends at h i q in
+  diagnostics-near k at i =
+      near-then n (diagnostics.headAt k s at) _ (head-near k at i) (λ h q. let j = head-ends k at h i q in
       near-then n (entries.maybeListAt (h .value .listed) s (h .next)) _ (maybe-list-near (h .value .listed) (h .next) j) (λ es r. tt))
 
 -- ---- elements
@@ -407,13 +411,14 @@ module _ (n : ℕ) (s : List ℕ) (l : length s ≤ n) where
   value-near kind.Mme at i = near-then n (mmeAt s at) _ (mme-near n s l at i) (λ v q. tt)
   value-near kind.Mce at i = near-then n (mceAt s at) _ (mce-near n s l at i) (λ v q. tt)
   value-near kind.Tmgi at i = near-then n (tmgiAt s at) _ (tmgi-near n s l at i) (λ v q. tt)
-  value-near kind.Session at i = near-then n (sessionAt s at) _ (session-near n s l at i) (λ v q. tt)
+  value-near kind.OneOctet at i = near-then n (oneAt s at) _ (one-near n s l at i) (λ v q. tt)
+  value-near kind.TwoOctets at i = near-then n (twoAt s at) _ (two-near n s l at i) (λ v q. tt)
   value-near kind.Cause at i = near-then n (causeAt s at) _ (cause-near n s l at i) (λ v q. tt)
   value-near kind.Wait at i = near-then n (waitAt s at) _ (wait-near n s l at i) (λ v q. tt)
   value-near kind.Name at i = near-then n (nameAt s at) _ (name-near n s l at i) (λ v q. tt)
   value-near kind.ResetType at i = near-then n (items.resetAt s at) _ (reset-near n s l at i) (λ v q. tt)
   value-near kind.Acknowledged at i = near-then n (items.itemsAt s at) _ (items-near n s l at i) (λ v q. tt)
-  value-near kind.Diagnostics at i = near-then n (diagnostics.diagnosticsAt s at) _ (diagnostics-near n s l at i) (λ v q. tt)
+  value-near (kind.Diagnostics t) at i = near-then n (diagnostics.diagnosticsAt (meanings t) s at) _ (diagnostics-near n s l (meanings t) at i) (λ v q. tt)
 
   criticality-near : (at : ℕ) → at ≤ n → Near n (criticalityAt s at)
   unfolding criticalityAt

@@ -14,20 +14,21 @@ use Rattle.diagnostics.specs.Written.{Under}
 use Rattle.rows.specs.declared.Kind.{Kind}
 use Rattle.rows.specs.declared.Kind.the-variants as kind
 use Rattle.rows.specs.declared.Row.{Row}
-use Rattle.meaning.specs.Value.{Value, Given, given, absent, carried, mme, mce, tmgi, session, cause, wait, name, reset, list, diagnostics}
+use Rattle.meaning.specs.Value.{Value, Given, given, absent, carried, mme, mce, tmgi, one, two, cause, wait, name, reset, list, diagnostics}
 
 abbrev pub valueKind : {C : Type 0} → Value C → Kind
 valueKind (carried os) = kind.Carried
 valueKind (mme v) = kind.Mme
 valueKind (mce v) = kind.Mce
 valueKind (tmgi v) = kind.Tmgi
-valueKind (session v) = kind.Session
+valueKind (one v) = kind.OneOctet
+valueKind (two v) = kind.TwoOctets
 valueKind (cause v) = kind.Cause
 valueKind (wait v) = kind.Wait
 valueKind (name v) = kind.Name
 valueKind (reset v) = kind.ResetType
 valueKind (list v) = kind.Acknowledged
-valueKind (diagnostics v) = kind.Diagnostics
+valueKind (diagnostics t v) = kind.Diagnostics t
 
 abbrev pub ResetRange : ResetType → Type 0
 ResetRange whole = Unit
@@ -46,13 +47,14 @@ InRange (mce v) = v .0 < 65536
 InRange (tmgi v) =
     (v .plmn .0 < 256) × (v .plmn .1 < 256) × (v .plmn .2 < 256)
     × (v .service .0 < 256) × (v .service .1 < 256) × (v .service .2 < 256)
-InRange (session v) = v < 256
+InRange (one v) = v < 256
+InRange (two v) = v < 65536
 InRange (cause v) = Unit
 InRange (wait v) = Unit
 InRange (name os) = Octets os
 InRange (reset v) = ResetRange v
 InRange (list v) = Each GoodItem v
-InRange (diagnostics v) = DiagnosticsRange v
+InRange (diagnostics t v) = DiagnosticsRange v
 
 abbrev pub RowRange : Row → Given (List ℕ) → Type 0
 RowRange r (given v) = (valueKind v ≡ r .kind) × InRange v

@@ -7,14 +7,15 @@ use Rattle.lists.specs.Lists.{pick}
 use Rattle.octets.specs.Read.{Read, got, stop, _>>=_}
 use Rattle.octets.specs.declared.Span.{Span}
 use Rattle.octets.specs.Span.{present}
-use Rattle.values.specs.Values.{mmeAt, mceAt, tmgiAt, sessionAt, causeAt, waitAt}
+use Rattle.values.specs.Values.{mmeAt, mceAt, tmgiAt, oneAt, twoAt, causeAt, waitAt}
 use Rattle.names.specs.Names.{nameAt}
 use Rattle.items.specs.Items.{itemsAt, resetAt}
 use Rattle.diagnostics.specs.Diagnostics.{diagnosticsAt}
 use Rattle.rows.specs.declared.Kind.{Kind}
 use Rattle.rows.specs.declared.Kind.the-variants as kind
 use Rattle.rows.specs.declared.Row.{Row}
-use Rattle.meaning.specs.Value.{Value, Given, given, absent, carried, mme, mce, tmgi, session, cause, wait, name, reset, list, diagnostics}
+use Rattle.rows.specs.Table.{meanings}
+use Rattle.meaning.specs.Value.{Value, Given, given, absent, carried, mme, mce, tmgi, one, two, cause, wait, name, reset, list, diagnostics}
 
 -- a reading of the octets of a value, which end with it
 abbrev pub within : {A : Type 0} → (List ℕ → ℕ → Read A) → (A → Value Span) → List ℕ → Span → Read (Value Span)
@@ -26,13 +27,14 @@ readAs kind.Carried s v = got (carried v)
 readAs kind.Mme s v = within mmeAt mme s v
 readAs kind.Mce s v = within mceAt mce s v
 readAs kind.Tmgi s v = within tmgiAt tmgi s v
-readAs kind.Session s v = within sessionAt session s v
+readAs kind.OneOctet s v = within oneAt one s v
+readAs kind.TwoOctets s v = within twoAt two s v
 readAs kind.Cause s v = within causeAt cause s v
 readAs kind.Wait s v = within waitAt wait s v
 readAs kind.Name s v = within nameAt name s v
 readAs kind.ResetType s v = within resetAt reset s v
 readAs kind.Acknowledged s v = within itemsAt list s v
-readAs kind.Diagnostics s v = within diagnosticsAt diagnostics s v
+readAs (kind.Diagnostics t) s v = within (diagnosticsAt (meanings t)) (diagnostics t) s v
 
 -- the record: for each row the value at its place
 abbrev pub orAbsent : Read (Value Span) → Given Span

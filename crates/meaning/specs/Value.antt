@@ -14,6 +14,7 @@ use Rattle.identity.specs.declared.Item.{Item}
 use Rattle.values.specs.declared.Cause.{Cause}
 use Rattle.items.specs.Items.{ResetType}
 use Rattle.diagnostics.specs.Diagnostics.{Diagnostics}
+use Rattle.rows.specs.declared.Triggers.{Triggers}
 use Rattle.editions.specs.declared.Message.{Message}
 
 pub data Value (C : Type 0) : Type 0 where
@@ -21,14 +22,17 @@ pub data Value (C : Type 0) : Type 0 where
   mme : MmeId → Value C
   mce : MceId → Value C
   tmgi : Tmgi → Value C
-  session : ℕ → Value C
+  -- a number of one octet; one of two
+  one : ℕ → Value C
+  two : ℕ → Value C
   cause : Cause → Value C
   -- Time to Wait, by its number; a name's characters, which are octets of the message as what is carried is
   wait : ℕ → Value C
   name : C → Value C
   reset : ResetType → Value C
   list : List Item → Value C
-  diagnostics : Diagnostics → Value C
+  -- with how many meanings the triggering message has
+  diagnostics : Triggers → Diagnostics → Value C
 
 pub data Given (C : Type 0) : Type 0 where
   given : Value C → Given C
@@ -55,13 +59,14 @@ onCarried f (carried c) = carried (f c)
 onCarried f (mme v) = mme v
 onCarried f (mce v) = mce v
 onCarried f (tmgi v) = tmgi v
-onCarried f (session v) = session v
+onCarried f (one v) = one v
+onCarried f (two v) = two v
 onCarried f (cause v) = cause v
 onCarried f (wait v) = wait v
 onCarried f (name c) = name (f c)
 onCarried f (reset v) = reset v
 onCarried f (list v) = list v
-onCarried f (diagnostics v) = diagnostics v
+onCarried f (diagnostics t v) = diagnostics t v
 
 abbrev pub onGiven : {C D : Type 0} → (C → D) → Given C → Given D
 onGiven f (given v) = given (onCarried f v)

@@ -9,7 +9,7 @@ use Rattle.lists.specs.Lists.{pick, some}
 use Rattle.packed.specs.Packed.{_bits_, bit, packed}
 use Rattle.octets.specs.Write.{numberOctets, lengthOctets}
 use Rattle.values.specs.Values.{rootOf}
-use Rattle.values.specs.Written.{mmeOctets, mceOctets, sessionOctets, tmgiOctets, causeOctets, waitOctets}
+use Rattle.values.specs.Written.{mmeOctets, mceOctets, oneOctets, twoOctets, tmgiOctets, causeOctets, waitOctets}
 use Rattle.names.specs.Names.{nameAllowed}
 use Rattle.names.specs.Written.{nameOctets}
 use Rattle.items.specs.Items.{ResetType, whole, part}
@@ -20,11 +20,12 @@ use Rattle.entries.specs.declared.Entry.{Entry}
 use Rattle.diagnostics.specs.Diagnostics.{Diagnostics}
 use Rattle.diagnostics.specs.Written.{diagnosticsOctets}
 use Rattle.rows.specs.declared.Row.{Row}
+use Rattle.rows.specs.Table.{meanings}
 use Rattle.editions.specs.declared.Message.{Message}
 use Rattle.editions.specs.declared.Code.{Code}
 use Rattle.editions.specs.declared.Edition.{Edition}
 use Rattle.editions.specs.Editions.{tableOf, codeOf}
-use Rattle.meaning.specs.Value.{Value, Given, given, absent, carried, mme, mce, tmgi, session, cause, wait, name, reset, list, diagnostics, Said}
+use Rattle.meaning.specs.Value.{Value, Given, given, absent, carried, mme, mce, tmgi, one, two, cause, wait, name, reset, list, diagnostics, Said}
 
 -- ---- a value
 
@@ -34,13 +35,14 @@ octetsOf (carried os) = os
 octetsOf (mme v) = mmeOctets v
 octetsOf (mce v) = mceOctets v
 octetsOf (tmgi v) = tmgiOctets v
-octetsOf (session v) = sessionOctets v
+octetsOf (one v) = oneOctets v
+octetsOf (two v) = twoOctets v
 octetsOf (cause v) = causeOctets v
 octetsOf (wait v) = waitOctets v
 octetsOf (name os) = nameOctets os
 octetsOf (reset v) = resetOctets v
 octetsOf (list is) = itemsOctets ignore is
-octetsOf (diagnostics d) = diagnosticsOctets d
+octetsOf (diagnostics t d) = diagnosticsOctets d
 
 -- a list has 1 to 256
 abbrev pub counted : ℕ → Bool
@@ -50,10 +52,10 @@ abbrev pub resetGood : ResetType → Bool
 resetGood whole = true
 resetGood (part is) = counted (length is)
 
--- a number, if it is there, has one of three meanings
-abbrev pub under3 : Number → Bool
-under3 (number.Is v) = ltb v 3
-under3 number.Absent = true
+-- a number, if it is there, has one of n meanings
+abbrev pub under : ℕ → Number → Bool
+under n (number.Is v) = ltb v n
+under n number.Absent = true
 
 abbrev pub entryGood : Entry → Bool
 entryGood e = ltb (e .crit) 3 && ltb (e .error) 2
@@ -61,8 +63,9 @@ entryGood e = ltb (e .crit) 3 && ltb (e .error) 2
 abbrev pub entriesGood : List Entry → Bool
 entriesGood es = counted (length es) && not (some (λ (e : Entry). not (entryGood e)) es)
 
-abbrev pub diagnosticsGood : Diagnostics → Bool
-diagnosticsGood d = under3 (d .head .trigger) && under3 (d .head .crit) && pick (d .head .listed) (entriesGood (d .entries)) true
+-- the triggering message has n meanings
+abbrev pub diagnosticsGood : ℕ → Diagnostics → Bool
+diagnosticsGood n d = under n (d .head .trigger) && under 3 (d .head .crit) && pick (d .head .listed) (entriesGood (d .entries)) true
 
 -- a carried value of 0 octets has none, nor has a number outside its field's root or range, nor a name that is not allowed, nor a list of 0 or over 256
 unfoldable pub hasOctets : Value (List ℕ) → Bool
@@ -70,13 +73,14 @@ hasOctets (carried os) = ltb 0 (length os)
 hasOctets (mme v) = true
 hasOctets (mce v) = true
 hasOctets (tmgi v) = true
-hasOctets (session v) = true
+hasOctets (one v) = true
+hasOctets (two v) = true
 hasOctets (cause c) = ltb (c .value) (rootOf (c .group))
 hasOctets (wait v) = ltb v 6
 hasOctets (name os) = nameAllowed os
 hasOctets (reset r) = resetGood r
 hasOctets (list is) = counted (length is)
-hasOctets (diagnostics d) = diagnosticsGood d
+hasOctets (diagnostics t d) = diagnosticsGood (meanings t) d
 
 -- ---- a message
 

@@ -25,7 +25,7 @@ use Rattle.diagnostics.specs.Written.{marksOf, headOctets, listOctets, diagnost
 use Rattle.diagnostics.proofs.HeadBack.{head-length}
 use Rattle.rows.specs.declared.Row.{Row}
 use Rattle.rows.specs.Table.{noRow}
-use Rattle.meaning.specs.Value.{Value, Given, given, absent, carried, mme, mce, tmgi, session, cause, wait, name, reset, list, diagnostics}
+use Rattle.meaning.specs.Value.{Value, Given, given, absent, carried, mme, mce, tmgi, one, two, cause, wait, name, reset, list, diagnostics}
 use Rattle.meaning.specs.Written.{octetsOf, hasOctets, elementOctets, elementsOctets, howMany, elementsGood}
 use Rattle.plan.specs.declared.Plan.{Plan}
 use Rattle.plan.specs.declared.Plan.the-variants.{Is, None}
@@ -52,14 +52,15 @@ has-some (carried os) e = ltb-true 0 (length os) e
 has-some (mme v) e = rw (length-number 2 (v .0)) (omega arith)
 has-some (mce v) e = rw (length-number 2 (v .0)) (omega arith)
 has-some (tmgi v) e = omega arith
-has-some (session v) e = rw (length-number 1 v) (omega arith)
+has-some (one v) e = rw (length-number 1 v) (omega arith)
+has-some (two v) e = rw (length-number 2 v) (omega arith)
 has-some (cause c) e = rw e (omega arith)
 has-some (wait v) e = rw e (omega arith)
 has-some (name os) e = rw e (omega arith)
 has-some (reset whole) e = omega arith
 has-some (reset (part is)) e = omega arith
 has-some (list is) e = omega (arith, length-append (numberOctets 1 (length is - 1)) (eachOctets (itemElementOctets ignore) is), length-number 1 (length is - 1))
-has-some (diagnostics d) e = omega (arith, length-append (headOctets (d .head)) (listOctets (d .head .listed) (d .entries)), head-some (d .head))
+has-some (diagnostics t d) e = omega (arith, length-append (headOctets (d .head)) (listOctets (d .head .listed) (d .entries)), head-some (d .head))
 
 size-is : (v : Value (List ℕ)) → hasOctets v ≡ true → sizeOf v ≡ length (octetsOf v)
 unfolding sizeOf
@@ -166,10 +167,10 @@ module _ (r : Row) (t : List Row) (vs : List (Given (List ℕ))) (go : Plan → 
             ap go (ap (stepOf (Is c q) (r .mandatory)) (ap fitted (size-is v e) ∙ sym (fit-is (length (octetsOf v)) p k)) ∙ step-more c q (r .mandatory) (length (octetsOf v)) (λ z. omega arith) k o)
             ∙ (on (c + 1) (q + elementSize (length (octetsOf v))) o ∙ more-planned e)
 
-  one : (y : Given (List ℕ)) → go (stepOf (Is c q) (r .mandatory) (sizeGiven y)) ≡ planned c q (r ∷ t) (y ∷ vs)
+  one-row : (y : Given (List ℕ)) → go (stepOf (Is c q) (r .mandatory) (sizeGiven y)) ≡ planned c q (r ∷ t) (y ∷ vs)
   unfolding sizeGiven
-  one (given v) = one-given v
-  one absent = one-absent (r .mandatory) refl
+  one-row (given v) = one-given v
+  one-row absent = one-absent (r .mandatory) refl
 
 pub plan-all : (t : List Row) (vs : List (Given (List ℕ))) (c q : ℕ) → length t ≡ length vs → q ≤ 8192 → planTo (Is c q) t (map sizeGiven vs) (length t) ≡ planned c q t vs
 unfolding planTo elementsGood elementsOctets howMany
@@ -178,7 +179,7 @@ plan-all [] (x ∷ xs) c q e h = absurd (omega arith)
 plan-all (r ∷ t) [] c q e h = absurd (omega arith)
 plan-all (r ∷ t) (x ∷ xs) c q e h =
     plan-shift (Is c q) r t (sizeGiven x) (map sizeGiven xs) (length t)
-    ∙ one r t xs (λ (p : Plan). planTo p t (map sizeGiven xs) (length t)) (plan-none t _ (length t)) (λ a b k. plan-all t xs a b (omega arith) k) c q h x
+    ∙ one-row r t xs (λ (p : Plan). planTo p t (map sizeGiven xs) (length t)) (plan-none t _ (length t)) (λ a b k. plan-all t xs a b (omega arith) k) c q h x
 
 -- ---- what a plan tells
 

@@ -57,12 +57,13 @@ tested (given (value.carried x) ∷ vs) os q = let h = tested vs os q in record 
 tested (given (value.mme x) ∷ vs) os q = let h = tested vs os q in record { passed = h .passed; refused = h .refused }
 tested (given (value.mce x) ∷ vs) os q = let h = tested vs os q in record { passed = h .passed; refused = h .refused }
 tested (given (value.tmgi x) ∷ vs) os q = let h = tested vs os q in record { passed = h .passed; refused = h .refused }
-tested (given (value.session x) ∷ vs) os q = let h = tested vs os q in record { passed = h .passed; refused = h .refused }
+tested (given (value.one x) ∷ vs) os q = let h = tested vs os q in record { passed = h .passed; refused = h .refused }
+tested (given (value.two x) ∷ vs) os q = let h = tested vs os q in record { passed = h .passed; refused = h .refused }
 tested (given (value.cause x) ∷ vs) os q = let h = tested vs os q in record { passed = h .passed; refused = h .refused }
 tested (given (value.wait x) ∷ vs) os q = let h = tested vs os q in record { passed = h .passed; refused = h .refused }
 tested (given (value.reset x) ∷ vs) os q = let h = tested vs os q in record { passed = h .passed; refused = h .refused }
 tested (given (value.list x) ∷ vs) os q = let h = tested vs os q in record { passed = h .passed; refused = h .refused }
-tested (given (value.diagnostics x) ∷ vs) os q = let h = tested vs os q in record { passed = h .passed; refused = h .refused }
+tested (given (value.diagnostics t x) ∷ vs) os q = let h = tested vs os q in record { passed = h .passed; refused = h .refused }
 
 -- ---- the name that is found stands where its characters do
 
@@ -79,12 +80,13 @@ among-found s (given (value.carried x) ∷ vs) = among-found s vs
 among-found s (given (value.mme x) ∷ vs) = among-found s vs
 among-found s (given (value.mce x) ∷ vs) = among-found s vs
 among-found s (given (value.tmgi x) ∷ vs) = among-found s vs
-among-found s (given (value.session x) ∷ vs) = among-found s vs
+among-found s (given (value.one x) ∷ vs) = among-found s vs
+among-found s (given (value.two x) ∷ vs) = among-found s vs
 among-found s (given (value.cause x) ∷ vs) = among-found s vs
 among-found s (given (value.wait x) ∷ vs) = among-found s vs
 among-found s (given (value.reset x) ∷ vs) = among-found s vs
 among-found s (given (value.list x) ∷ vs) = among-found s vs
-among-found s (given (value.diagnostics x) ∷ vs) = among-found s vs
+among-found s (given (value.diagnostics t x) ∷ vs) = among-found s vs
 
 -- what is shown, by what is found
 some-octets : (os : List ℕ) → nameAllowed os ≡ true → ([] ≡ os → ⊥)

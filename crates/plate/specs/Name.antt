@@ -16,12 +16,13 @@ nameBy (value.carried os) n = n
 nameBy (value.mme v) n = n
 nameBy (value.mce v) n = n
 nameBy (value.tmgi v) n = n
-nameBy (value.session v) n = n
+nameBy (value.one v) n = n
+nameBy (value.two v) n = n
 nameBy (value.cause v) n = n
 nameBy (value.wait v) n = n
 nameBy (value.reset v) n = n
 nameBy (value.list v) n = n
-nameBy (value.diagnostics v) n = n
+nameBy (value.diagnostics t v) n = n
 
 abbrev pub nameAmong : List (Given (List ℕ)) → Name
 nameAmong [] = nameless

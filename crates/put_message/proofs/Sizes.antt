@@ -25,8 +25,10 @@ use Rattle.items.specs.Written.{ignore, reject, itemsOctets, resetOctets}
 use Rattle.diagnostics.specs.declared.Head.{Head}
 use Rattle.put_diagnostics.specs.Put.{listedSize}
 use Rattle.put_diagnostics.proofs.Sizes.{listed-length, size-fits}
-use Rattle.meaning.specs.Value.{Value, carried, mme, mce, tmgi, session, cause, wait, name, reset, list, diagnostics, octetsIn}
-use Rattle.meaning.specs.Written.{octetsOf, hasOctets, counted, under3, entriesGood}
+use Rattle.rows.specs.declared.Triggers.{Triggers}
+use Rattle.rows.specs.Table.{meanings}
+use Rattle.meaning.specs.Value.{Value, carried, mme, mce, tmgi, one, two, cause, wait, name, reset, list, diagnostics, octetsIn}
+use Rattle.meaning.specs.Written.{octetsOf, hasOctets, counted, under, entriesGood}
 use Rattle.layout.specs.Record.{listsIn}
 use Rattle.plan.specs.Plan.{sizeOf}
 use Rattle.put_message.specs.Said.{diagnosticsBy}
@@ -53,9 +55,13 @@ pub tmgi-size : (v : Tmgi) → 7 ≡ sizeOf (tmgi v)
 unfolding sizeOf hasOctets octetsOf tmgiOctets
 tmgi-size v = refl
 
-pub session-size : (v : ℕ) → 1 ≡ sizeOf (session v)
+pub one-size : (v : ℕ) → 1 ≡ sizeOf (one v)
 unfolding sizeOf hasOctets octetsOf
-session-size v = sym (length-number 1 v)
+one-size v = sym (length-number 1 v)
+
+pub two-size : (v : ℕ) → 2 ≡ sizeOf (two v)
+unfolding sizeOf hasOctets octetsOf
+two-size v = sym (length-number 2 v)
 
 pub cause-size : (c : Cause) → c .value < rootOf (c .group) → 1 ≡ sizeOf (cause c)
 unfolding sizeOf hasOctets octetsOf causeOctets
@@ -118,29 +124,29 @@ module _ (is : List Item) where
 
 -- ---- diagnostics
 
-module _ (h : Head) (s : List ℕ) where
+module _ (t : Triggers) (h : Head) (s : List ℕ) where
   list-same : (b : Bool) → pick b (entriesGood (pick b (listsIn s .entries) [])) true ≡ pick b (entriesGood (listsIn s .entries)) true
   list-same true = refl
   list-same false = refl
 
-  pub trigger-bad : under3 (h .trigger) ≡ false → 0 ≡ sizeOf (diagnostics (diagnosticsBy h s))
+  pub trigger-bad : under (meanings t) (h .trigger) ≡ false → 0 ≡ sizeOf (diagnostics t (diagnosticsBy h s))
   unfolding hasOctets
-  trigger-bad e = size-none (diagnostics (diagnosticsBy h s)) (rw e)
+  trigger-bad e = size-none (diagnostics t (diagnosticsBy h s)) (rw e)
 
-  module _ (d : under3 (h .trigger) ≡ true) where
-    pub crit-bad : under3 (h .crit) ≡ false → 0 ≡ sizeOf (diagnostics (diagnosticsBy h s))
+  module _ (d : under (meanings t) (h .trigger) ≡ true) where
+    pub crit-bad : under 3 (h .crit) ≡ false → 0 ≡ sizeOf (diagnostics t (diagnosticsBy h s))
     unfolding hasOctets
-    crit-bad e = size-none (diagnostics (diagnosticsBy h s)) (rw (d, e))
+    crit-bad e = size-none (diagnostics t (diagnosticsBy h s)) (rw (d, e))
 
-    module _ (e : under3 (h .crit) ≡ true) where
-      has : {b : Bool} → pick (h .listed) (entriesGood (listsIn s .entries)) true ≡ b → hasOctets (diagnostics (diagnosticsBy h s)) ≡ b
+    module _ (e : under 3 (h .crit) ≡ true) where
+      has : {b : Bool} → pick (h .listed) (entriesGood (listsIn s .entries)) true ≡ b → hasOctets (diagnostics t (diagnosticsBy h s)) ≡ b
       unfolding hasOctets
       has f = rw (d, e) (list-same (h .listed) ∙ f)
 
-      pub list-bad : pick (h .listed) (entriesGood (listsIn s .entries)) true ≡ false → 0 ≡ sizeOf (diagnostics (diagnosticsBy h s))
-      list-bad f = size-none (diagnostics (diagnosticsBy h s)) (has f)
+      pub list-bad : pick (h .listed) (entriesGood (listsIn s .entries)) true ≡ false → 0 ≡ sizeOf (diagnostics t (diagnosticsBy h s))
+      list-bad f = size-none (diagnostics t (diagnosticsBy h s)) (has f)
 
-      pub diagnostics-size : pick (h .listed) (entriesGood (listsIn s .entries)) true ≡ true → {n m : ℕ} → m ≡ length (listsIn s .entries) → m ≤ 256 → n ≡ min (listedSize h m) 18446744073709551615 → n ≡ sizeOf (diagnostics (diagnosticsBy h s))
+      pub diagnostics-size : pick (h .listed) (entriesGood (listsIn s .entries)) true ≡ true → {n m : ℕ} → m ≡ length (listsIn s .entries) → m ≤ 256 → n ≡ min (listedSize h m) 18446744073709551615 → n ≡ sizeOf (diagnostics t (diagnosticsBy h s))
       unfolding octetsOf
       diagnostics-size f {n} {m} g k i =
-          size-has (diagnostics (diagnosticsBy h s)) (has f) (i ∙ size-fits h m (omega arith) ∙ ap (listedSize h) g ∙ sym (listed-length h (listsIn s .entries)))
+          size-has (diagnostics t (diagnosticsBy h s)) (has f) (i ∙ size-fits h m (omega arith) ∙ ap (listedSize h) g ∙ sym (listed-length h (listsIn s .entries)))

@@ -13,9 +13,10 @@ use Rattle.octets.specs.declared.Span.{Span}
 use Rattle.rows.specs.declared.Kind.{Kind}
 use Rattle.rows.specs.declared.Kind.the-variants as kind
 use Rattle.rows.specs.declared.Row.{Row}
+use Rattle.rows.specs.declared.Triggers.{Triggers}
 use Rattle.rows.specs.declared.Rows.{Rows}
 use Rattle.rows.specs.Table.{noRow, rowsIn}
-use Rattle.meaning.specs.Value.{Value, Given, given, absent, carried, mme, mce, tmgi, session, cause, wait, name, reset, list, diagnostics, octetsIn, onCarried, onGiven}
+use Rattle.meaning.specs.Value.{Value, Given, given, absent, carried, mme, mce, tmgi, one, two, cause, wait, name, reset, list, diagnostics, octetsIn, onCarried, onGiven}
 use Rattle.meaning.specs.Written.{elementOctets}
 use Rattle.layout.specs.Rows.{unless0}
 use Rattle.layout.specs.Record.{Lists, listsIn, headIn, slotSays, slotsSay}
@@ -43,9 +44,13 @@ module _ (values s : List ℕ) (at : ℕ) where
   unfolding valueBy slotSays onCarried
   tmgi-by = simp getD-drop
 
-  pub session-by : valueBy values s kind.Session at ≡ session (getD s (at + 1) 0)
+  pub one-by : valueBy values s kind.OneOctet at ≡ one (getD s (at + 1) 0)
   unfolding valueBy slotSays onCarried
-  session-by = simp getD-drop
+  one-by = simp getD-drop
+
+  pub two-by : valueBy values s kind.TwoOctets at ≡ two (getD s (at + 1) 0 * 256 + getD s (at + 2) 0)
+  unfolding valueBy slotSays onCarried
+  two-by = let k : at + 1 + 1 ≡ at + 2 = omega arith in rw (two-at s at 1, k)
 
   pub cause-by : valueBy values s kind.Cause at ≡ cause (causeIn s at)
   unfolding valueBy slotSays onCarried
@@ -67,9 +72,9 @@ module _ (values s : List ℕ) (at : ℕ) where
   unfolding valueBy slotSays onCarried
   list-by = refl
 
-  pub diagnostics-by : valueBy values s kind.Diagnostics at ≡ diagnostics (diagnosticsBy (headIn (drop at s)) s)
+  pub diagnostics-by : (t : Triggers) → valueBy values s (kind.Diagnostics t) at ≡ diagnostics t (diagnosticsBy (headIn (drop at s)) s)
   unfolding valueBy slotSays onCarried
-  diagnostics-by = refl
+  diagnostics-by t = refl
 
   -- a value that has a size is there
   pub given-there : (k : Kind) → (sizeGiven (givenBy values s k at) ≡ 0 → ⊥) → givenBy values s k at ≡ given (valueBy values s k at)

@@ -11,7 +11,7 @@ ghost use Rattle.items.specs.Items.{part};
 ghost use Rattle.items.specs.Written.{resetOctets};
 ghost use Rattle.diagnostics.specs.Written.{diagnosticsOctets};
 ghost use Rattle.meaning.specs.Value.{octetsIn, cause, wait, name, reset, list, diagnostics};
-ghost use Rattle.meaning.specs.Written.{counted, under3, entriesGood, octetsOf, elementOctets};
+ghost use Rattle.meaning.specs.Written.{counted, under, entriesGood, octetsOf, elementOctets};
 ghost use Rattle.layout.specs.Record.{listsIn, headIn, written};
 ghost use Rattle.plan.specs.Plan.{sizeOf, sizeGiven, sizesOf, elementsTo};
 ghost use Rattle.plan.specs.Written.{writtenIn, Writes};
@@ -32,6 +32,7 @@ use put_values::Criticality;
 use rows::Kind;
 use rows::Row;
 use rows::Rows;
+use rows::Triggers;
 use values::Cause;
 
 // ---- what a slot says
@@ -183,12 +184,12 @@ fn reset_size(there: u8, s: &[u8]) -> usize
     1
 }
 
-// A triggering message or a criticality, if it is there, is one of three.
-fn is_under_3(n: Number) -> bool
-    ensures { λ r. ⌜ r ≡ under3 n ⌝ }
+// A triggering message or a criticality, if it is there, is one of n.
+fn is_under(n: u8, x: Number) -> bool
+    ensures { λ r. ⌜ r ≡ under n x ⌝ }
 {
-    match n {
-        Number::Is(v) => v < 3,
+    match x {
+        Number::Is(v) => v < n,
         Number::Absent => true,
     }
 }
@@ -203,15 +204,15 @@ fn is_list_good(listed: bool, s: &[u8]) -> bool
     true
 }
 
-fn diagnostics_size(head: Head, s: &[u8]) -> usize
-    ensures { λ r. ⌜ r ≡ sizeOf (diagnostics (diagnosticsBy head (now (s .entry)))) ⌝ }
+fn diagnostics_size(t: Triggers, head: Head, s: &[u8]) -> usize
+    ensures { λ r. ⌜ r ≡ sizeOf (diagnostics t (diagnosticsBy head (now (s .entry)))) ⌝ }
 {
     let trigger = head.trigger;
     let crit = head.crit;
-    if !is_under_3(trigger) {
+    if !is_under(rows::meanings(t), trigger) {
         return 0;
     }
-    if !is_under_3(crit) {
+    if !is_under(3, crit) {
         return 0;
     }
     if !is_list_good(head.listed, s) {
@@ -229,13 +230,14 @@ fn value_size(kind: Kind, s: &[u8], at: usize, values: &[u8]) -> usize
         Kind::Mme => 2,
         Kind::Mce => 2,
         Kind::Tmgi => 7,
-        Kind::Session => 1,
+        Kind::OneOctet => 1,
+        Kind::TwoOctets => 2,
         Kind::Cause => cause_size(cause_at(s, at)),
         Kind::Wait => wait_size(s[at + 1]),
         Kind::Name => name_size(values, span_at(s, at)),
         Kind::ResetType => reset_size(s[at], s),
         Kind::Acknowledged => list_size(s),
-        Kind::Diagnostics => diagnostics_size(head_at(s, at), s),
+        Kind::Diagnostics(t) => diagnostics_size(t, head_at(s, at), s),
     }
 }
 
@@ -322,13 +324,14 @@ fn put_value(room: &mut [u8], at: usize, kind: Kind, s: &[u8], from: usize, valu
         Kind::Mme => put_values::put_mme(room, at, MmeId(numbers::two(s[from + 1], s[from + 2]))),
         Kind::Mce => put_values::put_mce(room, at, MceId(numbers::two(s[from + 1], s[from + 2]))),
         Kind::Tmgi => put_values::put_tmgi(room, at, tmgi_at(s, from)),
-        Kind::Session => put_values::put_session(room, at, s[from + 1]),
+        Kind::OneOctet => put_values::put_one(room, at, s[from + 1]),
+        Kind::TwoOctets => octets::put_two(room, at, numbers::two(s[from + 1], s[from + 2])),
         Kind::Cause => put_values::put_cause(room, at, cause_at(s, from)),
         Kind::Wait => put_values::put_wait(room, at, s[from + 1]),
         Kind::Name => put_name(room, at, values, span_at(s, from)),
         Kind::ResetType => put_reset(room, at, s[from], s),
         Kind::Acknowledged => item_rows::put_said(room, at, Criticality::Ignore, s),
-        Kind::Diagnostics => put_diagnostics(room, at, head_at(s, from), s),
+        Kind::Diagnostics(_) => put_diagnostics(room, at, head_at(s, from), s),
     }
 }
 

@@ -28,8 +28,9 @@ use Rattle.diagnostics.specs.declared.Head.{Head}
 use Rattle.diagnostics.specs.Written.{headOctets, diagnosticsOctets}
 use Rattle.put_diagnostics.specs.Put.{listedBy, listedSize}
 use Rattle.put_diagnostics.proofs.Sizes.{listed-length, size-fits, size-no}
+use Rattle.rows.specs.declared.Triggers.the-variants.{Three}
 use Rattle.meaning.specs.Value.{Value, mme, mce, cause, list, diagnostics}
-use Rattle.meaning.specs.Written.{octetsOf, hasOctets, counted, under3, entryGood, entriesGood}
+use Rattle.meaning.specs.Written.{octetsOf, hasOctets, counted, under, entryGood, entriesGood}
 use Rattle.plan.specs.Plan.{sizeOf, fitted}
 
 size-has : (v : Value (List ℕ)) {n : ℕ} → hasOctets v ≡ true → n ≡ length (octetsOf v) → n ≡ sizeOf v
@@ -106,22 +107,22 @@ module _ (ws : List ℕ) where
     list-same true = refl
     list-same false = refl
 
-    pub trigger-bad : under3 (h .trigger) ≡ false → 0 ≡ sizeOf (diagnostics (listedBy h ws))
+    pub trigger-bad : under 3 (h .trigger) ≡ false → 0 ≡ sizeOf (diagnostics Three (listedBy h ws))
     unfolding hasOctets
-    trigger-bad e = size-none (diagnostics (listedBy h ws)) (rw e)
+    trigger-bad e = size-none (diagnostics Three (listedBy h ws)) (rw e)
 
-    module _ (d : under3 (h .trigger) ≡ true) where
-      pub crit-bad : under3 (h .crit) ≡ false → 0 ≡ sizeOf (diagnostics (listedBy h ws))
+    module _ (d : under 3 (h .trigger) ≡ true) where
+      pub crit-bad : under 3 (h .crit) ≡ false → 0 ≡ sizeOf (diagnostics Three (listedBy h ws))
       unfolding hasOctets
-      crit-bad e = size-none (diagnostics (listedBy h ws)) (rw (d, e))
+      crit-bad e = size-none (diagnostics Three (listedBy h ws)) (rw (d, e))
 
-      module _ (e : under3 (h .crit) ≡ true) where
-        has : {b : Bool} → pick (h .listed) (entriesGood entries) true ≡ b → hasOctets (diagnostics (listedBy h ws)) ≡ b
+      module _ (e : under 3 (h .crit) ≡ true) where
+        has : {b : Bool} → pick (h .listed) (entriesGood entries) true ≡ b → hasOctets (diagnostics Three (listedBy h ws)) ≡ b
         unfolding hasOctets
         has f = rw (d, e) (list-same (h .listed) ∙ f)
 
-        pub list-bad : pick (h .listed) (entriesGood entries) true ≡ false → 0 ≡ sizeOf (diagnostics (listedBy h ws))
-        list-bad f = size-none (diagnostics (listedBy h ws)) (has f)
+        pub list-bad : pick (h .listed) (entriesGood entries) true ≡ false → 0 ≡ sizeOf (diagnostics Three (listedBy h ws))
+        list-bad f = size-none (diagnostics Three (listedBy h ws)) (has f)
 
         said : pick (h .listed) (entriesGood entries) true ≡ true → min (listedSize h (length ws)) 18446744073709551615 ≡ listedSize h (length ws)
         said f = by (h .listed) refl f
@@ -130,7 +131,7 @@ module _ (ws : List ℕ) where
             by true g f = let k = few f in size-fits h (length ws) (omega arith)
             by false g f = unlisted h (length ws) g
 
-        pub diagnostics-size : pick (h .listed) (entriesGood entries) true ≡ true → {n : ℕ} → n ≡ min (listedSize h (length ws)) 18446744073709551615 → n ≡ sizeOf (diagnostics (listedBy h ws))
+        pub diagnostics-size : pick (h .listed) (entriesGood entries) true ≡ true → {n : ℕ} → n ≡ min (listedSize h (length ws)) 18446744073709551615 → n ≡ sizeOf (diagnostics Three (listedBy h ws))
         unfolding octetsOf
         diagnostics-size f i =
-            size-has (diagnostics (listedBy h ws)) (has f) (i ∙ said f ∙ ap (listedSize h) (sym (length-map ws entryBy)) ∙ sym (listed-length h entries))
+            size-has (diagnostics Three (listedBy h ws)) (has f) (i ∙ said f ∙ ap (listedSize h) (sym (length-map ws entryBy)) ∙ sym (listed-length h entries))

@@ -10,6 +10,7 @@ use Rattle.rows.specs.declared.Kind.{Kind}
 use Rattle.rows.specs.declared.Kind.the-variants as kind
 use Rattle.rows.specs.declared.Row.{Row}
 use Rattle.rows.specs.declared.Rows.{Rows}
+use Rattle.rows.specs.declared.Triggers.the-variants.{Three}
 use Rattle.rows.specs.Table.{noRow}
 use Rattle.identity.specs.declared.Mme.{Mme}
 use Rattle.identity.specs.declared.Mme.the-variants as mme
@@ -42,12 +43,13 @@ partOf p kind.Mme = p .mme
 partOf p kind.Mce = p .mce
 partOf p kind.Cause = p .cause
 partOf p kind.Acknowledged = p .list
-partOf p kind.Diagnostics = p .diagnostics
+partOf p (kind.Diagnostics t) = p .diagnostics
 partOf p kind.Carried = part.Absent
 partOf p kind.Wait = part.Absent
 partOf p kind.Name = part.Absent
 partOf p kind.Tmgi = part.Absent
-partOf p kind.Session = part.Absent
+partOf p kind.OneOctet = part.Absent
+partOf p kind.TwoOctets = part.Absent
 partOf p kind.ResetType = part.Absent
 
 abbrev pub mmePart : Mme → Part
@@ -104,7 +106,7 @@ module _ (kept : List Item) (noted : List Entry) where
   givenBy (part.Mce c) = given (value.mce c)
   givenBy (part.Cause why) = given (value.cause why)
   givenBy part.List = given (value.list kept)
-  givenBy (part.Diagnostics h) = given (value.diagnostics (record { head = h; entries = pick (h .listed) noted [] }))
+  givenBy (part.Diagnostics h) = given (value.diagnostics Three (record { head = h; entries = pick (h .listed) noted [] }))
 
   abbrev pub givenRows : Parts → List Row → List (Given (List ℕ))
   givenRows p t = map (λ (r : Row). givenBy (partOf p (r .kind))) t

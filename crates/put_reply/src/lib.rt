@@ -5,6 +5,7 @@ ghost use mathlib.Core.Bool.{true};
 ghost use Rattle.lists.specs.Lists.{pick};
 ghost use Prim.Native.Nat.{ℕ, _≤_, _<_};
 ghost use lib.ListN.{length};
+ghost use Rattle.rows.specs.declared.Triggers.the-variants.{Three};
 ghost use Rattle.rows.specs.Table.{rowsIn};
 ghost use Rattle.octets.specs.Write.{Wrote};
 ghost use Rattle.item_words.specs.Words.{itemOf};
@@ -12,7 +13,7 @@ ghost use Rattle.entry_words.specs.EntryWords.{entryBy};
 ghost use Rattle.put_diagnostics.specs.Put.{listedBy};
 ghost use Rattle.plan.specs.Plan.{sizeOf, sizeGiven, sizesOf, elementsTo};
 ghost use Rattle.meaning.specs.Value as value;
-ghost use Rattle.meaning.specs.Written.{counted, under3, entryGood, entriesGood, elementOctets, encoded};
+ghost use Rattle.meaning.specs.Written.{counted, under, entryGood, entriesGood, elementOctets, encoded};
 ghost use Rattle.plan.specs.Written.{writtenIn, Writes};
 ghost use Rattle.editions.specs.Editions.{tableOf};
 ghost use Rattle.replies.specs.Replies.{replied, replyOctets};
@@ -76,10 +77,11 @@ fn part_of(p: Parts, kind: Kind) -> Part
         Kind::Mce => mce,
         Kind::Cause => cause,
         Kind::Acknowledged => list,
-        Kind::Diagnostics => diagnostics,
+        Kind::Diagnostics(_) => diagnostics,
         Kind::Carried => Part::Absent,
         Kind::Tmgi => Part::Absent,
-        Kind::Session => Part::Absent,
+        Kind::OneOctet => Part::Absent,
+        Kind::TwoOctets => Part::Absent,
         Kind::Wait => Part::Absent,
         Kind::Name => Part::Absent,
         Kind::ResetType => Part::Absent,
@@ -260,7 +262,7 @@ fn list_size(kept: &[u64]) -> usize
 
 // A triggering message or a criticality, if it is there, is one of three.
 fn is_under_3(n: Number) -> bool
-    ensures { λ r. ⌜ r ≡ under3 n ⌝ }
+    ensures { λ r. ⌜ r ≡ under 3 n ⌝ }
 {
     match n {
         Number::Is(v) => v < 3,
@@ -307,7 +309,7 @@ fn is_list_good(listed: bool, noted: &[u64]) -> bool
 
 // Where no list is there, the entries are not counted.
 fn diagnostics_size(h: Head, noted: &[u64]) -> usize
-    ensures { λ r. ⌜ r ≡ sizeOf (value.diagnostics (listedBy h (now (noted .entry)))) ⌝ }
+    ensures { λ r. ⌜ r ≡ sizeOf (value.diagnostics Three (listedBy h (now (noted .entry)))) ⌝ }
 {
     let trigger = h.trigger;
     let crit = h.crit;

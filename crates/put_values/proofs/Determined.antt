@@ -6,8 +6,8 @@ use Rattle.put_values.proofs.put_mme.Kinds as put-mme'
 use Rattle.put_values.proofs.put_mme.Reads as put-mme
 use Rattle.put_values.proofs.put_mce.Kinds as put-mce'
 use Rattle.put_values.proofs.put_mce.Reads as put-mce
-use Rattle.put_values.proofs.put_session.Kinds as put-session'
-use Rattle.put_values.proofs.put_session.Reads as put-session
+use Rattle.put_values.proofs.put_one.Kinds as put-one'
+use Rattle.put_values.proofs.put_one.Reads as put-one
 use Rattle.put_values.proofs.put_tmgi.Kinds as put-tmgi'
 use Rattle.put_values.proofs.put_tmgi.Reads as put-tmgi
 use Rattle.put_values.proofs.put_cause.Kinds as put-cause'
@@ -21,8 +21,8 @@ put-mme-is κs a p x y e f = (e .next same f .next) & (e .octets same f .octets)
 pub put-mce-is : Determined put-mce'.ps put-mce'.r put-mce.Asked put-mce.Learnt
 put-mce-is κs a p x y e f = (e .next same f .next) & (e .octets same f .octets) & refl
 
-pub put-session-is : Determined put-session'.ps put-session'.r put-session.Asked put-session.Learnt
-put-session-is κs a p x y e f = (e .next same f .next) & (e .octets same f .octets) & refl
+pub put-one-is : Determined put-one'.ps put-one'.r put-one.Asked put-one.Learnt
+put-one-is κs a p x y e f = (e .next same f .next) & (e .octets same f .octets) & refl
 
 pub put-tmgi-is : Determined put-tmgi'.ps put-tmgi'.r put-tmgi.Asked put-tmgi.Learnt
 put-tmgi-is κs a p x y e f = (e .next same f .next) & (e .octets same f .octets) & refl

@@ -3,7 +3,7 @@ ghost use mathlib.Core.Path.{_≡_};
 ghost use Prim.Native.Nat.{_<_};
 ghost use Rattle.octets.specs.Write.{Wrote};
 ghost use Rattle.values.specs.Values.{rootOf};
-ghost use Rattle.values.specs.Written.{mmeOctets, mceOctets, sessionOctets, tmgiOctets, causeOctet, causeOctets, waitOctets};
+ghost use Rattle.values.specs.Written.{mmeOctets, mceOctets, oneOctets, tmgiOctets, causeOctet, causeOctets, waitOctets};
 use identity::MceId;
 use identity::MmeId;
 use identity::Tmgi;
@@ -27,8 +27,8 @@ pub fn put_mce(room: &mut [u8], at: usize, v: MceId) -> usize
     octets::put_two(room, at, v.0)
 }
 
-pub fn put_session(room: &mut [u8], at: usize, v: u8) -> usize
-    ensures { λ r. ⌜ Wrote (now (room .entry)) at (sessionOctets v) (now (room .exit)) r ⌝ }
+pub fn put_one(room: &mut [u8], at: usize, v: u8) -> usize
+    ensures { λ r. ⌜ Wrote (now (room .entry)) at (oneOctets v) (now (room .exit)) r ⌝ }
 {
     octets::put_octet(room, at, v)
 }

@@ -17,7 +17,7 @@ use Rattle.octets.specs.Span.{present}
 use Rattle.octets.proofs.Chain.{then-got}
 use Rattle.octets.proofs.Got.{number-got}
 use Rattle.identity.specs.declared.Item.{Item}
-use Rattle.values.specs.Values.{mmeAt, mceAt, tmgiAt, sessionAt, causeAt, waitAt}
+use Rattle.values.specs.Values.{mmeAt, mceAt, tmgiAt, oneAt, twoAt, causeAt, waitAt}
 use Rattle.names.specs.Names.{nameAt}
 use Rattle.items.specs.Items.{ResetType, whole, part, itemsAt, resetAt}
 use Rattle.entries.specs.declared.Entry.{Entry}
@@ -27,7 +27,9 @@ use Rattle.diagnostics.specs.Diagnostics.{Diagnostics, diagnosticsAt}
 use Rattle.rows.specs.declared.Kind.{Kind}
 use Rattle.rows.proofs.Kind as kinds
 use Rattle.rows.specs.declared.Kind.the-variants as kind
-use Rattle.meaning.specs.Value.{Value, Given, given, absent, carried, mme, mce, tmgi, session, cause, wait, name, reset, list, diagnostics}
+use Rattle.rows.specs.declared.Triggers.{Triggers}
+use Rattle.rows.specs.Table.{meanings}
+use Rattle.meaning.specs.Value.{Value, Given, given, absent, carried, mme, mce, tmgi, one, two, cause, wait, name, reset, list, diagnostics}
 use Rattle.meaning.specs.Reading.{orAbsent, readAs, valueIn}
 use Rattle.layout.specs.Record.{Lists, listsOf}
 use Rattle.reader.specs.declared.Begins.the-variants.{At, Nowhere}
@@ -68,31 +70,32 @@ module _ (s : List ℕ) (v : Span) where
   unfolding valueIn readAs listsOf _>>=_
   list-items is p q = (is, q, λ vs. rw (p, q))
 
-  pub no-items : (k : Kind) → OneOf (0 ∷ 1 ∷ 2 ∷ 3 ∷ 4 ∷ 5 ∷ 6 ∷ 7 ∷ 10 ∷ []) (tagOf kinds.the-type k) → ItemsBegin (valueIn k s v) (take (v .to) s) Nowhere
+  pub no-items : (k : Kind) → OneOf (0 ∷ 1 ∷ 2 ∷ 3 ∷ 4 ∷ 5 ∷ 6 ∷ 7 ∷ 8 ∷ 11 ∷ []) (tagOf kinds.the-type k) → ItemsBegin (valueIn k s v) (take (v .to) s) Nowhere
   unfolding valueIn readAs listsOf _>>=_
   no-items k o vs = by k o
     where
-      by : (k : Kind) → OneOf (0 ∷ 1 ∷ 2 ∷ 3 ∷ 4 ∷ 5 ∷ 6 ∷ 7 ∷ 10 ∷ []) (tagOf kinds.the-type k) → listsOf (valueIn k s v ∷ vs) .items ≡ listsOf vs .items
+      by : (k : Kind) → OneOf (0 ∷ 1 ∷ 2 ∷ 3 ∷ 4 ∷ 5 ∷ 6 ∷ 7 ∷ 8 ∷ 11 ∷ []) (tagOf kinds.the-type k) → listsOf (valueIn k s v ∷ vs) .items ≡ listsOf vs .items
       by kind.Carried o = on-value (λ g. listsOf (g ∷ vs) .items ≡ listsOf vs .items) (present v) (got v) carried refl (λ a. refl)
       by kind.Mme o = on-value (λ g. listsOf (g ∷ vs) .items ≡ listsOf vs .items) (present v) (mmeAt (take (v .to) s) (v .from)) mme refl (λ a. refl)
       by kind.Mce o = on-value (λ g. listsOf (g ∷ vs) .items ≡ listsOf vs .items) (present v) (mceAt (take (v .to) s) (v .from)) mce refl (λ a. refl)
       by kind.Tmgi o = on-value (λ g. listsOf (g ∷ vs) .items ≡ listsOf vs .items) (present v) (tmgiAt (take (v .to) s) (v .from)) tmgi refl (λ a. refl)
-      by kind.Session o = on-value (λ g. listsOf (g ∷ vs) .items ≡ listsOf vs .items) (present v) (sessionAt (take (v .to) s) (v .from)) session refl (λ a. refl)
+      by kind.OneOctet o = on-value (λ g. listsOf (g ∷ vs) .items ≡ listsOf vs .items) (present v) (oneAt (take (v .to) s) (v .from)) one refl (λ a. refl)
+      by kind.TwoOctets o = on-value (λ g. listsOf (g ∷ vs) .items ≡ listsOf vs .items) (present v) (twoAt (take (v .to) s) (v .from)) two refl (λ a. refl)
       by kind.Cause o = on-value (λ g. listsOf (g ∷ vs) .items ≡ listsOf vs .items) (present v) (causeAt (take (v .to) s) (v .from)) cause refl (λ a. refl)
       by kind.Wait o = on-value (λ g. listsOf (g ∷ vs) .items ≡ listsOf vs .items) (present v) (waitAt (take (v .to) s) (v .from)) wait refl (λ a. refl)
       by kind.Name o = on-value (λ g. listsOf (g ∷ vs) .items ≡ listsOf vs .items) (present v) (nameAt (take (v .to) s) (v .from)) name refl (λ a. refl)
-      by kind.ResetType o = absurd (miss (0 ∷ 1 ∷ 2 ∷ 3 ∷ 4 ∷ 5 ∷ 6 ∷ 7 ∷ 10 ∷ []) 8 tt o)
-      by kind.Acknowledged o = absurd (miss (0 ∷ 1 ∷ 2 ∷ 3 ∷ 4 ∷ 5 ∷ 6 ∷ 7 ∷ 10 ∷ []) 9 tt o)
-      by kind.Diagnostics o = on-value (λ g. listsOf (g ∷ vs) .items ≡ listsOf vs .items) (present v) (diagnosticsAt (take (v .to) s) (v .from)) diagnostics refl (λ a. refl)
+      by kind.ResetType o = absurd (miss (0 ∷ 1 ∷ 2 ∷ 3 ∷ 4 ∷ 5 ∷ 6 ∷ 7 ∷ 8 ∷ 11 ∷ []) 9 tt o)
+      by kind.Acknowledged o = absurd (miss (0 ∷ 1 ∷ 2 ∷ 3 ∷ 4 ∷ 5 ∷ 6 ∷ 7 ∷ 8 ∷ 11 ∷ []) 10 tt o)
+      by (kind.Diagnostics t) o = on-value (λ g. listsOf (g ∷ vs) .items ≡ listsOf vs .items) (present v) (diagnosticsAt (meanings t) (take (v .to) s) (v .from)) (diagnostics t) refl (λ a. refl)
 
   -- ---- entries
 
-  pub diagnostics-entries : (x : _) → present v ≡ true → EntriesBegin (givenBy diagnostics (diagnosticsAt (take (v .to) s) (v .from))) (take (v .to) s) x
-      → EntriesBegin (valueIn kind.Diagnostics s v) (take (v .to) s) x
+  pub diagnostics-entries : (t : Triggers) (x : _) → present v ≡ true → EntriesBegin (givenBy (diagnostics t) (diagnosticsAt (meanings t) (take (v .to) s) (v .from))) (take (v .to) s) x
+      → EntriesBegin (valueIn (kind.Diagnostics t) s v) (take (v .to) s) x
   unfolding valueIn readAs
-  diagnostics-entries x p b = rw p b
+  diagnostics-entries t x p b = rw p b
 
-  pub no-entries : (k : Kind) → OneOf (0 ∷ 1 ∷ 2 ∷ 3 ∷ 4 ∷ 5 ∷ 6 ∷ 7 ∷ 8 ∷ 9 ∷ []) (tagOf kinds.the-type k) → EntriesBegin (valueIn k s v) (take (v .to) s) Nowhere
+  pub no-entries : (k : Kind) → OneOf (0 ∷ 1 ∷ 2 ∷ 3 ∷ 4 ∷ 5 ∷ 6 ∷ 7 ∷ 8 ∷ 9 ∷ 10 ∷ []) (tagOf kinds.the-type k) → EntriesBegin (valueIn k s v) (take (v .to) s) Nowhere
   unfolding valueIn readAs listsOf _>>=_
   no-entries k o vs = by k o
     where
@@ -100,26 +103,27 @@ module _ (s : List ℕ) (v : Span) where
       resetting whole = refl
       resetting (part is) = refl
 
-      by : (k : Kind) → OneOf (0 ∷ 1 ∷ 2 ∷ 3 ∷ 4 ∷ 5 ∷ 6 ∷ 7 ∷ 8 ∷ 9 ∷ []) (tagOf kinds.the-type k) → listsOf (valueIn k s v ∷ vs) .entries ≡ listsOf vs .entries
+      by : (k : Kind) → OneOf (0 ∷ 1 ∷ 2 ∷ 3 ∷ 4 ∷ 5 ∷ 6 ∷ 7 ∷ 8 ∷ 9 ∷ 10 ∷ []) (tagOf kinds.the-type k) → listsOf (valueIn k s v ∷ vs) .entries ≡ listsOf vs .entries
       by kind.Carried o = on-value (λ g. listsOf (g ∷ vs) .entries ≡ listsOf vs .entries) (present v) (got v) carried refl (λ a. refl)
       by kind.Mme o = on-value (λ g. listsOf (g ∷ vs) .entries ≡ listsOf vs .entries) (present v) (mmeAt (take (v .to) s) (v .from)) mme refl (λ a. refl)
       by kind.Mce o = on-value (λ g. listsOf (g ∷ vs) .entries ≡ listsOf vs .entries) (present v) (mceAt (take (v .to) s) (v .from)) mce refl (λ a. refl)
       by kind.Tmgi o = on-value (λ g. listsOf (g ∷ vs) .entries ≡ listsOf vs .entries) (present v) (tmgiAt (take (v .to) s) (v .from)) tmgi refl (λ a. refl)
-      by kind.Session o = on-value (λ g. listsOf (g ∷ vs) .entries ≡ listsOf vs .entries) (present v) (sessionAt (take (v .to) s) (v .from)) session refl (λ a. refl)
+      by kind.OneOctet o = on-value (λ g. listsOf (g ∷ vs) .entries ≡ listsOf vs .entries) (present v) (oneAt (take (v .to) s) (v .from)) one refl (λ a. refl)
+      by kind.TwoOctets o = on-value (λ g. listsOf (g ∷ vs) .entries ≡ listsOf vs .entries) (present v) (twoAt (take (v .to) s) (v .from)) two refl (λ a. refl)
       by kind.Cause o = on-value (λ g. listsOf (g ∷ vs) .entries ≡ listsOf vs .entries) (present v) (causeAt (take (v .to) s) (v .from)) cause refl (λ a. refl)
       by kind.Wait o = on-value (λ g. listsOf (g ∷ vs) .entries ≡ listsOf vs .entries) (present v) (waitAt (take (v .to) s) (v .from)) wait refl (λ a. refl)
       by kind.Name o = on-value (λ g. listsOf (g ∷ vs) .entries ≡ listsOf vs .entries) (present v) (nameAt (take (v .to) s) (v .from)) name refl (λ a. refl)
       by kind.ResetType o = on-value (λ g. listsOf (g ∷ vs) .entries ≡ listsOf vs .entries) (present v) (resetAt (take (v .to) s) (v .from)) reset refl resetting
       by kind.Acknowledged o = on-value (λ g. listsOf (g ∷ vs) .entries ≡ listsOf vs .entries) (present v) (itemsAt (take (v .to) s) (v .from)) list refl (λ a. refl)
-      by kind.Diagnostics o = absurd (miss (0 ∷ 1 ∷ 2 ∷ 3 ∷ 4 ∷ 5 ∷ 6 ∷ 7 ∷ 8 ∷ 9 ∷ []) 10 tt o)
+      by (kind.Diagnostics t) o = absurd (miss (0 ∷ 1 ∷ 2 ∷ 3 ∷ 4 ∷ 5 ∷ 6 ∷ 7 ∷ 8 ∷ 9 ∷ 10 ∷ []) 11 tt o)
 
 -- Criticality Diagnostics, by their fields
-module _ (s : List ℕ) (from : ℕ) {h : Head} {es : List Entry} (n : ℕ) (d : diagnosticsAt s from ≡ got (record { head = h; entries = es })) (q : got es ≡ maybeListAt (h .listed) s n) where
-  pub listed-entries : h .listed ≡ true → EntriesBegin (givenBy diagnostics (diagnosticsAt s from)) s (At n)
+module _ (t : Triggers) (s : List ℕ) (from : ℕ) {h : Head} {es : List Entry} (n : ℕ) (d : diagnosticsAt (meanings t) s from ≡ got (record { head = h; entries = es })) (q : got es ≡ maybeListAt (h .listed) s n) where
+  pub listed-entries : h .listed ≡ true → EntriesBegin (givenBy (diagnostics t) (diagnosticsAt (meanings t) s from)) s (At n)
   unfolding listsOf _>>=_
   listed-entries e = (es, rw e at (sym q), λ vs. rw (d, e))
 
-  pub unlisted-entries : h .listed ≡ false → EntriesBegin (givenBy diagnostics (diagnosticsAt s from)) s Nowhere
+  pub unlisted-entries : h .listed ≡ false → EntriesBegin (givenBy (diagnostics t) (diagnosticsAt (meanings t) s from)) s Nowhere
   unfolding listsOf _>>=_
   unlisted-entries e vs = rw (d, e)
 

@@ -17,9 +17,9 @@ use Rattle.octets.specs.declared.Span.{Span}
 use Rattle.octets.specs.Span.{noSpan, present}
 use Rattle.octets.proofs.Stood.{octets-front}
 use Rattle.identity.specs.declared.Item.{Item}
-use Rattle.values.specs.Values.{mmeAt, mceAt, tmgiAt, sessionAt, causeAt, waitAt}
+use Rattle.values.specs.Values.{mmeAt, mceAt, tmgiAt, oneAt, twoAt, causeAt, waitAt}
 use Rattle.names.specs.Names.{nameAt}
-use Rattle.values.proofs.Good.{mme-good, mce-good}
+use Rattle.values.proofs.Good.{mme-good, mce-good, two-good}
 use Rattle.names.proofs.Good.{name-in}
 use Rattle.items.specs.Items.{ResetType, whole, part, itemsAt, resetAt}
 use Rattle.items.specs.Written.{GoodItems, GoodReset}
@@ -31,8 +31,8 @@ use Rattle.diagnostics.proofs.Again.{diagnostics-again}
 use Rattle.rows.specs.declared.Kind.{Kind}
 use Rattle.rows.specs.declared.Kind.the-variants as kind
 use Rattle.rows.specs.declared.Row.{Row}
-use Rattle.rows.specs.Table.{noRow}
-use Rattle.meaning.specs.Value.{Value, Given, given, absent, carried, mme, mce, tmgi, session, cause, wait, name, reset, list, diagnostics}
+use Rattle.rows.specs.Table.{noRow, meanings}
+use Rattle.meaning.specs.Value.{Value, Given, given, absent, carried, mme, mce, tmgi, one, two, cause, wait, name, reset, list, diagnostics}
 use Rattle.meaning.specs.Ranges.{valueKind}
 use Rattle.meaning.specs.Reading.{orAbsent, readAs, valueIn, valuesIn}
 use Rattle.layout.specs.Held.{PlaceFits, ItemsFit, EntriesFit, DiagnosticsFit, Fits, RowFits, RowsFit}
@@ -56,8 +56,8 @@ no-entries : (es : List Entry) → ltb 0 (length es) ≡ false → es ≡ []
 no-entries [] e = refl
 no-entries (x ∷ es) e = absurd (omega (arith, ltb-false 0 (length (x ∷ es)) e))
 
-diagnostics-fit : (d : Diagnostics) → Good d → DiagnosticsFit d
-diagnostics-fit d g = record { entries = record { few = g .count; each = ids (d .entries) (g .entries) }; none = λ e. no-entries (d .entries) (sym (g .listed) ∙ e) }
+diagnostics-fit : (n : ℕ) (d : Diagnostics) → Good n d → DiagnosticsFit d
+diagnostics-fit n d g = record { entries = record { few = g .count; each = ids (d .entries) (g .entries) }; none = λ e. no-entries (d .entries) (sym (g .listed) ∙ e) }
 
 -- a value of a kind that fits, if one is given
 FitsAs : Kind → Given Span → Type 0
@@ -79,7 +79,8 @@ module _ (s : List ℕ) (o : Octets s) (b : length s ≤ 8192) (v : Span) where
   read-fits kind.Mme h z = by-reading kind.Mme mme (mmeAt (take (v .to) s) (v .from)) (λ a q. (refl, mme-good (take (v .to) s) (v .from) octets q))
   read-fits kind.Mce h z = by-reading kind.Mce mce (mceAt (take (v .to) s) (v .from)) (λ a q. (refl, mce-good (take (v .to) s) (v .from) octets q))
   read-fits kind.Tmgi h z = by-reading kind.Tmgi tmgi (tmgiAt (take (v .to) s) (v .from)) (λ a q. (refl, tt))
-  read-fits kind.Session h z = by-reading kind.Session session (sessionAt (take (v .to) s) (v .from)) (λ a q. (refl, tt))
+  read-fits kind.OneOctet h z = by-reading kind.OneOctet one (oneAt (take (v .to) s) (v .from)) (λ a q. (refl, tt))
+  read-fits kind.TwoOctets h z = by-reading kind.TwoOctets two (twoAt (take (v .to) s) (v .from)) (λ a q. (refl, two-good (take (v .to) s) (v .from) octets q))
   read-fits kind.Cause h z = by-reading kind.Cause cause (causeAt (take (v .to) s) (v .from)) (λ a q. (refl, tt))
   read-fits kind.Wait h z = by-reading kind.Wait wait (waitAt (take (v .to) s) (v .from)) (λ a q. (refl, tt))
   read-fits kind.Name h z =
@@ -87,9 +88,9 @@ module _ (s : List ℕ) (o : Octets s) (b : length s ≤ 8192) (v : Span) where
       (λ a q. let i = name-in (take (v .to) s) (v .from) q in (refl, place-fits a (i .1) (omega (arith, i .2, length-take-le (v .to) s z))))
   read-fits kind.ResetType h z = by-reading kind.ResetType reset (resetAt (take (v .to) s) (v .from)) (λ a q. (refl, reset-fits a (reset-good (take (v .to) s) (v .from) octets q)))
   read-fits kind.Acknowledged h z = by-reading kind.Acknowledged list (itemsAt (take (v .to) s) (v .from)) (λ a q. (refl, items-fit (items-good (take (v .to) s) (v .from) octets q)))
-  read-fits kind.Diagnostics h z =
-      by-reading kind.Diagnostics diagnostics (diagnosticsAt (take (v .to) s) (v .from))
-      (λ a q. (refl, diagnostics-fit a (diagnostics-again (take (v .to) s) octets (v .from) a q .2)))
+  read-fits (kind.Diagnostics t) h z =
+      by-reading (kind.Diagnostics t) (diagnostics t) (diagnosticsAt (meanings t) (take (v .to) s) (v .from))
+      (λ a q. (refl, diagnostics-fit (meanings t) a (diagnostics-again (take (v .to) s) octets (meanings t) (v .from) a q .2)))
 
   value-fits : (k : Kind) → IfPresent k s v → FitsAs k (valueIn k s v)
   unfolding valueIn FitsAs

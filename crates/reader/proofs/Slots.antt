@@ -83,18 +83,18 @@ module _ (s : List ℕ) (at : ℕ) where
       let f = got-then (flagAt s at 1) _ (p .2) in
       got-stop (f .1 ∙ sym q)
 
-  pub head-is : (h : Head) (n : ℕ) → got (record { value = h; next = n }) ≡ headAt s at → Got (diagnosticsAt s at)
-      → (es : List Entry) × (got es ≡ maybeListAt (h .listed) s n) × (diagnosticsAt s at ≡ got (record { head = h; entries = es }))
+  pub head-is : (m : ℕ) (h : Head) (n : ℕ) → got (record { value = h; next = n }) ≡ headAt m s at → Got (diagnosticsAt m s at)
+      → (es : List Entry) × (got es ≡ maybeListAt (h .listed) s n) × (diagnosticsAt m s at ≡ got (record { head = h; entries = es }))
   unfolding diagnosticsAt
-  head-is h n q g =
-      let p = got-then (headAt s at) _ g in
+  head-is m h n q g =
+      let p = got-then (headAt m s at) _ g in
       let e : p .0 ≡ record { value = h; next = n } = same-got (p .1 ∙ sym q) in
       let x = got-then (maybeListAt (h .listed) s n) (λ es. got (record { head = h; entries = es })) (rw e at (p .2)) in
       (x .0, x .1, sym (past _ (record { value = h; next = n }) q (past _ _ (x .1) refl)))
 
-  pub head-none : {B : Type 0} {x : Stop} → stop x ≡ headAt s at → Got (diagnosticsAt s at) → B
+  pub head-none : {B : Type 0} {x : Stop} (m : ℕ) → stop x ≡ headAt m s at → Got (diagnosticsAt m s at) → B
   unfolding diagnosticsAt
-  head-none q g = let p = got-then (headAt s at) _ g in got-stop (p .1 ∙ sym q)
+  head-none m q g = let p = got-then (headAt m s at) _ g in got-stop (p .1 ∙ sym q)
 
 -- ---- behind a reading
 

@@ -7,13 +7,13 @@ ghost use lib.ListN.{length, take};
 ghost use Rattle.lists.specs.Lists.{fill};
 ghost use Rattle.octets.specs.Many.{eachOctets};
 ghost use Rattle.octets.specs.Write.{numberOctets, Wrote};
-ghost use Rattle.values.specs.Values.{mmeAt, mceAt, tmgiAt, sessionAt, causeAt, waitAt};
+ghost use Rattle.values.specs.Values.{mmeAt, mceAt, tmgiAt, oneAt, twoAt, causeAt, waitAt};
 ghost use Rattle.names.specs.Names.{nameAt};
 ghost use Rattle.items.specs.Items.{itemsAt, resetAt};
 ghost use Rattle.diagnostics.specs.Diagnostics.{diagnosticsAt};
 ghost use Rattle.places.specs.Places.{spansIn};
-ghost use Rattle.rows.specs.Table.{rowsIn};
-ghost use Rattle.meaning.specs.Value.{given, absent, mme, mce, tmgi, session, cause, wait, name, reset, diagnostics};
+ghost use Rattle.rows.specs.Table.{rowsIn, meanings};
+ghost use Rattle.meaning.specs.Value.{given, absent, mme, mce, tmgi, one, two, cause, wait, name, reset, diagnostics};
 ghost use Rattle.meaning.specs.Reading.{readAs, orAbsent, valueIn, valuesIn};
 ghost use Rattle.editions.specs.Editions.{tableOf};
 ghost use Rattle.verdicts.specs.Verdict.{openedAt, verdictOf, every, readOf};
@@ -36,11 +36,13 @@ use octets::Gate;
 use octets::Span;
 use rows::Kind;
 use rows::Rows;
+use rows::Triggers;
 use values::CauseRead;
 use values::MceRead;
 use values::MmeRead;
-use values::SessionRead;
+use values::OneRead;
 use values::TmgiRead;
+use values::TwoRead;
 use values::WaitRead;
 use verdicts::Outcome;
 use verdicts::Refusal;
@@ -82,6 +84,7 @@ fn put_eight(
     at + 8
 }
 
+// An identity, or another number of two octets.
 fn put_identity(room: &mut [u8], at: usize, v: u16) -> usize
     requires { ⌜ at + 8 ≤ length (now room) ⌝ }
     ensures { λ r. ⌜ Wrote (now (room .entry)) at (fill 0 8 (1 ∷ numberOctets 2 v)) (now (room .exit)) r ⌝ }
@@ -207,13 +210,23 @@ fn tmgi_slot(room: &mut [u8], at: usize, s: &[u8], from: usize) -> usize
     }
 }
 
-fn session_slot(room: &mut [u8], at: usize, s: &[u8], from: usize) -> usize
+fn one_slot(room: &mut [u8], at: usize, s: &[u8], from: usize) -> usize
     requires { ⌜ at + 8 ≤ length (now room) ⌝ }
-    ensures { λ r. ⌜ Wrote (now (room .entry)) at (slotBy session (sessionAt (now (s .entry)) from)) (now (room .exit)) r ⌝ }
+    ensures { λ r. ⌜ Wrote (now (room .entry)) at (slotBy one (oneAt (now (s .entry)) from)) (now (room .exit)) r ⌝ }
 {
-    match values::session_at(s, from) {
-        SessionRead::Is(v) => put_eight(room, at, 1, v, 0, 0, 0, 0, 0, 0),
-        SessionRead::Stop(_) => put_absent(room, at),
+    match values::one_at(s, from) {
+        OneRead::Is(v) => put_eight(room, at, 1, v, 0, 0, 0, 0, 0, 0),
+        OneRead::Stop(_) => put_absent(room, at),
+    }
+}
+
+fn two_slot(room: &mut [u8], at: usize, s: &[u8], from: usize) -> usize
+    requires { ⌜ at + 8 ≤ length (now room) ⌝ }
+    ensures { λ r. ⌜ Wrote (now (room .entry)) at (slotBy two (twoAt (now (s .entry)) from)) (now (room .exit)) r ⌝ }
+{
+    match values::two_at(s, from) {
+        TwoRead::Is(v) => put_identity(room, at, v),
+        TwoRead::Stop(_) => put_absent(room, at),
     }
 }
 
@@ -270,12 +283,12 @@ fn reset_slot(room: &mut [u8], at: usize, s: &[u8], from: usize) -> usize
     }
 }
 
-fn diagnostics_slot(room: &mut [u8], at: usize, s: &[u8], from: usize) -> usize
+fn diagnostics_slot(room: &mut [u8], at: usize, t: Triggers, s: &[u8], from: usize) -> usize
     requires room { ⌜ at + 8 ≤ length (now room) ⌝ }
-    requires value { ⌜ Got (diagnosticsAt (now s) from) ⌝ }
-    ensures { λ r. ⌜ Wrote (now (room .entry)) at (slotBy diagnostics (diagnosticsAt (now (s .entry)) from)) (now (room .exit)) r ⌝ }
+    requires value { ⌜ Got (diagnosticsAt (meanings t) (now s) from) ⌝ }
+    ensures { λ r. ⌜ Wrote (now (room .entry)) at (slotBy (diagnostics t) (diagnosticsAt (meanings t) (now (s .entry)) from)) (now (room .exit)) r ⌝ }
 {
-    match diagnostics::head_at(s, from) {
+    match diagnostics::head_at(rows::meanings(t), s, from) {
         HeadRead::Is(h, _) => put_head(room, at, h),
         HeadRead::Stop(_) => put_absent(room, at),
     }
@@ -295,13 +308,14 @@ fn put_value(room: &mut [u8], at: usize, kind: Kind, s: &[u8], v: Span) -> usize
         Kind::Mme => mme_slot(room, at, &s[..to], from),
         Kind::Mce => mce_slot(room, at, &s[..to], from),
         Kind::Tmgi => tmgi_slot(room, at, &s[..to], from),
-        Kind::Session => session_slot(room, at, &s[..to], from),
+        Kind::OneOctet => one_slot(room, at, &s[..to], from),
+        Kind::TwoOctets => two_slot(room, at, &s[..to], from),
         Kind::Cause => cause_slot(room, at, &s[..to], from),
         Kind::Wait => wait_slot(room, at, &s[..to], from),
         Kind::Name => name_slot(room, at, &s[..to], from),
         Kind::ResetType => reset_slot(room, at, &s[..to], from),
         Kind::Acknowledged => put_first(room, at, 1),
-        Kind::Diagnostics => diagnostics_slot(room, at, &s[..to], from),
+        Kind::Diagnostics(t) => diagnostics_slot(room, at, t, &s[..to], from),
     }
 }
 
@@ -389,11 +403,11 @@ fn put_items(room: &mut [u8], at: usize, t: Rows, s: &[u8], places: &[usize; 24]
 }
 
 // Behind the fields of Criticality Diagnostics that have a list.
-fn list_from(s: &[u8], from: usize) -> Begins
-    requires { ⌜ Got (diagnosticsAt (now s) from) ⌝ }
-    ensures { λ r. ⌜ EntriesBegin (givenBy diagnostics (diagnosticsAt (now (s .entry)) from)) (now (s .entry)) r ⌝ }
+fn list_from(t: Triggers, s: &[u8], from: usize) -> Begins
+    requires { ⌜ Got (diagnosticsAt (meanings t) (now s) from) ⌝ }
+    ensures { λ r. ⌜ EntriesBegin (givenBy (diagnostics t) (diagnosticsAt (meanings t) (now (s .entry)) from)) (now (s .entry)) r ⌝ }
 {
-    match diagnostics::head_at(s, from) {
+    match diagnostics::head_at(rows::meanings(t), s, from) {
         HeadRead::Is(h, next) => {
             if h.listed {
                 return Begins::At(next);
@@ -415,7 +429,7 @@ fn entries_from(kind: Kind, s: &[u8], v: Span) -> Begins
         return Begins::Nowhere;
     }
     match kind {
-        Kind::Diagnostics => list_from(&s[..to], from),
+        Kind::Diagnostics(t) => list_from(t, &s[..to], from),
         _ => Begins::Nowhere,
     }
 }

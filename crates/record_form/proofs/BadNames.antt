@@ -52,18 +52,19 @@ module _ (values s : List ℕ) (at : ℕ) where
       rw (first-at s at, ne-eqb (getD s at 0) 0 h, two-at s at 1, two-at s at 3, a, b)
 
 module _ (values p : List ℕ) where
-  pub no-name : (k : Kind) → OneOf (0 ∷ 1 ∷ 2 ∷ 3 ∷ 4 ∷ 5 ∷ 6 ∷ 8 ∷ 9 ∷ 10 ∷ []) (tagOf kinds.the-type k) → false ≡ slotBad values k p
-  no-name kind.Name o = absurd (miss (0 ∷ 1 ∷ 2 ∷ 3 ∷ 4 ∷ 5 ∷ 6 ∷ 8 ∷ 9 ∷ 10 ∷ []) 7 tt o)
+  pub no-name : (k : Kind) → OneOf (0 ∷ 1 ∷ 2 ∷ 3 ∷ 4 ∷ 5 ∷ 6 ∷ 7 ∷ 9 ∷ 10 ∷ 11 ∷ []) (tagOf kinds.the-type k) → false ≡ slotBad values k p
+  no-name kind.Name o = absurd (miss (0 ∷ 1 ∷ 2 ∷ 3 ∷ 4 ∷ 5 ∷ 6 ∷ 7 ∷ 9 ∷ 10 ∷ 11 ∷ []) 8 tt o)
   no-name kind.Carried o = refl
   no-name kind.Mme o = refl
   no-name kind.Mce o = refl
   no-name kind.Tmgi o = refl
-  no-name kind.Session o = refl
+  no-name kind.OneOctet o = refl
+  no-name kind.TwoOctets o = refl
   no-name kind.Cause o = refl
   no-name kind.Wait o = refl
   no-name kind.ResetType o = refl
   no-name kind.Acknowledged o = refl
-  no-name kind.Diagnostics o = refl
+  no-name (kind.Diagnostics t) o = refl
 
 -- ---- the slots, one after another
 
@@ -103,12 +104,13 @@ module _ (values : List ℕ) (l : Lists) where
   slot-bad kind.Mme p = of-other (eqb (getD p 0 0) 0) (slotSays l kind.Mme p) refl
   slot-bad kind.Mce p = of-other (eqb (getD p 0 0) 0) (slotSays l kind.Mce p) refl
   slot-bad kind.Tmgi p = of-other (eqb (getD p 0 0) 0) (slotSays l kind.Tmgi p) refl
-  slot-bad kind.Session p = of-other (eqb (getD p 0 0) 0) (slotSays l kind.Session p) refl
+  slot-bad kind.OneOctet p = of-other (eqb (getD p 0 0) 0) (slotSays l kind.OneOctet p) refl
+  slot-bad kind.TwoOctets p = of-other (eqb (getD p 0 0) 0) (slotSays l kind.TwoOctets p) refl
   slot-bad kind.Cause p = of-other (eqb (getD p 0 0) 0) (slotSays l kind.Cause p) refl
   slot-bad kind.Wait p = of-other (eqb (getD p 0 0) 0) (slotSays l kind.Wait p) refl
   slot-bad kind.ResetType p = of-other (eqb (getD p 0 0) 0) (slotSays l kind.ResetType p) refl
   slot-bad kind.Acknowledged p = of-other (eqb (getD p 0 0) 0) (slotSays l kind.Acknowledged p) refl
-  slot-bad kind.Diagnostics p = of-other (eqb (getD p 0 0) 0) (slotSays l kind.Diagnostics p) refl
+  slot-bad (kind.Diagnostics t) p = of-other (eqb (getD p 0 0) 0) (slotSays l (kind.Diagnostics t) p) refl
 
   slots-bad : (t : List Row) (p : List ℕ) → slotsBad values t p ≡ some badName (map (onGiven (octetsIn values)) (slotsSay l t p))
   unfolding slotsBad slotsSay

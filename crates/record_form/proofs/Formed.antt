@@ -49,7 +49,8 @@ slot-any l kind.Carried p = refl
 slot-any l kind.Mme p = refl
 slot-any l kind.Mce p = refl
 slot-any l kind.Tmgi p = refl
-slot-any l kind.Session p = refl
+slot-any l kind.OneOctet p = refl
+slot-any l kind.TwoOctets p = refl
 slot-any l kind.Cause p = refl
 slot-any l kind.Wait p = refl
 slot-any l kind.Name p = refl
@@ -64,9 +65,9 @@ slot-any l kind.Acknowledged p = by (eqb (getD p 0 0) 0)
     by : (a : Bool) → slotOctets (pick a absent (given (slotSays l kind.Acknowledged p))) ≡ slotOctets (pick a absent (given (slotSays noLists kind.Acknowledged p)))
     by true = refl
     by false = refl
-slot-any l kind.Diagnostics p = by (eqb (getD p 0 0) 0)
+slot-any l (kind.Diagnostics t) p = by (eqb (getD p 0 0) 0)
   where
-    by : (a : Bool) → slotOctets (pick a absent (given (slotSays l kind.Diagnostics p))) ≡ slotOctets (pick a absent (given (slotSays noLists kind.Diagnostics p)))
+    by : (a : Bool) → slotOctets (pick a absent (given (slotSays l (kind.Diagnostics t) p))) ≡ slotOctets (pick a absent (given (slotSays noLists (kind.Diagnostics t) p)))
     by true = refl
     by false = refl
 
@@ -148,7 +149,8 @@ module _ (l : Lists) (p : List ℕ) (vs : List (Given Span)) where
   step-items kind.Mme = ap itemsOf (plain (slotSays l kind.Mme p) refl)
   step-items kind.Mce = ap itemsOf (plain (slotSays l kind.Mce p) refl)
   step-items kind.Tmgi = ap itemsOf (plain (slotSays l kind.Tmgi p) refl)
-  step-items kind.Session = ap itemsOf (plain (slotSays l kind.Session p) refl)
+  step-items kind.OneOctet = ap itemsOf (plain (slotSays l kind.OneOctet p) refl)
+  step-items kind.TwoOctets = ap itemsOf (plain (slotSays l kind.TwoOctets p) refl)
   step-items kind.Cause = ap itemsOf (plain (slotSays l kind.Cause p) refl)
   step-items kind.Wait = ap itemsOf (plain (slotSays l kind.Wait p) refl)
   step-items kind.Name = ap itemsOf (plain (slotSays l kind.Name p) refl)
@@ -167,9 +169,9 @@ module _ (l : Lists) (p : List ℕ) (vs : List (Given Span)) where
       by : (a : Bool) → pick a (listsOf vs) (announced {C = Span} (list (l .items)) (listsOf vs)) .items ≡ pick (not a) (l .items) (listsOf vs .items)
       by true = refl
       by false = refl
-  step-items kind.Diagnostics = ap itemsOf (one (eqb (getD p 0 0) 0) (slotSays l kind.Diagnostics p)) ∙ by (eqb (getD p 0 0) 0)
+  step-items (kind.Diagnostics t) = ap itemsOf (one (eqb (getD p 0 0) 0) (slotSays l (kind.Diagnostics t) p)) ∙ by (eqb (getD p 0 0) 0)
     where
-      by : (a : Bool) → pick a (listsOf vs) (announced (slotSays l kind.Diagnostics p) (listsOf vs)) .items ≡ listsOf vs .items
+      by : (a : Bool) → pick a (listsOf vs) (announced (slotSays l (kind.Diagnostics t) p) (listsOf vs)) .items ≡ listsOf vs .items
       by true = refl
       by false = refl
 
@@ -179,7 +181,8 @@ module _ (l : Lists) (p : List ℕ) (vs : List (Given Span)) where
   step-entries kind.Mme = ap entriesOf (plain (slotSays l kind.Mme p) refl)
   step-entries kind.Mce = ap entriesOf (plain (slotSays l kind.Mce p) refl)
   step-entries kind.Tmgi = ap entriesOf (plain (slotSays l kind.Tmgi p) refl)
-  step-entries kind.Session = ap entriesOf (plain (slotSays l kind.Session p) refl)
+  step-entries kind.OneOctet = ap entriesOf (plain (slotSays l kind.OneOctet p) refl)
+  step-entries kind.TwoOctets = ap entriesOf (plain (slotSays l kind.TwoOctets p) refl)
   step-entries kind.Cause = ap entriesOf (plain (slotSays l kind.Cause p) refl)
   step-entries kind.Wait = ap entriesOf (plain (slotSays l kind.Wait p) refl)
   step-entries kind.Name = ap entriesOf (plain (slotSays l kind.Name p) refl)
@@ -196,7 +199,7 @@ module _ (l : Lists) (p : List ℕ) (vs : List (Given Span)) where
       by : (a : Bool) → pick a (listsOf vs) (announced {C = Span} (list (l .items)) (listsOf vs)) .entries ≡ listsOf vs .entries
       by true = refl
       by false = refl
-  step-entries kind.Diagnostics = ap entriesOf (one (eqb (getD p 0 0) 0) (slotSays l kind.Diagnostics p)) ∙ by (eqb (getD p 0 0) 0) (eqb (getD p 7 0) 0)
+  step-entries (kind.Diagnostics t) = ap entriesOf (one (eqb (getD p 0 0) 0) (slotSays l (kind.Diagnostics t) p)) ∙ by (eqb (getD p 0 0) 0) (eqb (getD p 7 0) 0)
     where
       by : (a b : Bool) → pick a (listsOf vs) (record { items = listsOf vs .items; entries = pick (not b) (pick (not b) (l .entries) []) (listsOf vs .entries) }) .entries
           ≡ pick (pick a false (not b)) (l .entries) (listsOf vs .entries)

@@ -26,13 +26,14 @@ used-small kind.Carried = omega arith
 used-small kind.Mme = omega arith
 used-small kind.Mce = omega arith
 used-small kind.Tmgi = omega arith
-used-small kind.Session = omega arith
+used-small kind.OneOctet = omega arith
+used-small kind.TwoOctets = omega arith
 used-small kind.Cause = omega arith
 used-small kind.Wait = omega arith
 used-small kind.Name = omega arith
 used-small kind.ResetType = omega arith
 used-small kind.Acknowledged = omega arith
-used-small kind.Diagnostics = omega arith
+used-small (kind.Diagnostics t) = omega arith
 
 eqb-self : (a : ℕ) → eqb a a ≡ true
 eqb-self a = eq-eqb a a refl
@@ -104,7 +105,8 @@ module _ (a b c d e f g h : ℕ) (q : List ℕ) (bo : b < 256) (co : c < 256) (d
   parts kind.Mme z = rw (ne-eqb a 0 z, two-same b c bo co) (simp (eqb-self, and-true, eqb-sym 1 a))
   parts kind.Mce z = rw (ne-eqb a 0 z, two-same b c bo co) (simp (eqb-self, and-true, eqb-sym 1 a))
   parts kind.Tmgi z = rw (ne-eqb a 0 z) (simp (eqb-self, and-true, eqb-sym 1 a))
-  parts kind.Session z = rw (ne-eqb a 0 z) (simp (eqb-self, and-true, eqb-sym 1 a))
+  parts kind.OneOctet z = rw (ne-eqb a 0 z) (simp (eqb-self, and-true, eqb-sym 1 a))
+  parts kind.TwoOctets z = rw (ne-eqb a 0 z, two-same b c bo co) (simp (eqb-self, and-true, eqb-sym 1 a))
   parts kind.Cause z = rw (ne-eqb a 0 z) (simp (eqb-self, and-true, eqb-sym 1 a))
   parts kind.Wait z = rw (ne-eqb a 0 z) (simp (eqb-self, and-true, eqb-sym 1 a))
   parts kind.Name z = rw (ne-eqb a 0 z, place, two-same b c bo co, two-same d e dx eo) (simp (eqb-self, and-true, eqb-sym 1 a))
@@ -114,7 +116,7 @@ module _ (a b c d e f g h : ℕ) (q : List ℕ) (bo : b < 256) (co : c < 256) (d
       by true i = rw (ne-eqb a 0 z, i) (simp (and-true, eqb-sym 2 a, i))
       by false i = rw (ne-eqb a 0 z, i) (simp (and-true, eqb-sym 1 a))
   parts kind.Acknowledged z = rw (ne-eqb a 0 z) (simp (and-true, eqb-sym 1 a))
-  parts kind.Diagnostics z =
+  parts (kind.Diagnostics t) z =
       rw (ne-eqb a 0 z, eqb-sym 1 a)
       (ap (eqb a 1 &&_) (head-same b c d e f g h (pick (eqb b 0) number.Absent (number.Is c)) (pick (eqb d 0) number.Absent (number.Is e)) (pick (eqb f 0) number.Absent (number.Is g)) (not (eqb h 0))
       ∙ rw (number-then b c, number-then d e, number-then f g, listed-then h)))

@@ -22,12 +22,13 @@ slotBad values kind.Carried p = false
 slotBad values kind.Mme p = false
 slotBad values kind.Mce p = false
 slotBad values kind.Tmgi p = false
-slotBad values kind.Session p = false
+slotBad values kind.OneOctet p = false
+slotBad values kind.TwoOctets p = false
 slotBad values kind.Cause p = false
 slotBad values kind.Wait p = false
 slotBad values kind.ResetType p = false
 slotBad values kind.Acknowledged p = false
-slotBad values kind.Diagnostics p = false
+slotBad values (kind.Diagnostics t) p = false
 
 -- one of the slots of a table's rows
 unfoldable pub slotsBad : List ℕ → List Row → List ℕ → Bool

@@ -25,13 +25,14 @@ markOf kind.Carried x = 1
 markOf kind.Mme x = 1
 markOf kind.Mce x = 1
 markOf kind.Tmgi x = 1
-markOf kind.Session x = 1
+markOf kind.OneOctet x = 1
+markOf kind.TwoOctets x = 1
 markOf kind.Cause x = 1
 markOf kind.Wait x = 1
 markOf kind.Name x = 1
 markOf kind.ResetType x = pick (eqb x 2) 2 1
 markOf kind.Acknowledged x = 1
-markOf kind.Diagnostics x = 1
+markOf (kind.Diagnostics t) x = 1
 
 -- how many octets of a slot its value uses, with the first
 abbrev pub usedBy : Kind → ℕ
@@ -39,13 +40,14 @@ usedBy kind.Carried = 5
 usedBy kind.Mme = 3
 usedBy kind.Mce = 3
 usedBy kind.Tmgi = 7
-usedBy kind.Session = 2
+usedBy kind.OneOctet = 2
+usedBy kind.TwoOctets = 3
 usedBy kind.Cause = 3
 usedBy kind.Wait = 2
 usedBy kind.Name = 5
 usedBy kind.ResetType = 1
 usedBy kind.Acknowledged = 1
-usedBy kind.Diagnostics = 8
+usedBy (kind.Diagnostics t) = 8
 
 abbrev pub maybeGood : ℕ → ℕ → Bool
 maybeGood there v = pick (eqb there 0) (eqb v 0) (eqb there 1)
@@ -60,13 +62,14 @@ headOf kind.Carried p = true
 headOf kind.Mme p = true
 headOf kind.Mce p = true
 headOf kind.Tmgi p = true
-headOf kind.Session p = true
+headOf kind.OneOctet p = true
+headOf kind.TwoOctets p = true
 headOf kind.Cause p = true
 headOf kind.Wait p = true
 headOf kind.Name p = true
 headOf kind.ResetType p = true
 headOf kind.Acknowledged p = true
-headOf kind.Diagnostics p = headGood p
+headOf (kind.Diagnostics t) p = headGood p
 
 -- what stands behind the first octet of a value that is there
 unfoldable pub restGood : Kind → List ℕ → Bool
@@ -81,26 +84,28 @@ saysItems kind.Carried x = false
 saysItems kind.Mme x = false
 saysItems kind.Mce x = false
 saysItems kind.Tmgi x = false
-saysItems kind.Session x = false
+saysItems kind.OneOctet x = false
+saysItems kind.TwoOctets x = false
 saysItems kind.Cause x = false
 saysItems kind.Wait x = false
 saysItems kind.Name x = false
 saysItems kind.ResetType x = eqb x 2
 saysItems kind.Acknowledged x = not (eqb x 0)
-saysItems kind.Diagnostics x = false
+saysItems (kind.Diagnostics t) x = false
 
 abbrev pub saysEntries : Kind → ℕ → ℕ → Bool
 saysEntries kind.Carried x y = false
 saysEntries kind.Mme x y = false
 saysEntries kind.Mce x y = false
 saysEntries kind.Tmgi x y = false
-saysEntries kind.Session x y = false
+saysEntries kind.OneOctet x y = false
+saysEntries kind.TwoOctets x y = false
 saysEntries kind.Cause x y = false
 saysEntries kind.Wait x y = false
 saysEntries kind.Name x y = false
 saysEntries kind.ResetType x y = false
 saysEntries kind.Acknowledged x y = false
-saysEntries kind.Diagnostics x y = pick (eqb x 0) false (not (eqb y 0))
+saysEntries (kind.Diagnostics t) x y = pick (eqb x 0) false (not (eqb y 0))
 
 -- ---- the slots of a table's rows, behind some that announce items, or entries, or do not
 

@@ -49,12 +49,13 @@ fn mark_of(kind: Kind, there: u8) -> u8
         Kind::Mme => 1,
         Kind::Mce => 1,
         Kind::Tmgi => 1,
-        Kind::Session => 1,
+        Kind::OneOctet => 1,
+        Kind::TwoOctets => 1,
         Kind::Cause => 1,
         Kind::Wait => 1,
         Kind::Name => 1,
         Kind::Acknowledged => 1,
-        Kind::Diagnostics => 1,
+        Kind::Diagnostics(_) => 1,
     }
 }
 
@@ -67,13 +68,14 @@ fn used_by(kind: Kind) -> usize
         Kind::Mme => 3,
         Kind::Mce => 3,
         Kind::Tmgi => 7,
-        Kind::Session => 2,
+        Kind::OneOctet => 2,
+        Kind::TwoOctets => 3,
         Kind::Cause => 3,
         Kind::Wait => 2,
         Kind::Name => 5,
         Kind::ResetType => 1,
         Kind::Acknowledged => 1,
-        Kind::Diagnostics => 8,
+        Kind::Diagnostics(_) => 8,
     }
 }
 
@@ -109,12 +111,13 @@ fn is_head_of(kind: Kind, s: &[u8], at: usize) -> bool
     ensures { λ r. ⌜ r ≡ headOf kind (drop at (now (s .entry))) ⌝ }
 {
     match kind {
-        Kind::Diagnostics => is_head(s, at),
+        Kind::Diagnostics(_) => is_head(s, at),
         Kind::Carried => true,
         Kind::Mme => true,
         Kind::Mce => true,
         Kind::Tmgi => true,
-        Kind::Session => true,
+        Kind::OneOctet => true,
+        Kind::TwoOctets => true,
         Kind::Cause => true,
         Kind::Wait => true,
         Kind::Name => true,
@@ -160,11 +163,12 @@ fn says_items(kind: Kind, there: u8) -> bool
         Kind::Mme => false,
         Kind::Mce => false,
         Kind::Tmgi => false,
-        Kind::Session => false,
+        Kind::OneOctet => false,
+        Kind::TwoOctets => false,
         Kind::Cause => false,
         Kind::Wait => false,
         Kind::Name => false,
-        Kind::Diagnostics => false,
+        Kind::Diagnostics(_) => false,
     }
 }
 
@@ -173,7 +177,7 @@ fn says_entries(kind: Kind, there: u8, listed: u8) -> bool
     ensures { λ r. ⌜ r ≡ saysEntries kind there listed ⌝ }
 {
     match kind {
-        Kind::Diagnostics => {
+        Kind::Diagnostics(_) => {
             if there == 0 {
                 return false;
             }
@@ -183,7 +187,8 @@ fn says_entries(kind: Kind, there: u8, listed: u8) -> bool
         Kind::Mme => false,
         Kind::Mce => false,
         Kind::Tmgi => false,
-        Kind::Session => false,
+        Kind::OneOctet => false,
+        Kind::TwoOctets => false,
         Kind::Cause => false,
         Kind::Wait => false,
         Kind::Name => false,

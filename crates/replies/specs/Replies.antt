@@ -16,6 +16,7 @@ use Rattle.diagnostics.specs.declared.Number.the-variants as number
 use Rattle.diagnostics.specs.declared.Head.{Head}
 use Rattle.entries.specs.declared.Entry.{Entry}
 use Rattle.rows.specs.declared.Row.{Row}
+use Rattle.rows.specs.declared.Triggers.the-variants.{Three}
 use Rattle.editions.specs.declared.Message.{Message}
 use Rattle.editions.specs.declared.Message.the-variants as message
 use Rattle.frames.specs.declared.Frame.{Frame}
@@ -89,7 +90,7 @@ abbrev pub someOf : {A : Type 0} → List A → Bool
 someOf l = ltb 0 (length l)
 
 abbrev diagnosing : Head → List Entry → List Element
-diagnosing h es = id-CriticalityDiagnostics is value.diagnostics (record { head = h; entries = es }) ∷ []
+diagnosing h es = id-CriticalityDiagnostics is value.diagnostics Three (record { head = h; entries = es }) ∷ []
 
 -- the list alone; without one, none
 unfoldable pub listOnly : List Entry → List Element

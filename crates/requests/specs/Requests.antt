@@ -32,20 +32,21 @@ use Rattle.meaning.specs.Value.{Value, Given, given, absent, Record}
 abbrev pub nothing : Seen
 nothing = record { mme = mme.Absent; mce = mce.Absent; tmgi = tmgi.Absent; session = session.Absent; wait = wait.Absent; reset = reset.Absent }
 
--- with one value more
+-- with one value more; a number of one octet is a Session Identity
 abbrev pub seeing : {C : Type 0} → Value C → Seen → Seen
 seeing (value.mme v) x = record { mme = mme.Is v; mce = x .mce; tmgi = x .tmgi; session = x .session; wait = x .wait; reset = x .reset }
 seeing (value.mce v) x = record { mme = x .mme; mce = mce.Is v; tmgi = x .tmgi; session = x .session; wait = x .wait; reset = x .reset }
 seeing (value.tmgi v) x = record { mme = x .mme; mce = x .mce; tmgi = tmgi.Is v; session = x .session; wait = x .wait; reset = x .reset }
-seeing (value.session v) x = record { mme = x .mme; mce = x .mce; tmgi = x .tmgi; session = session.Is v; wait = x .wait; reset = x .reset }
+seeing (value.one v) x = record { mme = x .mme; mce = x .mce; tmgi = x .tmgi; session = session.Is v; wait = x .wait; reset = x .reset }
 seeing (value.wait v) x = record { mme = x .mme; mce = x .mce; tmgi = x .tmgi; session = x .session; wait = wait.Is v; reset = x .reset }
 seeing (value.reset whole) x = record { mme = x .mme; mce = x .mce; tmgi = x .tmgi; session = x .session; wait = x .wait; reset = reset.Whole }
 seeing (value.reset (part is)) x = record { mme = x .mme; mce = x .mce; tmgi = x .tmgi; session = x .session; wait = x .wait; reset = reset.Part }
 seeing (value.carried v) x = x
+seeing (value.two v) x = x
 seeing (value.cause v) x = x
 seeing (value.name v) x = x
 seeing (value.list v) x = x
-seeing (value.diagnostics v) x = x
+seeing (value.diagnostics t v) x = x
 
 -- with what a row gives
 abbrev pub also : {C : Type 0} → Given C → Seen → Seen

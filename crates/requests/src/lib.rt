@@ -2,9 +2,9 @@
 ghost use mathlib.Core.Path.{_≡_};
 ghost use Rattle.places.specs.Places.{spansIn};
 ghost use Rattle.rows.specs.Table.{rowsIn};
-ghost use Rattle.values.specs.Values.{mmeAt, mceAt, tmgiAt, sessionAt, waitAt};
+ghost use Rattle.values.specs.Values.{mmeAt, mceAt, tmgiAt, oneAt, waitAt};
 ghost use Rattle.items.specs.Items.{resetAt};
-ghost use Rattle.meaning.specs.Value.{mme, mce, tmgi, session, wait, reset};
+ghost use Rattle.meaning.specs.Value.{mme, mce, tmgi, one, wait, reset};
 ghost use Rattle.meaning.specs.Reading.{valueIn, valuesIn};
 ghost use Rattle.requests.specs.Requests.{nothing, also, alsoRead, resetSeen, seen, askOf, asks, answersSetup, startOf, stopOf, resetOf, requestOf};
 use editions::Message;
@@ -21,7 +21,7 @@ use rows::Kind;
 use rows::Rows;
 use values::MceRead;
 use values::MmeRead;
-use values::SessionRead;
+use values::OneRead;
 use values::TmgiRead;
 use values::WaitRead;
 
@@ -163,15 +163,15 @@ fn with_tmgi(s: &[u8], at: usize, x: Seen) -> Seen
 }
 
 fn with_session(s: &[u8], at: usize, x: Seen) -> Seen
-    ensures { λ r. ⌜ r ≡ alsoRead session (sessionAt (now (s .entry)) at) x ⌝ }
+    ensures { λ r. ⌜ r ≡ alsoRead one (oneAt (now (s .entry)) at) x ⌝ }
 {
     let m = x.mme;
     let c = x.mce;
     let g = x.tmgi;
     let z = x.wait;
     let w = x.reset;
-    match values::session_at(s, at) {
-        SessionRead::Is(v) => Seen {
+    match values::one_at(s, at) {
+        OneRead::Is(v) => Seen {
             mme: m,
             mce: c,
             tmgi: g,
@@ -179,7 +179,7 @@ fn with_session(s: &[u8], at: usize, x: Seen) -> Seen
             wait: z,
             reset: w,
         },
-        SessionRead::Stop(_) => x,
+        OneRead::Stop(_) => x,
     }
 }
 
@@ -371,12 +371,13 @@ fn with_value(kind: Kind, s: &[u8], v: Span, x: Seen) -> Seen
         Kind::Mme => with_mme(&s[..to], from, x),
         Kind::Mce => with_mce(&s[..to], from, x),
         Kind::Tmgi => with_tmgi(&s[..to], from, x),
-        Kind::Session => with_session(&s[..to], from, x),
+        Kind::OneOctet => with_session(&s[..to], from, x),
         Kind::ResetType => with_reset(&s[..to], from, x),
         Kind::Carried => x,
+        Kind::TwoOctets => x,
         Kind::Cause => x,
         Kind::Acknowledged => x,
-        Kind::Diagnostics => x,
+        Kind::Diagnostics(_) => x,
         Kind::Name => x,
         Kind::Wait => with_wait(&s[..to], from, x),
     }

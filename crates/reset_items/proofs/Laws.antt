@@ -24,7 +24,7 @@ use Rattle.octets.specs.declared.Span.{Span}
 use Rattle.octets.proofs.Chain.{then-got, same-got}
 use Rattle.octets.proofs.ManyLaws.{many-each}
 use Rattle.identity.specs.declared.Item.{Item}
-use Rattle.values.specs.Values.{mmeAt, mceAt, tmgiAt, sessionAt, causeAt, waitAt}
+use Rattle.values.specs.Values.{mmeAt, mceAt, tmgiAt, oneAt, twoAt, causeAt, waitAt}
 use Rattle.names.specs.Names.{nameAt}
 use Rattle.diagnostics.specs.Diagnostics.{diagnosticsAt}
 use Rattle.item.specs.Item.{itemElementAt}
@@ -39,7 +39,8 @@ use Rattle.rows.specs.declared.Row.{Row}
 use Rattle.rows.specs.declared.Rows.{Rows}
 use Rattle.rows.specs.declared.Kind.{Kind}
 use Rattle.rows.specs.declared.Kind.the-variants as kind
-use Rattle.rows.specs.Table.{noRow, rowsIn}
+use Rattle.rows.specs.declared.Triggers.{Triggers}
+use Rattle.rows.specs.Table.{noRow, rowsIn, meanings}
 use Rattle.meaning.specs.Value as value
 use Rattle.meaning.specs.Value.{Value, Given, given, absent}
 use Rattle.meaning.specs.Reading.{within, orAbsent, readAs, valueIn, valuesIn}
@@ -178,9 +179,13 @@ module _ (s : List ℕ) (v : Span) where
   unfolding readAs listsOf
   tmgi-silent = silent-read kind.Tmgi tmgiAt value.tmgi refl (λ _ _. refl)
 
-  pub session-silent : Silent (valueIn kind.Session s v)
+  pub one-silent : Silent (valueIn kind.OneOctet s v)
   unfolding readAs listsOf
-  session-silent = silent-read kind.Session sessionAt value.session refl (λ _ _. refl)
+  one-silent = silent-read kind.OneOctet oneAt value.one refl (λ _ _. refl)
+
+  pub two-silent : Silent (valueIn kind.TwoOctets s v)
+  unfolding readAs listsOf
+  two-silent = silent-read kind.TwoOctets twoAt value.two refl (λ _ _. refl)
 
   pub cause-silent : Silent (valueIn kind.Cause s v)
   unfolding readAs listsOf
@@ -194,9 +199,9 @@ module _ (s : List ℕ) (v : Span) where
   unfolding readAs listsOf
   name-silent = silent-read kind.Name nameAt value.name refl (λ _ _. refl)
 
-  pub diagnostics-silent : Silent (valueIn kind.Diagnostics s v)
+  pub diagnostics-silent : (t : Triggers) → Silent (valueIn (kind.Diagnostics t) s v)
   unfolding readAs listsOf
-  diagnostics-silent = silent-read kind.Diagnostics diagnosticsAt value.diagnostics refl (λ _ _. refl)
+  diagnostics-silent t = silent-read (kind.Diagnostics t) (diagnosticsAt (meanings t)) (value.diagnostics t) refl (λ _ _. refl)
 
   pub silent-none : (k : Kind) → Silent (valueIn k s v) → [] ≡ itemsBy (valueIn k s v)
   unfolding listsOf
@@ -222,13 +227,14 @@ module _ (s : List ℕ) (v : Span) where
   left kind.Mme z = mme-silent
   left kind.Mce z = mce-silent
   left kind.Tmgi z = tmgi-silent
-  left kind.Session z = session-silent
+  left kind.OneOctet z = one-silent
+  left kind.TwoOctets z = two-silent
   left kind.Cause z = cause-silent
   left kind.Wait z = wait-silent
   left kind.Name z = name-silent
   left kind.ResetType z = reset-left (resetAt (take (v .to) s) (v .from)) (reset-some (take (v .to) s) (v .from)) (present v) z
   left kind.Acknowledged z = list-left (itemsAt (take (v .to) s) (v .from)) (λ is e. items-some (take (v .to) s) (v .from) is e) (present v) z
-  left kind.Diagnostics z = diagnostics-silent
+  left (kind.Diagnostics t) z = diagnostics-silent t
 
 -- where a value has items they are those that are announced
 first-items : (g : Given Span) (vs : List (Given Span)) → 0 < length (itemsBy g) → itemsBy g ≡ listsOf (g ∷ vs) .items
@@ -238,14 +244,15 @@ first-items (given (value.carried x)) vs h = absurd (omega arith)
 first-items (given (value.mme x)) vs h = absurd (omega arith)
 first-items (given (value.mce x)) vs h = absurd (omega arith)
 first-items (given (value.tmgi x)) vs h = absurd (omega arith)
-first-items (given (value.session x)) vs h = absurd (omega arith)
+first-items (given (value.one x)) vs h = absurd (omega arith)
+first-items (given (value.two x)) vs h = absurd (omega arith)
 first-items (given (value.cause x)) vs h = absurd (omega arith)
 first-items (given (value.wait x)) vs h = absurd (omega arith)
 first-items (given (value.name x)) vs h = absurd (omega arith)
 first-items (given (value.reset whole)) vs h = absurd (omega arith)
 first-items (given (value.reset (part is))) vs h = refl
 first-items (given (value.list is)) vs h = refl
-first-items (given (value.diagnostics x)) vs h = absurd (omega arith)
+first-items (given (value.diagnostics t x)) vs h = absurd (omega arith)
 
 -- ---- the rows from k on
 

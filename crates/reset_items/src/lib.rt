@@ -49,11 +49,12 @@ fn value_items(kind: Kind, s: &[u8], v: Span, words: &mut [u64]) -> usize
         Kind::Mme => 0,
         Kind::Mce => 0,
         Kind::Tmgi => 0,
-        Kind::Session => 0,
+        Kind::OneOctet => 0,
+        Kind::TwoOctets => 0,
         Kind::Cause => 0,
         Kind::Wait => 0,
         Kind::Name => 0,
-        Kind::Diagnostics => 0,
+        Kind::Diagnostics(_) => 0,
     }
 }
 

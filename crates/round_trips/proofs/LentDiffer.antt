@@ -24,7 +24,7 @@ use Rattle.editions.specs.declared.Message.{Message}
 use Rattle.editions.specs.declared.Named.{Named}
 use Rattle.editions.specs.declared.Named.the-variants as named
 use Rattle.editions.specs.Editions.{tableOf, numberOf, numberedBy}
-use Rattle.meaning.specs.Value.{Value, Given, given, absent, carried, mme, mce, tmgi, session, cause, wait, name, reset, list, diagnostics, octetsIn, onCarried, onGiven, Said, Record, saidBy, bare}
+use Rattle.meaning.specs.Value.{Value, Given, given, absent, carried, mme, mce, tmgi, one, two, cause, wait, name, reset, list, diagnostics, octetsIn, onCarried, onGiven, Said, Record, saidBy, bare}
 use Rattle.meaning.specs.Written.{hasOctets, elementsGood, octets, none, encoded}
 use Rattle.meaning.specs.Ranges.{Ranged}
 use Rattle.layout.specs.Rows.{itemRow, entryRow, listOctets}
@@ -97,13 +97,14 @@ module _ (values : List ℕ) where
   bare-value (mme v) h = refl
   bare-value (mce v) h = refl
   bare-value (tmgi v) h = refl
-  bare-value (session v) h = refl
+  bare-value (one v) h = refl
+  bare-value (two v) h = refl
   bare-value (cause v) h = refl
   bare-value (wait v) h = refl
   bare-value (name v) h = ap (λ (n : ℕ). name (record { from = 0; to = n })) (length-in values v (lt-ltb 0 (length (octetsIn values v)) (name-size (octetsIn values v) h .0)))
   bare-value (reset v) h = refl
   bare-value (list v) h = refl
-  bare-value (diagnostics v) h = refl
+  bare-value (diagnostics t v) h = refl
 
   bare-values : (vs : List (Given Span)) → Each Has (map (onGiven (octetsIn values)) vs) → map (onGiven atZero) vs ≡ map (onGiven ofLength) (map (onGiven (octetsIn values)) vs)
   bare-values [] h = refl

@@ -16,7 +16,7 @@ use Rattle.items.specs.Items.{whole, part}
 use Rattle.rows.specs.declared.Kind.{Kind}
 use Rattle.rows.specs.declared.Kind.the-variants as kind
 use Rattle.rows.specs.declared.Row.{Row}
-use Rattle.meaning.specs.Value.{Value, Given, given, absent, carried, mme, mce, tmgi, session, cause, wait, name, reset, list, diagnostics, octetsIn, onCarried, onGiven}
+use Rattle.meaning.specs.Value.{Value, Given, given, absent, carried, mme, mce, tmgi, one, two, cause, wait, name, reset, list, diagnostics, octetsIn, onCarried, onGiven}
 use Rattle.meaning.specs.Ranges.{valueKind, Ranged}
 use Rattle.layout.specs.Rows.{unless0}
 use Rattle.layout.specs.Record.{Lists, listsOf, slotOf, slotOctets, slotSays, slotsSay}
@@ -35,14 +35,15 @@ slot-shown (carried v) = let e : v .to - v .from - 0 ≡ v .to - v .from = omega
 slot-shown (mme v) = refl
 slot-shown (mce v) = refl
 slot-shown (tmgi v) = refl
-slot-shown (session v) = refl
+slot-shown (one v) = refl
+slot-shown (two v) = refl
 slot-shown (cause v) = refl
 slot-shown (wait v) = refl
 slot-shown (name v) = let e : v .to - v .from - 0 ≡ v .to - v .from = omega arith in rw e
 slot-shown (reset whole) = refl
 slot-shown (reset (part is)) = refl
 slot-shown (list is) = refl
-slot-shown (diagnostics d) = refl
+slot-shown (diagnostics t d) = refl
 
 none-shown : (b : Bool) → pick b (placeless (slotOctets absent)) (slotOctets absent) ≡ slotOctets absent
 none-shown true = refl
@@ -54,13 +55,14 @@ kind-said f (carried v) = refl
 kind-said f (mme v) = refl
 kind-said f (mce v) = refl
 kind-said f (tmgi v) = refl
-kind-said f (session v) = refl
+kind-said f (one v) = refl
+kind-said f (two v) = refl
 kind-said f (cause v) = refl
 kind-said f (wait v) = refl
 kind-said f (name v) = refl
 kind-said f (reset v) = refl
 kind-said f (list v) = refl
-kind-said f (diagnostics v) = refl
+kind-said f (diagnostics t v) = refl
 
 -- a slot in front of others
 first-shown : (k : Kind) (t : List Row) (v w : Given Span) (more : List ℕ) → pick (isCarried k) (placeless (slotOctets v)) (slotOctets v) ≡ slotOctets w
@@ -97,14 +99,15 @@ lists-shown (given (carried v) ∷ vs) = lists-shown vs
 lists-shown (given (mme v) ∷ vs) = lists-shown vs
 lists-shown (given (mce v) ∷ vs) = lists-shown vs
 lists-shown (given (tmgi v) ∷ vs) = lists-shown vs
-lists-shown (given (session v) ∷ vs) = lists-shown vs
+lists-shown (given (one v) ∷ vs) = lists-shown vs
+lists-shown (given (two v) ∷ vs) = lists-shown vs
 lists-shown (given (cause v) ∷ vs) = lists-shown vs
 lists-shown (given (wait v) ∷ vs) = lists-shown vs
 lists-shown (given (name v) ∷ vs) = lists-shown vs
 lists-shown (given (reset whole) ∷ vs) = lists-shown vs
 lists-shown (given (reset (part is)) ∷ vs) = rw (lists-shown vs)
 lists-shown (given (list is) ∷ vs) = rw (lists-shown vs)
-lists-shown (given (diagnostics d) ∷ vs) = rw (lists-shown vs)
+lists-shown (given (diagnostics t d) ∷ vs) = rw (lists-shown vs)
 
 -- ---- what is carried
 
@@ -114,13 +117,14 @@ carriedOf (given (carried os)) = os ∷ []
 carriedOf (given (mme v)) = []
 carriedOf (given (mce v)) = []
 carriedOf (given (tmgi v)) = []
-carriedOf (given (session v)) = []
+carriedOf (given (one v)) = []
+carriedOf (given (two v)) = []
 carriedOf (given (cause v)) = []
 carriedOf (given (wait v)) = []
 carriedOf (given (name os)) = os ∷ []
 carriedOf (given (reset v)) = []
 carriedOf (given (list v)) = []
-carriedOf (given (diagnostics v)) = []
+carriedOf (given (diagnostics t v)) = []
 
 abbrev pub allCarried : List (Given (List ℕ)) → List (List ℕ)
 allCarried [] = []
@@ -144,13 +148,14 @@ module _ (values : List ℕ) where
   slot-carries l kind.Mme p = not-carried (eqb (getD p 0 0) 0) (slotSays l kind.Mme p) refl
   slot-carries l kind.Mce p = not-carried (eqb (getD p 0 0) 0) (slotSays l kind.Mce p) refl
   slot-carries l kind.Tmgi p = not-carried (eqb (getD p 0 0) 0) (slotSays l kind.Tmgi p) refl
-  slot-carries l kind.Session p = not-carried (eqb (getD p 0 0) 0) (slotSays l kind.Session p) refl
+  slot-carries l kind.OneOctet p = not-carried (eqb (getD p 0 0) 0) (slotSays l kind.OneOctet p) refl
+  slot-carries l kind.TwoOctets p = not-carried (eqb (getD p 0 0) 0) (slotSays l kind.TwoOctets p) refl
   slot-carries l kind.Cause p = not-carried (eqb (getD p 0 0) 0) (slotSays l kind.Cause p) refl
   slot-carries l kind.Wait p = not-carried (eqb (getD p 0 0) 0) (slotSays l kind.Wait p) refl
   slot-carries l kind.Name p = one-carried (eqb (getD p 0 0) 0) (slotSays l kind.Name p)
   slot-carries l kind.ResetType p = not-carried (eqb (getD p 0 0) 0) (slotSays l kind.ResetType p) refl
   slot-carries l kind.Acknowledged p = not-carried (eqb (getD p 0 0) 0) (slotSays l kind.Acknowledged p) refl
-  slot-carries l kind.Diagnostics p = not-carried (eqb (getD p 0 0) 0) (slotSays l kind.Diagnostics p) refl
+  slot-carries l (kind.Diagnostics t) p = not-carried (eqb (getD p 0 0) 0) (slotSays l (kind.Diagnostics t) p) refl
 
   pub slots-carry : (l : Lists) (t : List Row) (p : List ℕ) → slotsCarry t p values ≡ allCarried (map (onGiven (octetsIn values)) (slotsSay l t p))
   unfolding slotsCarry slotsSay

@@ -73,13 +73,14 @@ module _ (values : List ℕ) (o : Octets values) (l : Lists) (g : ListsRange l) 
   value-said kind.Mme p h = (refl, value-below 2 p 1 h)
   value-said kind.Mce p h = (refl, value-below 2 p 1 h)
   value-said kind.Tmgi p h = (refl, (h 1, h 2, h 3, h 4, h 5, h 6))
-  value-said kind.Session p h = (refl, h 1)
+  value-said kind.OneOctet p h = (refl, h 1)
+  value-said kind.TwoOctets p h = (refl, value-below 2 p 1 h)
   value-said kind.Cause p h = (refl, tt)
   value-said kind.Wait p h = (refl, tt)
   value-said kind.Name p h = (refl, octets-in values (record { from = valueAt 2 p 1; to = valueAt 2 p 1 + valueAt 2 p 3 }) o)
   value-said kind.ResetType p h = (refl, on-pick ResetRange (eqb (getD p 0 0) 2) (g .0) tt)
   value-said kind.Acknowledged p h = (refl, g .0)
-  value-said kind.Diagnostics p h = (
+  value-said (kind.Diagnostics t) p h = (
     refl,
     record {
       code = on-pick (Under 256) (eqb (getD (drop 1 p) 0 0) 0) tt (octets-drop 1 p h 1);

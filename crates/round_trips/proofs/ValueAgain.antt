@@ -16,12 +16,12 @@ use Rattle.octets.specs.declared.Span.{Span}
 use Rattle.octets.proofs.Chain.{then-got, same-got}
 use Rattle.octets.proofs.Stood.{octets-front}
 use Rattle.octets.specs.Many.{Each}
-use Rattle.values.specs.Values.{mmeAt, mceAt, tmgiAt, sessionAt, causeAt, waitAt}
+use Rattle.values.specs.Values.{mmeAt, mceAt, tmgiAt, oneAt, twoAt, causeAt, waitAt}
 use Rattle.names.specs.Names.{nameAllowed, nameAt}
 use Rattle.names.specs.Written.{nameOctets}
 use Rattle.names.proofs.Good.{name-in, name-good}
 use Rattle.names.proofs.Again.{name-again}
-use Rattle.values.proofs.Again.{mme-again, mce-again, tmgi-again, session-again, cause-again, wait-again}
+use Rattle.values.proofs.Again.{mme-again, mce-again, tmgi-again, one-again, two-again, cause-again, wait-again}
 use Rattle.values.proofs.Good.{cause-good, wait-good}
 use Rattle.items.specs.Items.{ResetType, whole, part, itemsAt, resetAt}
 use Rattle.items.specs.Written.{ignore, GoodReset}
@@ -35,9 +35,10 @@ use Rattle.diagnostics.specs.Written.{Under, GoodEntry, Good}
 use Rattle.diagnostics.proofs.Again.{diagnostics-again}
 use Rattle.rows.specs.declared.Kind.{Kind}
 use Rattle.rows.specs.declared.Kind.the-variants as kind
+use Rattle.rows.specs.Table.{meanings}
 use Rattle.kinds.specs.Kinds.{valueAt}
-use Rattle.meaning.specs.Value.{Value, mme, mce, tmgi, session, cause, wait, name, reset, list, diagnostics, octetsIn, onCarried}
-use Rattle.meaning.specs.Written.{octetsOf, counted, resetGood, under3, entryGood, entriesGood, diagnosticsGood, hasOctets}
+use Rattle.meaning.specs.Value.{Value, mme, mce, tmgi, one, two, cause, wait, name, reset, list, diagnostics, octetsIn, onCarried}
+use Rattle.meaning.specs.Written.{octetsOf, counted, resetGood, under, entryGood, entriesGood, diagnosticsGood, hasOctets}
 use Rattle.meaning.specs.Reading.{readAs}
 use Rattle.round_trips.specs.Ties.{itemsMarked}
 use Rattle.round_trips.proofs.ValueBack.{front-in, scanned-as}
@@ -73,7 +74,8 @@ module _ (s : List ℕ) (o : Octets s) (p : Span) where
   value-again kind.Mme l i q m = of-read Filled mme (mmeAt front (p .from)) q (λ a e. mme-again front (p .from) (octets-front s (p .to) o) e)
   value-again kind.Mce l i q m = of-read Filled mce (mceAt front (p .from)) q (λ a e. mce-again front (p .from) (octets-front s (p .to) o) e)
   value-again kind.Tmgi l i q m = of-read Filled tmgi (tmgiAt front (p .from)) q (λ a e. tmgi-again front (p .from) (octets-front s (p .to) o) e)
-  value-again kind.Session l i q m = of-read Filled session (sessionAt front (p .from)) q (λ a e. session-again front (p .from) (octets-front s (p .to) o) e)
+  value-again kind.OneOctet l i q m = of-read Filled one (oneAt front (p .from)) q (λ a e. one-again front (p .from) (octets-front s (p .to) o) e)
+  value-again kind.TwoOctets l i q m = of-read Filled two (twoAt front (p .from)) q (λ a e. two-again front (p .from) (octets-front s (p .to) o) e)
   value-again kind.Cause l i q m = of-read Filled cause (causeAt front (p .from)) q (λ a e. cause-again front (p .from) (octets-front s (p .to) o) e)
   value-again kind.Wait l i q m = of-read Filled wait (waitAt front (p .from)) q (λ a e. wait-again front (p .from) (octets-front s (p .to) o) e)
   value-again kind.Name l i q m =
@@ -81,9 +83,9 @@ module _ (s : List ℕ) (o : Octets s) (p : Span) where
       (λ a e. subst (λ (x : List ℕ). Fills front (p .from) (nameOctets x)) (name-there s p a i e) (name-again front (p .from) (octets-front s (p .to) o) e))
   value-again kind.ResetType l i q m = of-read Filled reset (resetAt front (p .from)) q (λ a e. reset-again front (p .from) (octets-front s (p .to) o) a e (m a e))
   value-again kind.Acknowledged l i q m = of-read Filled list (itemsAt front (p .from)) q (λ a e. items-again ignore front (p .from) (octets-front s (p .to) o) e m)
-  value-again kind.Diagnostics l i q m =
-      of-read Filled diagnostics (diagnosticsAt front (p .from)) q
-      (λ a e. let d = diagnostics-again front (octets-front s (p .to) o) (p .from) a e in record { stands = d .0; ends = d .1 })
+  value-again (kind.Diagnostics t) l i q m =
+      of-read Filled (diagnostics t) (diagnosticsAt (meanings t) front (p .from)) q
+      (λ a e. let d = diagnostics-again front (octets-front s (p .to) o) (meanings t) (p .from) a e in record { stands = d .0; ends = d .1 })
 
 -- ---- it has octets
 
@@ -97,9 +99,9 @@ reset-has : (r : ResetType) → GoodReset r → resetGood r ≡ true
 reset-has whole g = refl
 reset-has (part is) g = counted-good (length is) (g .0) (g .1)
 
-under-has : (n : Number) → Under 3 n → under3 n ≡ true
-under-has (number.Is v) g = lt-ltb v 3 g
-under-has number.Absent g = refl
+under-has : (n : ℕ) (x : Number) → Under n x → under n x ≡ true
+under-has n (number.Is v) g = lt-ltb v n g
+under-has n number.Absent g = refl
 
 -- no entry is bad
 entries-has : (es : List Entry) → Each GoodEntry es → not (some (λ (e : Entry). not (entryGood e)) es) ≡ true
@@ -110,9 +112,9 @@ list-has : (b : Bool) (es : List Entry) → b ≡ ltb 0 (length es) → length e
 list-has false es e n g = refl
 list-has true es e n g = both (counted-good (length es) (ltb-true 0 (length es) (sym e)) n) (entries-has es g)
 
-pub diagnostics-has : (d : Diagnostics) → Good d → diagnosticsGood d ≡ true
-diagnostics-has d g =
-    both (both (under-has (d .head .trigger) (g .head .trigger)) (under-has (d .head .crit) (g .head .crit))) (list-has (d .head .listed) (d .entries) (g .listed) (g .count) (g .entries))
+pub diagnostics-has : (n : ℕ) (d : Diagnostics) → Good n d → diagnosticsGood n d ≡ true
+diagnostics-has n d g =
+    both (both (under-has n (d .head .trigger) (g .head .trigger)) (under-has 3 (d .head .crit) (g .head .crit))) (list-has (d .head .listed) (d .entries) (g .listed) (g .count) (g .entries))
 
 module _ (s : List ℕ) (o : Octets s) (p : Span) where
   abbrev Has : Value Span → Type 0
@@ -128,7 +130,8 @@ module _ (s : List ℕ) (o : Octets s) (p : Span) where
   value-has kind.Mme l i q = of-read Has mme (mmeAt (front s o p) (p .from)) q (λ a e. refl)
   value-has kind.Mce l i q = of-read Has mce (mceAt (front s o p) (p .from)) q (λ a e. refl)
   value-has kind.Tmgi l i q = of-read Has tmgi (tmgiAt (front s o p) (p .from)) q (λ a e. refl)
-  value-has kind.Session l i q = of-read Has session (sessionAt (front s o p) (p .from)) q (λ a e. refl)
+  value-has kind.OneOctet l i q = of-read Has one (oneAt (front s o p) (p .from)) q (λ a e. refl)
+  value-has kind.TwoOctets l i q = of-read Has two (twoAt (front s o p) (p .from)) q (λ a e. refl)
   value-has kind.Cause l i q = of-read Has cause (causeAt (front s o p) (p .from)) q (λ a e. lt-ltb _ _ (cause-good (front s o p) (p .from) e))
   value-has kind.Wait l i q = of-read Has wait (waitAt (front s o p) (p .from)) q (λ a e. lt-ltb _ _ (wait-good (front s o p) (p .from) e))
   value-has kind.Name l i q =
@@ -138,6 +141,6 @@ module _ (s : List ℕ) (o : Octets s) (p : Span) where
   value-has kind.Acknowledged l i q =
       of-read Has list (itemsAt (front s o p) (p .from)) q
       (λ a e. let g = items-good (front s o p) (p .from) (octets-front s (p .to) o) e in counted-good (length a) (g .0) (g .1))
-  value-has kind.Diagnostics l i q =
-      of-read Has diagnostics (diagnosticsAt (front s o p) (p .from)) q
-      (λ a e. diagnostics-has a (diagnostics-again (front s o p) (octets-front s (p .to) o) (p .from) a e .2))
+  value-has (kind.Diagnostics t) l i q =
+      of-read Has (diagnostics t) (diagnosticsAt (meanings t) (front s o p) (p .from)) q
+      (λ a e. diagnostics-has (meanings t) a (diagnostics-again (front s o p) (octets-front s (p .to) o) (meanings t) (p .from) a e .2))

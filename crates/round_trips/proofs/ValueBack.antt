@@ -23,8 +23,8 @@ use Rattle.identity.specs.declared.MceId.{MceId}
 use Rattle.identity.specs.declared.Tmgi.{Tmgi}
 use Rattle.identity.specs.declared.Item.{Item}
 use Rattle.values.specs.declared.Cause.{Cause}
-use Rattle.values.specs.Values.{wholeAt, mmeAt, mceAt, tmgiAt, sessionAt, causeAt, waitAt}
-use Rattle.values.proofs.Back.{mme-back, mce-back, tmgi-back, session-back, cause-back, wait-back}
+use Rattle.values.specs.Values.{wholeAt, mmeAt, mceAt, tmgiAt, oneAt, twoAt, causeAt, waitAt}
+use Rattle.values.proofs.Back.{mme-back, mce-back, tmgi-back, one-back, two-back, cause-back, wait-back}
 use Rattle.names.specs.Names.{nameAt}
 use Rattle.names.proofs.Good.{name-in}
 use Rattle.names.proofs.Back.{name-back}
@@ -41,9 +41,12 @@ use Rattle.diagnostics.proofs.Back.{diagnostics-back}
 use Rattle.rows.specs.declared.Kind.{Kind}
 use Rattle.rows.specs.declared.Kind.the-variants as kind
 use Rattle.rows.specs.declared.Row.{Row}
+use Rattle.rows.specs.declared.Triggers.{Triggers}
+use Rattle.rows.specs.declared.Triggers.the-variants.{Three, Four}
+use Rattle.rows.specs.Table.{meanings}
 use Rattle.kinds.specs.Kinds.{valueAt}
-use Rattle.meaning.specs.Value.{Value, Given, onGiven, carried, mme, mce, tmgi, session, cause, wait, name, reset, list, diagnostics, octetsIn, onCarried}
-use Rattle.meaning.specs.Written.{octetsOf, hasOctets, counted, under3, entryGood, entriesGood, diagnosticsGood, resetGood}
+use Rattle.meaning.specs.Value.{Value, Given, onGiven, carried, mme, mce, tmgi, one, two, cause, wait, name, reset, list, diagnostics, octetsIn, onCarried}
+use Rattle.meaning.specs.Written.{octetsOf, hasOctets, counted, under, entryGood, entriesGood, diagnosticsGood, resetGood}
 use Rattle.meaning.specs.Reading.{readAs, valuesIn}
 use Rattle.octets.specs.declared.Span.{Span}
 use Rattle.octets.specs.Span.{noSpan}
@@ -59,9 +62,9 @@ reset-has : (r : ResetType) → ResetRange r → resetGood r ≡ true → GoodRe
 reset-has whole g e = tt
 reset-has (part is) g e = let b = counted-bounds (length is) e in (b .0, b .1, g)
 
-number-has : (n : Number) → under3 n ≡ true → Under 3 n
-number-has (number.Is v) e = ltb-true v 3 e
-number-has number.Absent e = tt
+number-has : (n : ℕ) (x : Number) → under n x ≡ true → Under n x
+number-has n (number.Is v) e = ltb-true v n e
+number-has n number.Absent e = tt
 
 entries-has : (es : List Entry) → Each (λ (e : Entry). e .id < 65536) es → Each (λ (e : Entry). entryGood e ≡ true) es → Each GoodEntry es
 entries-has [] g h = tt
@@ -82,20 +85,25 @@ listed-has true es g n e =
     (entries-has es g (each-pass entryGood es (not-true _ (and-right (counted (length es)) _ e))), sym (lt-ltb 0 (length es) (c .0)), c .1)
 listed-has false es g n e = rw (n refl) (tt, refl, omega arith)
 
-pub diagnostics-has : (d : Diagnostics) → DiagnosticsRange d → diagnosticsGood d ≡ true → Good d
-diagnostics-has d g e =
-    let a = and-left (under3 (d .head .trigger) && under3 (d .head .crit)) _ e in
-    let l = listed-has (d .head .listed) (d .entries) (g .ids) (g .none) (and-right (under3 (d .head .trigger) && under3 (d .head .crit)) _ e) in
+pub diagnostics-has : (n : ℕ) (d : Diagnostics) → DiagnosticsRange d → diagnosticsGood n d ≡ true → Good n d
+diagnostics-has n d g e =
+    let a = and-left (under n (d .head .trigger) && under 3 (d .head .crit)) _ e in
+    let l = listed-has (d .head .listed) (d .entries) (g .ids) (g .none) (and-right (under n (d .head .trigger) && under 3 (d .head .crit)) _ e) in
     record {
       head = record {
         code = g .code;
-        trigger = number-has (d .head .trigger) (and-left (under3 (d .head .trigger)) _ a);
-        crit = number-has (d .head .crit) (and-right (under3 (d .head .trigger)) _ a);
+        trigger = number-has n (d .head .trigger) (and-left (under n (d .head .trigger)) _ a);
+        crit = number-has 3 (d .head .crit) (and-right (under n (d .head .trigger)) _ a);
       };
       entries = l .0;
       listed = l .1;
       count = l .2;
     }
+
+-- two bits hold the meanings
+meanings-few : (t : Triggers) → meanings t ≤ 4
+meanings-few Three = omega arith
+meanings-few Four = omega arith
 
 -- ---- a value read back
 
@@ -126,7 +134,8 @@ value-back s p (carried os) g e h f = rw (le-leb (p .to) (length s) h) (ap (λ (
 value-back s p (mme v) g e h f = rw (sym (mme-back (take (p .to) s) (p .from) v g f)) refl
 value-back s p (mce v) g e h f = rw (sym (mce-back (take (p .to) s) (p .from) v g f)) refl
 value-back s p (tmgi v) g e h f = rw (sym (tmgi-back (take (p .to) s) (p .from) v f)) refl
-value-back s p (session v) g e h f = rw (sym (session-back (take (p .to) s) (p .from) v g f)) refl
+value-back s p (one v) g e h f = rw (sym (one-back (take (p .to) s) (p .from) v g f)) refl
+value-back s p (two v) g e h f = rw (sym (two-back (take (p .to) s) (p .from) v g f)) refl
 value-back s p (cause v) g e h f = rw (sym (cause-back (take (p .to) s) (p .from) v (ltb-true _ _ e) f)) refl
 value-back s p (wait v) g e h f = rw (sym (wait-back (take (p .to) s) (p .from) v (ltb-true _ _ e) f)) refl
 value-back s p (name os) g e h f =
@@ -139,7 +148,7 @@ value-back s p (reset v) g e h f = rw (sym (reset-back (take (p .to) s) (p .from
 value-back s p (list is) g e h f =
     let b = counted-bounds (length is) e in
     rw (sym (items-back ignore (omega arith) (take (p .to) s) (p .from) is (b .0, b .1, g) f)) refl
-value-back s p (diagnostics d) g e h f = rw (sym (diagnostics-back (take (p .to) s) (p .from) d (diagnostics-has d g e) (f .stands) (f .ends))) refl
+value-back s p (diagnostics t d) g e h f = rw (sym (diagnostics-back (take (p .to) s) (meanings t) (meanings-few t) (p .from) d (diagnostics-has (meanings t) d g e) (f .stands) (f .ends))) refl
 
 -- what can be scanned is what can be read as a value
 dropped : {A : Type 0} (is : A → Value Span) (r : Read A) → _≡_ {A = Read Unit} (r >> got tt) (r >>= (λ x. got (is x)) >> got tt)
@@ -153,13 +162,14 @@ scanned-as kind.Carried s p = refl
 scanned-as kind.Mme s p = dropped mme (mmeAt (take (p .to) s) (p .from))
 scanned-as kind.Mce s p = dropped mce (mceAt (take (p .to) s) (p .from))
 scanned-as kind.Tmgi s p = dropped tmgi (tmgiAt (take (p .to) s) (p .from))
-scanned-as kind.Session s p = dropped session (sessionAt (take (p .to) s) (p .from))
+scanned-as kind.OneOctet s p = dropped one (oneAt (take (p .to) s) (p .from))
+scanned-as kind.TwoOctets s p = dropped two (twoAt (take (p .to) s) (p .from))
 scanned-as kind.Cause s p = dropped cause (causeAt (take (p .to) s) (p .from))
 scanned-as kind.Wait s p = dropped wait (waitAt (take (p .to) s) (p .from))
 scanned-as kind.Name s p = dropped name (nameAt (take (p .to) s) (p .from))
 scanned-as kind.ResetType s p = dropped reset (resetAt (take (p .to) s) (p .from))
 scanned-as kind.Acknowledged s p = dropped list (itemsAt (take (p .to) s) (p .from))
-scanned-as kind.Diagnostics s p = dropped diagnostics (diagnosticsAt (take (p .to) s) (p .from))
+scanned-as (kind.Diagnostics t) s p = dropped (diagnostics t) (diagnosticsAt (meanings t) (take (p .to) s) (p .from))
 
 pub value-read : (k : Kind) (s : List ℕ) (p : Span) {v : Value (List ℕ)} → got v ≡ saidAt k s p → got tt ≡ valueAt k (take (p .to) s) (p .from)
 value-read k s p q = let a = then-got (readAs k s p) _ q in past _ (a .0) (a .1) refl ∙ sym (scanned-as k s p)
@@ -178,9 +188,13 @@ module _ (at : ℕ) where
   unfolding mceAt
   mce-none v q = whole-none 2 (omega arith) (then-got (wholeAt 2 [] at) _ q .1)
 
-  pub session-none : (v : ℕ) → got v ≡ sessionAt [] at → ⊥
-  unfolding sessionAt
-  session-none v q = whole-none 1 (omega arith) q
+  pub one-none : (v : ℕ) → got v ≡ oneAt [] at → ⊥
+  unfolding oneAt
+  one-none v q = whole-none 1 (omega arith) q
+
+  pub two-none : (v : ℕ) → got v ≡ twoAt [] at → ⊥
+  unfolding twoAt
+  two-none v q = whole-none 2 (omega arith) q
 
   -- a first bit
   plain-none : {A : Type 0} (go : Unit → Read A) {v : A} → got v ≡ plainAt [] at 0 >>= go → ⊥
@@ -210,9 +224,9 @@ module _ (at : ℕ) where
   unfolding itemsAt
   items-none v q = omega (arith, number-got [] at 1 (then-got (numberAt 1 [] at) _ q .1) .0)
 
-  pub diagnostics-none : (v : Diagnostics) → got v ≡ diagnosticsAt [] at → ⊥
+  pub diagnostics-none : (n : ℕ) (v : Diagnostics) → got v ≡ diagnosticsAt n [] at → ⊥
   unfolding diagnosticsAt headAt
-  diagnostics-none v q = omega (arith, marks-in [] at (then-got (marksAt [] at) _ (then-got (headAt [] at) _ q .1) .1))
+  diagnostics-none n v q = omega (arith, marks-in [] at (then-got (marksAt [] at) _ (then-got (headAt n [] at) _ q .1) .1))
 
 -- a value that has octets has at least one
 some-octets : (v : Value (List ℕ)) → hasOctets v ≡ true → octetsOf v ≡ [] → got tt ≡ valueAt (valueKind v) [] 0 → ⊥
@@ -221,13 +235,14 @@ some-octets (carried os) e z q = let h = ltb-true 0 (length os) e in omega (arit
 some-octets (mme v) e z q = mme-none 0 _ (then-got (mmeAt [] 0) _ q .1)
 some-octets (mce v) e z q = mce-none 0 _ (then-got (mceAt [] 0) _ q .1)
 some-octets (tmgi v) e z q = tmgi-none 0 _ (then-got (tmgiAt [] 0) _ q .1)
-some-octets (session v) e z q = session-none 0 _ (then-got (sessionAt [] 0) _ q .1)
+some-octets (one v) e z q = one-none 0 _ (then-got (oneAt [] 0) _ q .1)
+some-octets (two v) e z q = two-none 0 _ (then-got (twoAt [] 0) _ q .1)
 some-octets (cause v) e z q = cause-none 0 _ (then-got (causeAt [] 0) _ q .1)
 some-octets (wait v) e z q = wait-none 0 _ (then-got (waitAt [] 0) _ q .1)
 some-octets (name os) e z q = name-none 0 _ (then-got (nameAt [] 0) _ q .1)
 some-octets (reset v) e z q = reset-none 0 _ (then-got (resetAt [] 0) _ q .1)
 some-octets (list is) e z q = items-none 0 _ (then-got (itemsAt [] 0) _ q .1)
-some-octets (diagnostics d) e z q = diagnostics-none 0 _ (then-got (diagnosticsAt [] 0) _ q .1)
+some-octets (diagnostics t d) e z q = diagnostics-none 0 (meanings t) _ (then-got (diagnosticsAt (meanings t) [] 0) _ q .1)
 
 pub value-size : (v : Value (List ℕ)) → InRange v → hasOctets v ≡ true → 0 < length (octetsOf v)
 value-size v g e = by (octetsOf v) refl

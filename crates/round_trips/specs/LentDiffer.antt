@@ -28,13 +28,14 @@ isCarried kind.Carried = true
 isCarried kind.Mme = false
 isCarried kind.Mce = false
 isCarried kind.Tmgi = false
-isCarried kind.Session = false
+isCarried kind.OneOctet = false
+isCarried kind.TwoOctets = false
 isCarried kind.Cause = false
 isCarried kind.Wait = false
 isCarried kind.Name = true
 isCarried kind.ResetType = false
 isCarried kind.Acknowledged = false
-isCarried kind.Diagnostics = false
+isCarried (kind.Diagnostics t) = false
 
 -- the rows of the message that the record's first octet numbers
 abbrev pub tableBy : Edition → Named → List Row

@@ -33,11 +33,12 @@ itemsMarked kind.Carried s at = Unit
 itemsMarked kind.Mme s at = Unit
 itemsMarked kind.Mce s at = Unit
 itemsMarked kind.Tmgi s at = Unit
-itemsMarked kind.Session s at = Unit
+itemsMarked kind.OneOctet s at = Unit
+itemsMarked kind.TwoOctets s at = Unit
 itemsMarked kind.Cause s at = Unit
 itemsMarked kind.Wait s at = Unit
 itemsMarked kind.Name s at = Unit
-itemsMarked kind.Diagnostics s at = Unit
+itemsMarked (kind.Diagnostics t) s at = Unit
 
 abbrev pub rowById : List Row → ℕ → Row
 rowById t id = getD t (find id t) noRow

@@ -9,6 +9,8 @@ use Rattle.rows.specs.declared.Kind.{Kind}
 use Rattle.rows.specs.declared.Kind.the-variants.{Carried}
 use Rattle.rows.specs.declared.Row.{Row}
 use Rattle.rows.specs.declared.Rows.{Rows}
+use Rattle.rows.specs.declared.Triggers.{Triggers}
+use Rattle.rows.specs.declared.Triggers.the-variants.{Three, Four}
 
 -- the rows that a table has
 abbrev pub rowsIn : Rows → List Row
@@ -29,3 +31,8 @@ noRow = record { id = 0; crit = 0; kind = Carried; mandatory = false }
 -- how the value of an element is read: that of an unknown one is not
 abbrev pub kindOf : List Row → ℕ → Kind
 kindOf t id = getD t (find id t) noRow .kind
+
+-- how many meanings the triggering message of Criticality Diagnostics has
+abbrev pub meanings : Triggers → ℕ
+meanings Three = 3
+meanings Four = 4

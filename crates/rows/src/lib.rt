@@ -2,7 +2,13 @@
 ghost use mathlib.Core.Path.{_≡_};
 ghost use Prim.Native.Nat.{_≤_};
 ghost use lib.ListN.{length};
-ghost use Rattle.rows.specs.Table.{rowsIn, kindOf};
+ghost use Rattle.rows.specs.Table.{rowsIn, kindOf, meanings};
+
+// How many meanings the triggering message of Criticality Diagnostics has.
+pub enum Triggers {
+    Three,
+    Four,
+}
 
 // What is carried is not read.
 pub enum Kind {
@@ -10,7 +16,9 @@ pub enum Kind {
     Mme,
     Mce,
     Tmgi,
-    Session,
+    // a number of one octet, and one of two, every one of which means something
+    OneOctet,
+    TwoOctets,
     Cause,
     // Time to Wait
     Wait,
@@ -18,7 +26,7 @@ pub enum Kind {
     Name,
     ResetType,
     Acknowledged,
-    Diagnostics,
+    Diagnostics(Triggers),
 }
 
 // A row of a message's table, as 9.3.4 has it.
@@ -60,4 +68,13 @@ pub fn kind_of(t: Rows, id: u16) -> Kind
         k += 1;
     }
     Kind::Carried
+}
+
+pub fn meanings(t: Triggers) -> u8
+    ensures { λ r. ⌜ r ≡ meanings t ⌝ }
+{
+    match t {
+        Triggers::Three => 3,
+        Triggers::Four => 4,
+    }
 }

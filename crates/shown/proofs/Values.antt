@@ -20,7 +20,7 @@ use Rattle.lists.proofs.Slices.{take-within}
 use Rattle.octets.specs.Read.{Read, got, stop, _>>=_}
 use Rattle.octets.specs.declared.Span.{Span}
 use Rattle.octets.specs.Span.{noSpan, present}
-use Rattle.values.specs.Values.{mmeAt, mceAt, tmgiAt, sessionAt, causeAt, waitAt}
+use Rattle.values.specs.Values.{mmeAt, mceAt, tmgiAt, oneAt, twoAt, causeAt, waitAt}
 use Rattle.names.specs.Names.{nameAt}
 use Rattle.items.specs.Items.{itemsAt, resetAt}
 use Rattle.diagnostics.specs.Diagnostics.{diagnosticsAt}
@@ -29,7 +29,7 @@ use Rattle.rows.specs.declared.Kind.the-variants as kind
 use Rattle.rows.proofs.Kind as kinds
 use Rattle.rows.specs.declared.Row.{Row}
 use Rattle.rows.specs.declared.Rows.{Rows}
-use Rattle.rows.specs.Table.{noRow, rowsIn}
+use Rattle.rows.specs.Table.{noRow, rowsIn, meanings}
 use Rattle.meaning.specs.Value as value
 use Rattle.meaning.specs.Value.{Value, absent}
 use Rattle.meaning.specs.Reading.{orAbsent, readAs, valueIn, valuesIn}
@@ -63,12 +63,13 @@ name-or-not kind.Carried = inr (λ s v x. refl)
 name-or-not kind.Mme = inr (λ s v x. unnamed (mmeAt (take (v .to) s) (v .from)) value.mme x (λ a. refl))
 name-or-not kind.Mce = inr (λ s v x. unnamed (mceAt (take (v .to) s) (v .from)) value.mce x (λ a. refl))
 name-or-not kind.Tmgi = inr (λ s v x. unnamed (tmgiAt (take (v .to) s) (v .from)) value.tmgi x (λ a. refl))
-name-or-not kind.Session = inr (λ s v x. unnamed (sessionAt (take (v .to) s) (v .from)) value.session x (λ a. refl))
+name-or-not kind.OneOctet = inr (λ s v x. unnamed (oneAt (take (v .to) s) (v .from)) value.one x (λ a. refl))
+name-or-not kind.TwoOctets = inr (λ s v x. unnamed (twoAt (take (v .to) s) (v .from)) value.two x (λ a. refl))
 name-or-not kind.Cause = inr (λ s v x. unnamed (causeAt (take (v .to) s) (v .from)) value.cause x (λ a. refl))
 name-or-not kind.Wait = inr (λ s v x. unnamed (waitAt (take (v .to) s) (v .from)) value.wait x (λ a. refl))
 name-or-not kind.ResetType = inr (λ s v x. unnamed (resetAt (take (v .to) s) (v .from)) value.reset x (λ a. refl))
 name-or-not kind.Acknowledged = inr (λ s v x. unnamed (itemsAt (take (v .to) s) (v .from)) value.list x (λ a. refl))
-name-or-not kind.Diagnostics = inr (λ s v x. unnamed (diagnosticsAt (take (v .to) s) (v .from)) value.diagnostics x (λ a. refl))
+name-or-not (kind.Diagnostics t) = inr (λ s v x. unnamed (diagnosticsAt (meanings t) (take (v .to) s) (v .from)) (value.diagnostics t) x (λ a. refl))
 
 -- ---- a row
 
@@ -84,7 +85,7 @@ module _ (s : List ℕ) (v : Span) (x : Found) where
       (q ∙ (ap (λ l. orElse (nameAt l (v .from)) x) (ap (λ n. take n s) m ∙ take-within s (v .to) (length s) refl refl) ∙ sym (name-read s v x)))
 
   -- of any other kind
-  pub other-there : (k : Kind) → OneOf (0 ∷ 1 ∷ 2 ∷ 3 ∷ 4 ∷ 5 ∷ 6 ∷ 8 ∷ 9 ∷ 10 ∷ []) (tagOf kinds.the-type k) → x ≡ foundWith (valueIn k s v) x
+  pub other-there : (k : Kind) → OneOf (0 ∷ 1 ∷ 2 ∷ 3 ∷ 4 ∷ 5 ∷ 6 ∷ 7 ∷ 9 ∷ 10 ∷ 11 ∷ []) (tagOf kinds.the-type k) → x ≡ foundWith (valueIn k s v) x
   unfolding valueIn
   other-there k o = by (name-or-not k)
     where
@@ -93,7 +94,7 @@ module _ (s : List ℕ) (v : Span) (x : Found) where
       on false f = refl
 
       by : (k ≡ kind.Name) ⊎ Unnamed k → x ≡ foundWith (pick (present v) (orAbsent (readAs k s v)) absent) x
-      by (inl e) = absurd (miss (0 ∷ 1 ∷ 2 ∷ 3 ∷ 4 ∷ 5 ∷ 6 ∷ 8 ∷ 9 ∷ 10 ∷ []) 7 tt (subst (λ (i : Kind). OneOf (0 ∷ 1 ∷ 2 ∷ 3 ∷ 4 ∷ 5 ∷ 6 ∷ 8 ∷ 9 ∷ 10 ∷ []) (tagOf kinds.the-type i)) e o))
+      by (inl e) = absurd (miss (0 ∷ 1 ∷ 2 ∷ 3 ∷ 4 ∷ 5 ∷ 6 ∷ 7 ∷ 9 ∷ 10 ∷ 11 ∷ []) 8 tt (subst (λ (i : Kind). OneOf (0 ∷ 1 ∷ 2 ∷ 3 ∷ 4 ∷ 5 ∷ 6 ∷ 7 ∷ 9 ∷ 10 ∷ 11 ∷ []) (tagOf kinds.the-type i)) e o))
       by (inr f) = on (present v) f
 
 -- ---- all rows

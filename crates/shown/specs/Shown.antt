@@ -40,12 +40,13 @@ foundBy (value.carried v) x = x
 foundBy (value.mme v) x = x
 foundBy (value.mce v) x = x
 foundBy (value.tmgi v) x = x
-foundBy (value.session v) x = x
+foundBy (value.one v) x = x
+foundBy (value.two v) x = x
 foundBy (value.cause v) x = x
 foundBy (value.wait v) x = x
 foundBy (value.reset v) x = x
 foundBy (value.list v) x = x
-foundBy (value.diagnostics v) x = x
+foundBy (value.diagnostics t v) x = x
 
 -- with what a row gives
 abbrev pub foundWith : Given Span → Found → Found

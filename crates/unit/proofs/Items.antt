@@ -25,7 +25,7 @@ use Rattle.identity.specs.declared.Mme.the-variants as mme
 use Rattle.identity.specs.declared.Mce.{Mce}
 use Rattle.identity.specs.declared.Mce.the-variants as mce
 use Rattle.identity.specs.declared.Item.{Item}
-use Rattle.values.specs.Values.{mmeAt, mceAt, tmgiAt, sessionAt, causeAt, waitAt}
+use Rattle.values.specs.Values.{mmeAt, mceAt, tmgiAt, oneAt, twoAt, causeAt, waitAt}
 use Rattle.names.specs.Names.{nameAt}
 use Rattle.items.specs.Items.{ResetType, whole, part, itemsAt, resetAt}
 use Rattle.items.specs.Written.{GoodItem, GoodReset}
@@ -36,6 +36,7 @@ use Rattle.item_words.proofs.Back.{items-back}
 use Rattle.rows.specs.declared.Kind.{Kind}
 use Rattle.rows.specs.declared.Kind.the-variants as kind
 use Rattle.rows.specs.declared.Row.{Row}
+use Rattle.rows.specs.Table.{meanings}
 use Rattle.meaning.specs.Value as value
 use Rattle.meaning.specs.Value.{Value, Given, given}
 use Rattle.meaning.specs.Reading.{readAs, orAbsent, valueIn, valuesIn}
@@ -74,13 +75,14 @@ module _ (s : List ℕ) (o : Octets s) where
     read-fits kind.Mme q = of-read With value.mme (mmeAt (take (p .to) s) (p .from)) q (λ a h. g)
     read-fits kind.Mce q = of-read With value.mce (mceAt (take (p .to) s) (p .from)) q (λ a h. g)
     read-fits kind.Tmgi q = of-read With value.tmgi (tmgiAt (take (p .to) s) (p .from)) q (λ a h. g)
-    read-fits kind.Session q = of-read With value.session (sessionAt (take (p .to) s) (p .from)) q (λ a h. g)
+    read-fits kind.OneOctet q = of-read With value.one (oneAt (take (p .to) s) (p .from)) q (λ a h. g)
+    read-fits kind.TwoOctets q = of-read With value.two (twoAt (take (p .to) s) (p .from)) q (λ a h. g)
     read-fits kind.Cause q = of-read With value.cause (causeAt (take (p .to) s) (p .from)) q (λ a h. g)
     read-fits kind.Wait q = of-read With value.wait (waitAt (take (p .to) s) (p .from)) q (λ a h. g)
     read-fits kind.Name q = of-read With value.name (nameAt (take (p .to) s) (p .from)) q (λ a h. g)
     read-fits kind.ResetType q = of-read With value.reset (resetAt (take (p .to) s) (p .from)) q (λ a h. with-reset a (reset-good (take (p .to) s) (p .from) cut h))
     read-fits kind.Acknowledged q = of-read With value.list (itemsAt (take (p .to) s) (p .from)) q (λ a h. let x = items-good (take (p .to) s) (p .from) cut h in record { few = x .1; each = x .2 })
-    read-fits kind.Diagnostics q = of-read With value.diagnostics (diagnosticsAt (take (p .to) s) (p .from)) q (λ a h. g)
+    read-fits (kind.Diagnostics t) q = of-read With (value.diagnostics t) (diagnosticsAt (meanings t) (take (p .to) s) (p .from)) q (λ a h. g)
 
     value-fits : (k : Kind) → ItemsFit (listsOf (valueIn k s p ∷ vs) .items)
     unfolding valueIn With listsOf

@@ -20,8 +20,8 @@ use Rattle.identity.specs.declared.MmeId.{MmeId}
 use Rattle.identity.specs.declared.MceId.{MceId}
 use Rattle.identity.specs.declared.Tmgi.{Tmgi}
 use Rattle.values.specs.declared.Cause.{Cause}
-use Rattle.values.specs.Values.{wholeAt, mmeAt, mceAt, sessionAt, tmgiAt, bitsOfRoot, rootOf, causeAt, waitAt}
-use Rattle.values.specs.Written.{mmeOctets, mceOctets, sessionOctets, tmgiOctets, causeOctets, waitOctets}
+use Rattle.values.specs.Values.{wholeAt, mmeAt, mceAt, oneAt, twoAt, tmgiAt, bitsOfRoot, rootOf, causeAt, waitAt}
+use Rattle.values.specs.Written.{mmeOctets, mceOctets, oneOctets, twoOctets, tmgiOctets, causeOctets, waitOctets}
 use Rattle.values.proofs.Roots.{root-width}
 use Rattle.values.proofs.Back.{cause-octets, wait-octets}
 
@@ -47,9 +47,13 @@ module _ (s : List ℕ) (at : ℕ) (o : Octets s) where
   unfolding mceAt
   mce-again {v} q = let a = then-got (wholeAt 2 s at) _ q in subst (λ (x : MceId). Fills s at (mceOctets x)) (sym (same-got (a .2))) (whole-again 2 s at o (a .1))
 
-  pub session-again : {v : ℕ} → got v ≡ sessionAt s at → Fills s at (sessionOctets v)
-  unfolding sessionAt
-  session-again q = whole-again 1 s at o q
+  pub one-again : {v : ℕ} → got v ≡ oneAt s at → Fills s at (oneOctets v)
+  unfolding oneAt
+  one-again q = whole-again 1 s at o q
+
+  pub two-again : {v : ℕ} → got v ≡ twoAt s at → Fills s at (twoOctets v)
+  unfolding twoAt
+  two-again q = whole-again 2 s at o q
 
   pub tmgi-again : {t : Tmgi} → got t ≡ tmgiAt s at → Fills s at (tmgiOctets t)
   unfolding tmgiAt tmgiOctets

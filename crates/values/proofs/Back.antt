@@ -19,8 +19,8 @@ use Rattle.identity.specs.declared.MmeId.{MmeId}
 use Rattle.identity.specs.declared.MceId.{MceId}
 use Rattle.identity.specs.declared.Tmgi.{Tmgi}
 use Rattle.values.specs.declared.Cause.{Cause}
-use Rattle.values.specs.Values.{wholeAt, mmeAt, mceAt, sessionAt, tmgiAt, bitsOfRoot, rootOf, causeAt, waitAt}
-use Rattle.values.specs.Written.{mmeOctets, mceOctets, sessionOctets, tmgiOctets, causeOctet, causeOctets, GoodCause, waitOctet, waitOctets}
+use Rattle.values.specs.Values.{wholeAt, mmeAt, mceAt, oneAt, twoAt, tmgiAt, bitsOfRoot, rootOf, causeAt, waitAt}
+use Rattle.values.specs.Written.{mmeOctets, mceOctets, oneOctets, twoOctets, tmgiOctets, causeOctet, causeOctets, GoodCause, waitOctet, waitOctets}
 use Rattle.values.proofs.Roots.{root-width, root-group}
 
 whole-back : (k : ℕ) (s : List ℕ) (at v : ℕ) → v < 256 ^ k → Fills s at (numberOctets k v) → got v ≡ wholeAt k s at
@@ -43,9 +43,13 @@ module _ (s : List ℕ) (at : ℕ) where
   unfolding mceAt
   mce-back v b h = past _ (v .0) (whole-back 2 s at (v .0) b h) refl
 
-  pub session-back : (v : ℕ) → v < 256 → Fills s at (sessionOctets v) → got v ≡ sessionAt s at
-  unfolding sessionAt
-  session-back v b h = whole-back 1 s at v b h
+  pub one-back : (v : ℕ) → v < 256 → Fills s at (oneOctets v) → got v ≡ oneAt s at
+  unfolding oneAt
+  one-back v b h = whole-back 1 s at v b h
+
+  pub two-back : (v : ℕ) → v < 65536 → Fills s at (twoOctets v) → got v ≡ twoAt s at
+  unfolding twoAt
+  two-back v b h = whole-back 2 s at v b h
 
   pub tmgi-back : (t : Tmgi) → Fills s at (tmgiOctets t) → got t ≡ tmgiAt s at
   unfolding tmgiOctets tmgiAt

@@ -2,13 +2,15 @@
 -- Assumes nothing.
 use mathlib.Core.Path.{refl}
 use Rattle.lists.proofs.Unique.{Determined, _same_, _&_}
-use Rattle.values.proofs.OneFound.{one-mme, one-mce, one-session, one-tmgi, one-cause, one-wait}
+use Rattle.values.proofs.OneFound.{one-mme, one-mce, one-one, one-two, one-tmgi, one-cause, one-wait}
 use Rattle.values.proofs.mme_at.Kinds as mme-at'
 use Rattle.values.proofs.mme_at.Reads as mme-at
 use Rattle.values.proofs.mce_at.Kinds as mce-at'
 use Rattle.values.proofs.mce_at.Reads as mce-at
-use Rattle.values.proofs.session_at.Kinds as session-at'
-use Rattle.values.proofs.session_at.Reads as session-at
+use Rattle.values.proofs.one_at.Kinds as one-at'
+use Rattle.values.proofs.one_at.Reads as one-at
+use Rattle.values.proofs.two_at.Kinds as two-at'
+use Rattle.values.proofs.two_at.Reads as two-at
 use Rattle.values.proofs.tmgi_at.Kinds as tmgi-at'
 use Rattle.values.proofs.tmgi_at.Reads as tmgi-at
 use Rattle.values.proofs.cause_at.Kinds as cause-at'
@@ -34,8 +36,11 @@ mme-at-is κs a p x y e f = one-mme (e same f) & refl
 pub mce-at-is : Determined mce-at'.ps mce-at'.r mce-at.Asked mce-at.Learnt
 mce-at-is κs a p x y e f = one-mce (e same f) & refl
 
-pub session-at-is : Determined session-at'.ps session-at'.r session-at.Asked session-at.Learnt
-session-at-is κs a p x y e f = one-session (e same f) & refl
+pub one-at-is : Determined one-at'.ps one-at'.r one-at.Asked one-at.Learnt
+one-at-is κs a p x y e f = one-one (e same f) & refl
+
+pub two-at-is : Determined two-at'.ps two-at'.r two-at.Asked two-at.Learnt
+two-at-is κs a p x y e f = one-two (e same f) & refl
 
 pub tmgi-at-is : Determined tmgi-at'.ps tmgi-at'.r tmgi-at.Asked tmgi-at.Learnt
 tmgi-at-is κs a p x y e f = one-tmgi (e same f) & refl

@@ -12,7 +12,7 @@ use Rattle.octets.proofs.Again.{value-below}
 use Rattle.identity.specs.declared.MmeId.{MmeId}
 use Rattle.identity.specs.declared.MceId.{MceId}
 use Rattle.values.specs.declared.Cause.{Cause}
-use Rattle.values.specs.Values.{wholeAt, mmeAt, mceAt, sessionAt, rootOf, bitsOfRoot, causeAt, waitAt}
+use Rattle.values.specs.Values.{wholeAt, mmeAt, mceAt, oneAt, twoAt, rootOf, bitsOfRoot, causeAt, waitAt}
 use Rattle.values.specs.Written.{GoodCause}
 
 whole-good : (k : ℕ) (s : List ℕ) (at : ℕ) {v : ℕ} → Octets s → got v ≡ wholeAt k s at → v < 256 ^ k
@@ -30,9 +30,13 @@ module _ (s : List ℕ) (at : ℕ) where
   unfolding mceAt
   mce-good o q = let a = then-got (wholeAt 2 s at) _ q in subst (λ (x : MceId). x .0 < 65536) (sym (same-got (a .2))) (whole-good 2 s at o (a .1))
 
-  pub session-good : {v : ℕ} → Octets s → got v ≡ sessionAt s at → v < 256
-  unfolding sessionAt
-  session-good o q = whole-good 1 s at o q
+  pub one-good : {v : ℕ} → Octets s → got v ≡ oneAt s at → v < 256
+  unfolding oneAt
+  one-good o q = whole-good 1 s at o q
+
+  pub two-good : {v : ℕ} → Octets s → got v ≡ twoAt s at → v < 65536
+  unfolding twoAt
+  two-good o q = whole-good 2 s at o q
 
   pub cause-good : {c : Cause} → got c ≡ causeAt s at → GoodCause c
   unfolding causeAt

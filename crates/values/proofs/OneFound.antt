@@ -12,15 +12,17 @@ use Rattle.values.specs.declared.MmeRead.{MmeRead}
 use Rattle.values.specs.declared.MmeRead.the-variants as mmeRead
 use Rattle.values.specs.declared.MceRead.{MceRead}
 use Rattle.values.specs.declared.MceRead.the-variants as mceRead
-use Rattle.values.specs.declared.SessionRead.{SessionRead}
-use Rattle.values.specs.declared.SessionRead.the-variants as sessionRead
+use Rattle.values.specs.declared.OneRead.{OneRead}
+use Rattle.values.specs.declared.OneRead.the-variants as oneRead
+use Rattle.values.specs.declared.TwoRead.{TwoRead}
+use Rattle.values.specs.declared.TwoRead.the-variants as twoRead
 use Rattle.values.specs.declared.TmgiRead.{TmgiRead}
 use Rattle.values.specs.declared.TmgiRead.the-variants as tmgiRead
 use Rattle.values.specs.declared.CauseRead.{CauseRead}
 use Rattle.values.specs.declared.CauseRead.the-variants as causeRead
 use Rattle.values.specs.declared.WaitRead.{WaitRead}
 use Rattle.values.specs.declared.WaitRead.the-variants as waitRead
-use Rattle.values.specs.Found.{foundMme, foundMce, foundSession, foundTmgi, foundCause, foundWait}
+use Rattle.values.specs.Found.{foundMme, foundMce, foundOneOctet, foundTwoOctets, foundTmgi, foundCause, foundWait}
 
 pub one-mme : {x y : MmeRead} → foundMme x ≡ foundMme y → x ≡ y
 one-mme = one-found foundMme back undo
@@ -44,16 +46,27 @@ one-mce = one-found foundMce back undo
     undo (mceRead.Is v) = refl
     undo (mceRead.Stop x) = refl
 
-pub one-session : {x y : SessionRead} → foundSession x ≡ foundSession y → x ≡ y
-one-session = one-found foundSession back undo
+pub one-one : {x y : OneRead} → foundOneOctet x ≡ foundOneOctet y → x ≡ y
+one-one = one-found foundOneOctet back undo
   where
-    back : Read ℕ → SessionRead
-    back (got v) = sessionRead.Is v
-    back (stop x) = sessionRead.Stop x
+    back : Read ℕ → OneRead
+    back (got v) = oneRead.Is v
+    back (stop x) = oneRead.Stop x
 
-    undo : (e : SessionRead) → back (foundSession e) ≡ e
-    undo (sessionRead.Is v) = refl
-    undo (sessionRead.Stop x) = refl
+    undo : (e : OneRead) → back (foundOneOctet e) ≡ e
+    undo (oneRead.Is v) = refl
+    undo (oneRead.Stop x) = refl
+
+pub one-two : {x y : TwoRead} → foundTwoOctets x ≡ foundTwoOctets y → x ≡ y
+one-two = one-found foundTwoOctets back undo
+  where
+    back : Read ℕ → TwoRead
+    back (got v) = twoRead.Is v
+    back (stop x) = twoRead.Stop x
+
+    undo : (e : TwoRead) → back (foundTwoOctets e) ≡ e
+    undo (twoRead.Is v) = refl
+    undo (twoRead.Stop x) = refl
 
 pub one-tmgi : {x y : TmgiRead} → foundTmgi x ≡ foundTmgi y → x ≡ y
 one-tmgi = one-found foundTmgi back undo

@@ -9,8 +9,10 @@ use Rattle.values.specs.declared.MmeRead.{MmeRead}
 use Rattle.values.specs.declared.MmeRead.the-variants as mmeRead
 use Rattle.values.specs.declared.MceRead.{MceRead}
 use Rattle.values.specs.declared.MceRead.the-variants as mceRead
-use Rattle.values.specs.declared.SessionRead.{SessionRead}
-use Rattle.values.specs.declared.SessionRead.the-variants as sessionRead
+use Rattle.values.specs.declared.OneRead.{OneRead}
+use Rattle.values.specs.declared.OneRead.the-variants as oneRead
+use Rattle.values.specs.declared.TwoRead.{TwoRead}
+use Rattle.values.specs.declared.TwoRead.the-variants as twoRead
 use Rattle.values.specs.declared.TmgiRead.{TmgiRead}
 use Rattle.values.specs.declared.TmgiRead.the-variants as tmgiRead
 use Rattle.values.specs.declared.CauseRead.{CauseRead}
@@ -26,9 +28,13 @@ abbrev pub foundMce : MceRead → Read MceId
 foundMce (mceRead.Is v) = got v
 foundMce (mceRead.Stop x) = stop x
 
-abbrev pub foundSession : SessionRead → Read ℕ
-foundSession (sessionRead.Is v) = got v
-foundSession (sessionRead.Stop x) = stop x
+abbrev pub foundOneOctet : OneRead → Read ℕ
+foundOneOctet (oneRead.Is v) = got v
+foundOneOctet (oneRead.Stop x) = stop x
+
+abbrev pub foundTwoOctets : TwoRead → Read ℕ
+foundTwoOctets (twoRead.Is v) = got v
+foundTwoOctets (twoRead.Stop x) = stop x
 
 abbrev pub foundTmgi : TmgiRead → Read Tmgi
 foundTmgi (tmgiRead.Is v) = got v

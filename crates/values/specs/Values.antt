@@ -24,9 +24,13 @@ mmeAt s at = wholeAt 2 s at >>= λ v. got (record { 0 = v })
 unfoldable pub mceAt : List ℕ → ℕ → Read MceId
 mceAt s at = wholeAt 2 s at >>= λ v. got (record { 0 = v })
 
--- MBMS-Session-ID ::= OCTET STRING (SIZE (1))
-unfoldable pub sessionAt : List ℕ → ℕ → Read ℕ
-sessionAt s at = wholeAt 1 s at
+-- M3AP's MBMS-Session-ID ::= OCTET STRING (SIZE (1)), SBc-AP's Cause ::= INTEGER (0..255)
+unfoldable pub oneAt : List ℕ → ℕ → Read ℕ
+oneAt s at = wholeAt 1 s at
+
+-- SBc-AP's Message-Identifier and Serial-Number ::= BIT STRING (SIZE (16))
+unfoldable pub twoAt : List ℕ → ℕ → Read ℕ
+twoAt s at = wholeAt 2 s at
 
 -- TMGI ::= SEQUENCE { pLMNidentity, serviceID OCTET STRING (SIZE (3)), iE-Extensions OPTIONAL }, with no extension mark: no extension bit
 unfoldable pub tmgiAt : List ℕ → ℕ → Read Tmgi

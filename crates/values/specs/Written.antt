@@ -18,8 +18,11 @@ mmeOctets v = numberOctets 2 (v .0)
 abbrev pub mceOctets : MceId → List ℕ
 mceOctets v = numberOctets 2 (v .0)
 
-abbrev pub sessionOctets : ℕ → List ℕ
-sessionOctets v = numberOctets 1 v
+abbrev pub oneOctets : ℕ → List ℕ
+oneOctets v = numberOctets 1 v
+
+abbrev pub twoOctets : ℕ → List ℕ
+twoOctets v = numberOctets 2 v
 
 -- no extensions present; PLMN; service
 unfoldable pub tmgiOctets : Tmgi → List ℕ

@@ -1,9 +1,8 @@
 // The values that are read in full, each from the begin of its octets to the end of what encloses it:
-// identities, TMGI, Session Identity, Cause, Time to Wait.
+// identities, TMGI, numbers of one octet and of two, Cause, Time to Wait.
 ghost use mathlib.Core.Path.{_≡_};
-ghost use Rattle.octets.specs.Found.{foundTwo};
-ghost use Rattle.values.specs.Found.{foundMme, foundMce, foundSession, foundTmgi, foundCause, foundWait};
-ghost use Rattle.values.specs.Values.{wholeAt, mmeAt, mceAt, sessionAt, tmgiAt, rootOf, bitsOfRoot, causeAt, waitAt, seconds};
+ghost use Rattle.values.specs.Found.{foundMme, foundMce, foundOneOctet, foundTwoOctets, foundTmgi, foundCause, foundWait};
+ghost use Rattle.values.specs.Values.{mmeAt, mceAt, oneAt, twoAt, tmgiAt, rootOf, bitsOfRoot, causeAt, waitAt, seconds};
 use identity::MceId;
 use identity::MmeId;
 use identity::Plmn;
@@ -31,8 +30,13 @@ pub enum MceRead {
     Stop(Stop),
 }
 
-pub enum SessionRead {
+pub enum OneRead {
     Is(u8),
+    Stop(Stop),
+}
+
+pub enum TwoRead {
+    Is(u16),
     Stop(Stop),
 }
 
@@ -52,51 +56,52 @@ pub enum WaitRead {
 }
 
 // A number of two octets and nothing behind it.
-fn whole_two_at(s: &[u8], at: usize) -> Two
-    ensures { λ r. ⌜ foundTwo r ≡ wholeAt 2 (now (s .entry)) at ⌝ }
+pub fn two_at(s: &[u8], at: usize) -> TwoRead
+    ensures { λ r. ⌜ foundTwoOctets r ≡ twoAt (now (s .entry)) at ⌝ }
 {
     let v = match octets::two_at(s, at) {
         Two::Is(v) => v,
         Two::Stop(x) => {
-            return Two::Stop(x);
+            return TwoRead::Stop(x);
         }
     };
     match octets::ends_at(s, at + 2) {
-        Gate::Pass => Two::Is(v),
-        Gate::Stop(x) => Two::Stop(x),
+        Gate::Pass => TwoRead::Is(v),
+        Gate::Stop(x) => TwoRead::Stop(x),
     }
 }
 
 pub fn mme_at(s: &[u8], at: usize) -> MmeRead
     ensures { λ r. ⌜ foundMme r ≡ mmeAt (now (s .entry)) at ⌝ }
 {
-    match whole_two_at(s, at) {
-        Two::Is(v) => MmeRead::Is(MmeId(v)),
-        Two::Stop(x) => MmeRead::Stop(x),
+    match two_at(s, at) {
+        TwoRead::Is(v) => MmeRead::Is(MmeId(v)),
+        TwoRead::Stop(x) => MmeRead::Stop(x),
     }
 }
 
 pub fn mce_at(s: &[u8], at: usize) -> MceRead
     ensures { λ r. ⌜ foundMce r ≡ mceAt (now (s .entry)) at ⌝ }
 {
-    match whole_two_at(s, at) {
-        Two::Is(v) => MceRead::Is(MceId(v)),
-        Two::Stop(x) => MceRead::Stop(x),
+    match two_at(s, at) {
+        TwoRead::Is(v) => MceRead::Is(MceId(v)),
+        TwoRead::Stop(x) => MceRead::Stop(x),
     }
 }
 
-pub fn session_at(s: &[u8], at: usize) -> SessionRead
-    ensures { λ r. ⌜ foundSession r ≡ sessionAt (now (s .entry)) at ⌝ }
+// A number of one octet and nothing behind it.
+pub fn one_at(s: &[u8], at: usize) -> OneRead
+    ensures { λ r. ⌜ foundOneOctet r ≡ oneAt (now (s .entry)) at ⌝ }
 {
     let v = match octets::octet_at(s, at) {
         Octet::Is(v) => v,
         Octet::Stop(x) => {
-            return SessionRead::Stop(x);
+            return OneRead::Stop(x);
         }
     };
     match octets::ends_at(s, at + 1) {
-        Gate::Pass => SessionRead::Is(v),
-        Gate::Stop(x) => SessionRead::Stop(x),
+        Gate::Pass => OneRead::Is(v),
+        Gate::Stop(x) => OneRead::Stop(x),
     }
 }
 

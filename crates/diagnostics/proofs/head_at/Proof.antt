@@ -23,8 +23,8 @@ marks c = told foundMarks (c .before .v .given .1) (c .before .before .before .m
 code : (c : tie.After-known-told3) → got (c .before .v2 .given .0 .0) ≡ codeAt (c .before .before .before .before .before .before .before .before .v .given .0 .0 .code) (now (c .before .before .before .before .before .before .before .before .before .before .before .before .args .s)) (c .before .before .before .before .before .before .before .before .before .before .before .before .args .at)
 code c = told foundNumber (c .before .v2 .given .1) (c .before .before .before .code-at .ensures)
 
-trigger : (c : tie.After-known-told5) → got (c .before .v3 .given .0 .0) ≡ maybeAt (c .before .before .before .before .before .before .before .before .before .before .before .before .v .given .0 .0 .trigger) (now (c .before .before .before .before .before .before .before .before .before .before .before .before .before .before .before .before .args .s)) (c .before .before .before .before .before .before .before .before .before .before .before .before .before .before .before .before .args .at) (behindCode (marksIn (c .before .before .before .before .before .before .before .before .before .before .before .before .v .given .0 .0)))
-trigger c = told foundNumber (c .before .v3 .given .1) (c .before .before .before .maybe-at .ensures ∙ ap (maybeAt _ _ _) (c .before .before .before .before .before .before .before .before .before .before .after-bits .ensures))
+trigger : (c : tie.After-known-told5) → got (c .before .v3 .given .0 .0) ≡ maybeAt (c .before .before .before .before .before .before .before .before .before .before .before .before .before .before .before .before .args .n) (c .before .before .before .before .before .before .before .before .before .before .before .before .v .given .0 .0 .trigger) (now (c .before .before .before .before .before .before .before .before .before .before .before .before .before .before .before .before .args .s)) (c .before .before .before .before .before .before .before .before .before .before .before .before .before .before .before .before .args .at) (behindCode (marksIn (c .before .before .before .before .before .before .before .before .before .before .before .before .v .given .0 .0)))
+trigger c = told foundNumber (c .before .v3 .given .1) (c .before .before .before .maybe-at .ensures ∙ ap (maybeAt _ _ _ _) (c .before .before .before .before .before .before .before .before .before .before .after-bits .ensures))
 
 -- the bits up to the criticality, and up to its end
 second : (c : tie.After-after-bits2) → c .after-bits2 .result ≡ behindTrigger (marksIn (c .before .before .before .v .given .0 .0))
@@ -33,8 +33,8 @@ second c = c .after-bits2 .ensures ∙ ap (after (c .before .before .before .v .
 third : (c : tie.After-after-bits3) → c .after-bits3 .result ≡ behindCrit (marksIn (c .before .before .before .before .v .given .0 .0))
 third c = c .after-bits3 .ensures ∙ ap (after (c .before .before .before .before .v .given .0 .0 .crit) 2) (second (c .before))
 
-crit : (c : tie.After-known-told7) → got (c .before .v4 .given .0 .0) ≡ maybeAt (c .before .before .before .before .before .before .before .before .before .before .before .before .before .before .before .before .v .given .0 .0 .crit) (now (c .before .before .before .before .before .before .before .before .before .before .before .before .before .before .before .before .before .before .before .before .args .s)) (c .before .before .before .before .before .before .before .before .before .before .before .before .before .before .before .before .before .before .before .before .args .at) (behindTrigger (marksIn (c .before .before .before .before .before .before .before .before .before .before .before .before .before .before .before .before .v .given .0 .0)))
-crit c = told foundNumber (c .before .v4 .given .1) (c .before .before .before .maybe-at2 .ensures ∙ ap (maybeAt _ _ _) (second (c .before .before .before .before .before .before .before .before .before .before .before .before .before)))
+crit : (c : tie.After-known-told7) → got (c .before .v4 .given .0 .0) ≡ maybeAt 3 (c .before .before .before .before .before .before .before .before .before .before .before .before .before .before .before .before .v .given .0 .0 .crit) (now (c .before .before .before .before .before .before .before .before .before .before .before .before .before .before .before .before .before .before .before .before .args .s)) (c .before .before .before .before .before .before .before .before .before .before .before .before .before .before .before .before .before .before .before .before .args .at) (behindTrigger (marksIn (c .before .before .before .before .before .before .before .before .before .before .before .before .before .before .before .before .v .given .0 .0)))
+crit c = told foundNumber (c .before .v4 .given .1) (c .before .before .before .maybe-at2 .ensures ∙ ap (maybeAt _ _ _ _) (second (c .before .before .before .before .before .before .before .before .before .before .before .before .before)))
 
 pad : (c : tie.After-pad-at) → foundGate (c .pad-at .result) ≡ padAt (now (c .before .before .before .before .before .before .before .before .before .before .before .before .before .before .before .before .before .before .before .before .before .before .args .s)) (c .before .before .before .before .before .before .before .before .before .before .before .before .before .before .before .before .before .before .before .before .before .before .args .at + behindCrit (marksIn (c .before .before .before .before .before .before .before .before .before .before .before .before .before .before .before .before .before .before .v .given .0 .0)) / 8) (behindCrit (marksIn (c .before .before .before .before .before .before .before .before .before .before .before .before .before .before .before .before .before .before .v .given .0 .0)))
 pad c = rw (← third (c .before .before .before .before .before .before .before .before .before .before .before .before .before .before), ← c .before .wide .ensures) (c .pad-at .ensures)
@@ -89,7 +89,7 @@ enum-known-x-3 c = search needs
 
 returns-3 : tie.Need-returns-3
 unfolding headAt
-returns-3 c = past _ _ (marks (c .before .before .before .before .before .before .before .before .before .before .before)) (past _ _ (code (c .before .before .before .before)) (halt _ (told foundNumber (c .before .x3 .given .1) (c .before .before .before .maybe-at .ensures ∙ ap (maybeAt _ _ _) (c .before .before .before .before .before .before .before .before .before .before .after-bits .ensures)))))
+returns-3 c = past _ _ (marks (c .before .before .before .before .before .before .before .before .before .before .before)) (past _ _ (code (c .before .before .before .before)) (halt _ (told foundNumber (c .before .x3 .given .1) (c .before .before .before .maybe-at .ensures ∙ ap (maybeAt _ _ _ _) (c .before .before .before .before .before .before .before .before .before .before .after-bits .ensures)))))
 
 maybe-at-requires-2 : tie.Need-maybe-at-requires-2
 maybe-at-requires-2 c κs = begun (c .before .before .before .before .before .before .before .before .before .before .before)
@@ -102,13 +102,13 @@ enum-known-x-4 c = search needs
 
 returns-4 : tie.Need-returns-4
 unfolding headAt
-returns-4 c = past _ _ (marks (c .before .before .before .before .before .before .before .before .before .before .before .before .before .before .before)) (past _ _ (code (c .before .before .before .before .before .before .before .before)) (past _ _ (trigger (c .before .before .before .before)) (halt _ (told foundNumber (c .before .x4 .given .1) (c .before .before .before .maybe-at2 .ensures ∙ ap (maybeAt _ _ _) (second (c .before .before .before .before .before .before .before .before .before .before .before .before .before)))))))
+returns-4 c = past _ _ (marks (c .before .before .before .before .before .before .before .before .before .before .before .before .before .before .before)) (past _ _ (code (c .before .before .before .before .before .before .before .before)) (past _ _ (trigger (c .before .before .before .before)) (halt _ (told foundNumber (c .before .x4 .given .1) (c .before .before .before .maybe-at2 .ensures ∙ ap (maybeAt _ _ _ _) (second (c .before .before .before .before .before .before .before .before .before .before .before .before .before)))))))
 
 wide-requires : tie.Need-wide-requires
 wide-requires c κs = search needs
 
 add-pad-at : tie.Need-add-pad-at
-add-pad-at c = omega (arith, begun (c .before .before .before .before .before .before .before .before .before .before .before .before .before .before .before .before), c .before .before .before .before .before .before .before .before .before .before .before .before .before .before .before .before .before .before .before .before .before .good .0 .1)
+add-pad-at c = omega (arith, begun (c .before .before .before .before .before .before .before .before .before .before .before .before .before .before .before .before), c .before .before .before .before .before .before .before .before .before .before .before .before .before .before .before .before .before .before .before .before .before .good .1 .0 .1)
 
 pad-at-requires : tie.Need-pad-at-requires
 pad-at-requires c κs = search needs
@@ -122,8 +122,8 @@ add-wide c = omega (arith, after-le (c .before .before .before .before .before .
 wide-requires-2 : tie.Need-wide-requires-2
 wide-requires-2 c κs = search needs
 
-add-t36 : tie.Need-add-t36
-add-t36 c = omega (arith, begun (c .before .before .before .before .before .before .before .before .before .before .before .before .before .before .before .before .before .before .before .before), c .before .before .before .before .before .before .before .before .before .before .before .before .before .before .before .before .before .before .before .before .before .before .before .before .before .good .0 .1)
+add-t37 : tie.Need-add-t37
+add-t37 c = omega (arith, begun (c .before .before .before .before .before .before .before .before .before .before .before .before .before .before .before .before .before .before .before .before), c .before .before .before .before .before .before .before .before .before .before .before .before .before .before .before .before .before .before .before .before .before .before .before .before .before .good .1 .0 .1)
 
 enum-known-x-5 : tie.Need-enum-known-x-5
 enum-known-x-5 c = search needs
@@ -165,7 +165,7 @@ head-at-spec =
     enum-told
     add-wide
     wide-requires-2
-    add-t36
+    add-t37
     enum-known-x-5
     returns-5
     returns-6)

@@ -2,7 +2,7 @@
 use denote.Ref.{now}
 use mathlib.Core.Path.{refl}
 use Rattle.octets.proofs.Chain.{past, halt, told}
-use Rattle.values.specs.Found.{foundMme, foundMce, foundTmgi, foundSession, foundCause}
+use Rattle.values.specs.Found.{foundMme, foundMce, foundTmgi, foundOneOctet, foundTwoOctets, foundCause}
 use Rattle.kinds.specs.Kinds.{valueAt}
 use Rattle.kinds.proofs.Laws.{of-kind, carried}
 use borrow.Author.Needs.{needs}
@@ -51,8 +51,8 @@ enum-known-x-3 c = search needs
 enum-told-8 : tie.Need-enum-told-8
 enum-told-8 c = search needs
 
-session-at-requires : tie.Need-session-at-requires
-session-at-requires c κs = search needs
+one-at-requires : tie.Need-one-at-requires
+one-at-requires c κs = search needs
 
 enum-told-9 : tie.Need-enum-told-9
 enum-told-9 c = search needs
@@ -63,8 +63,8 @@ enum-known-x-4 c = search needs
 enum-told-10 : tie.Need-enum-told-10
 enum-told-10 c = search needs
 
-cause-at-requires : tie.Need-cause-at-requires
-cause-at-requires c κs = search needs
+two-at-requires : tie.Need-two-at-requires
+two-at-requires c κs = search needs
 
 enum-told-11 : tie.Need-enum-told-11
 enum-told-11 c = search needs
@@ -75,29 +75,44 @@ enum-known-x-5 c = search needs
 enum-told-12 : tie.Need-enum-told-12
 enum-told-12 c = search needs
 
-wait-gate-requires : tie.Need-wait-gate-requires
-wait-gate-requires c κs = search needs
+cause-at-requires : tie.Need-cause-at-requires
+cause-at-requires c κs = search needs
 
 enum-told-13 : tie.Need-enum-told-13
 enum-told-13 c = search needs
 
-name-gate-requires : tie.Need-name-gate-requires
-name-gate-requires c κs = search needs
+enum-known-x-6 : tie.Need-enum-known-x-6
+enum-known-x-6 c = search needs
 
 enum-told-14 : tie.Need-enum-told-14
 enum-told-14 c = search needs
 
-reset-gate-requires : tie.Need-reset-gate-requires
-reset-gate-requires c κs = search needs
+wait-gate-requires : tie.Need-wait-gate-requires
+wait-gate-requires c κs = search needs
 
 enum-told-15 : tie.Need-enum-told-15
 enum-told-15 c = search needs
 
-items-gate-requires : tie.Need-items-gate-requires
-items-gate-requires c κs = search needs
+name-gate-requires : tie.Need-name-gate-requires
+name-gate-requires c κs = search needs
 
 enum-told-16 : tie.Need-enum-told-16
 enum-told-16 c = search needs
+
+reset-gate-requires : tie.Need-reset-gate-requires
+reset-gate-requires c κs = search needs
+
+enum-told-17 : tie.Need-enum-told-17
+enum-told-17 c = search needs
+
+items-gate-requires : tie.Need-items-gate-requires
+items-gate-requires c κs = search needs
+
+enum-known-kind : tie.Need-enum-known-kind
+enum-known-kind c = search needs
+
+meanings-requires : tie.Need-meanings-requires
+meanings-requires c κs = search needs
 
 diagnostics-gate-requires : tie.Need-diagnostics-gate-requires
 diagnostics-gate-requires c κs = search needs
@@ -131,37 +146,45 @@ returns-7 c = of-kind (now (c .before .before .before .before .before .before .b
 
 returns-8 : tie.Need-returns-8
 unfolding valueAt
-returns-8 c = of-kind (now (c .before .before .before .before .before .before .args .s)) (c .before .before .before .before .before .before .args .at) (c .before .before .before .enum-told8 .given .1) (past _ _ (told foundSession (c .enum-told9 .given .1) (c .before .before .session-at .ensures)) refl)
+returns-8 c = of-kind (now (c .before .before .before .before .before .before .args .s)) (c .before .before .before .before .before .before .args .at) (c .before .before .before .enum-told8 .given .1) (past _ _ (told foundOneOctet (c .enum-told9 .given .1) (c .before .before .one-at .ensures)) refl)
 
 returns-9 : tie.Need-returns-9
 unfolding valueAt
-returns-9 c = of-kind (now (c .before .before .before .before .before .before .before .args .s)) (c .before .before .before .before .before .before .before .args .at) (c .before .before .before .before .enum-told8 .given .1) (halt _ (told foundSession (c .before .x4 .given .1) (c .before .before .before .session-at .ensures)))
+returns-9 c = of-kind (now (c .before .before .before .before .before .before .before .args .s)) (c .before .before .before .before .before .before .before .args .at) (c .before .before .before .before .enum-told8 .given .1) (halt _ (told foundOneOctet (c .before .x4 .given .1) (c .before .before .before .one-at .ensures)))
 
 returns-10 : tie.Need-returns-10
 unfolding valueAt
-returns-10 c = of-kind (now (c .before .before .before .before .before .before .args .s)) (c .before .before .before .before .before .before .args .at) (c .before .before .before .enum-told10 .given .1) (past _ _ (told foundCause (c .enum-told11 .given .1) (c .before .before .cause-at .ensures)) refl)
+returns-10 c = of-kind (now (c .before .before .before .before .before .before .args .s)) (c .before .before .before .before .before .before .args .at) (c .before .before .before .enum-told10 .given .1) (past _ _ (told foundTwoOctets (c .enum-told11 .given .1) (c .before .before .two-at .ensures)) refl)
 
 returns-11 : tie.Need-returns-11
 unfolding valueAt
-returns-11 c = of-kind (now (c .before .before .before .before .before .before .before .args .s)) (c .before .before .before .before .before .before .before .args .at) (c .before .before .before .before .enum-told10 .given .1) (halt _ (told foundCause (c .before .x5 .given .1) (c .before .before .before .cause-at .ensures)))
+returns-11 c = of-kind (now (c .before .before .before .before .before .before .before .args .s)) (c .before .before .before .before .before .before .before .args .at) (c .before .before .before .before .enum-told10 .given .1) (halt _ (told foundTwoOctets (c .before .x5 .given .1) (c .before .before .before .two-at .ensures)))
 
 returns-12 : tie.Need-returns-12
-returns-12 c = of-kind (now (c .before .before .before .before .args .s)) (c .before .before .before .before .args .at) (c .before .enum-told12 .given .1) (c .wait-gate .ensures)
+unfolding valueAt
+returns-12 c = of-kind (now (c .before .before .before .before .before .before .args .s)) (c .before .before .before .before .before .before .args .at) (c .before .before .before .enum-told12 .given .1) (past _ _ (told foundCause (c .enum-told13 .given .1) (c .before .before .cause-at .ensures)) refl)
 
 returns-13 : tie.Need-returns-13
-returns-13 c = of-kind (now (c .before .before .before .before .args .s)) (c .before .before .before .before .args .at) (c .before .enum-told13 .given .1) (c .name-gate .ensures)
+unfolding valueAt
+returns-13 c = of-kind (now (c .before .before .before .before .before .before .before .args .s)) (c .before .before .before .before .before .before .before .args .at) (c .before .before .before .before .enum-told12 .given .1) (halt _ (told foundCause (c .before .x6 .given .1) (c .before .before .before .cause-at .ensures)))
 
 returns-14 : tie.Need-returns-14
-unfolding valueAt
-returns-14 c = of-kind (now (c .before .before .before .before .args .s)) (c .before .before .before .before .args .at) (c .before .enum-told14 .given .1) (c .reset-gate .ensures)
+returns-14 c = of-kind (now (c .before .before .before .before .args .s)) (c .before .before .before .before .args .at) (c .before .enum-told14 .given .1) (c .wait-gate .ensures)
 
 returns-15 : tie.Need-returns-15
-unfolding valueAt
-returns-15 c = of-kind (now (c .before .before .before .before .args .s)) (c .before .before .before .before .args .at) (c .before .enum-told15 .given .1) (c .items-gate .ensures)
+returns-15 c = of-kind (now (c .before .before .before .before .args .s)) (c .before .before .before .before .args .at) (c .before .enum-told15 .given .1) (c .name-gate .ensures)
 
 returns-16 : tie.Need-returns-16
 unfolding valueAt
-returns-16 c = of-kind (now (c .before .before .before .before .args .s)) (c .before .before .before .before .args .at) (c .before .enum-told16 .given .1) (c .diagnostics-gate .ensures)
+returns-16 c = of-kind (now (c .before .before .before .before .args .s)) (c .before .before .before .before .args .at) (c .before .enum-told16 .given .1) (c .reset-gate .ensures)
+
+returns-17 : tie.Need-returns-17
+unfolding valueAt
+returns-17 c = of-kind (now (c .before .before .before .before .args .s)) (c .before .before .before .before .args .at) (c .before .enum-told17 .given .1) (c .items-gate .ensures)
+
+returns-18 : tie.Need-returns-18
+unfolding valueAt
+returns-18 c = of-kind (now (c .before .before .before .before .before .before .args .s)) (c .before .before .before .before .before .before .args .at) (c .before .before .before .kind .given .1) (rw (c .before .meanings .ensures) at (c .diagnostics-gate .ensures))
 
 pub value-at-spec : {M : Type 1} → statement M
 value-at-spec =
@@ -181,22 +204,27 @@ value-at-spec =
     enum-told-7
     enum-known-x-3
     enum-told-8
-    session-at-requires
+    one-at-requires
     enum-told-9
     enum-known-x-4
     enum-told-10
-    cause-at-requires
+    two-at-requires
     enum-told-11
     enum-known-x-5
     enum-told-12
-    wait-gate-requires
+    cause-at-requires
     enum-told-13
-    name-gate-requires
+    enum-known-x-6
     enum-told-14
-    reset-gate-requires
+    wait-gate-requires
     enum-told-15
-    items-gate-requires
+    name-gate-requires
     enum-told-16
+    reset-gate-requires
+    enum-told-17
+    items-gate-requires
+    enum-known-kind
+    meanings-requires
     diagnostics-gate-requires
     returns
     returns-2
@@ -213,4 +241,6 @@ value-at-spec =
     returns-13
     returns-14
     returns-15
-    returns-16)
+    returns-16
+    returns-17
+    returns-18)

@@ -8,6 +8,9 @@ use borrow.Author.Needs.{needs}
 use Rattle.reader.proofs.diagnostics_slot.Statement.{statement}
 use Rattle.reader.proofs.diagnostics_slot.Tie as tie
 
+meanings-requires : tie.Need-meanings-requires
+meanings-requires c κs = search needs
+
 head-at-requires : tie.Need-head-at-requires
 head-at-requires c κs = search needs
 
@@ -28,18 +31,19 @@ same-length c = search needs
 
 returns : tie.Need-returns
 unfolding slotOf _>>=_
-returns c = let x = head-is _ _ _ _ (told foundHead (c .before .before .before .before .before .h .given .1) (c .before .before .before .before .before .before .before .head-at .ensures)) (c .before .before .before .before .before .before .before .before .before .before .pre .1) in rw (x .2) (c .before .before .put-head .ensures)
+returns c = let x = head-is _ _ _ _ _ (told foundHead (c .before .before .before .before .before .h .given .1) (rw (c .before .before .before .before .before .before .before .before .meanings .ensures) at (c .before .before .before .before .before .before .before .head-at .ensures))) (c .before .before .before .before .before .before .before .before .before .before .before .pre .1) in rw (x .2) (c .before .before .put-head .ensures)
 
 same-length-2 : tie.Need-same-length-2
 same-length-2 c = search needs
 
 returns-2 : tie.Need-returns-2
-returns-2 c = head-none _ _ (told foundHead (c .before .before .before .before .enum-told .given .1) (c .before .before .before .before .before .before .head-at .ensures)) (c .before .before .before .before .before .before .before .before .before .pre .1)
+returns-2 c = head-none _ _ _ (told foundHead (c .before .before .before .before .enum-told .given .1) (rw (c .before .before .before .before .before .before .before .meanings .ensures) at (c .before .before .before .before .before .before .head-at .ensures))) (c .before .before .before .before .before .before .before .before .before .before .pre .1)
 
 pub diagnostics-slot-spec : {M : Type 1} → statement M
 diagnostics-slot-spec =
     tie.close
     (tie.spec
+    meanings-requires
     head-at-requires
     enum-known-h
     put-head-requires

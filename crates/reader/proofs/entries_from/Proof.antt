@@ -15,18 +15,18 @@ use Rattle.reader.proofs.entries_from.Tie as tie
 returns : tie.Need-returns
 returns c = no-entries-there _ _ _ (le-ltb 0 (c .before .before .args .v .to) (omega arith))
 
-enum-told : tie.Need-enum-told
-enum-told c = search needs
+enum-known-kind : tie.Need-enum-known-kind
+enum-known-kind c = search needs
 
 slice-aggregate-list-from : tie.Need-slice-aggregate-list-from
-slice-aggregate-list-from c = sym (length-take-le _ _ (c .before .before .before .before .before .pre (lt-ltb 0 (c .before .before .before .before .before .args .v .to) (omega arith)) .within))
+slice-aggregate-list-from c = sym (length-take-le _ _ (c .before .before .before .before .before .before .pre (lt-ltb 0 (c .before .before .before .before .before .before .args .v .to) (omega arith)) .within))
 
 list-from-requires : tie.Need-list-from-requires
 unfolding readAs
-list-from-requires c κs = got-of (diagnosticsAt _ _) _ (rw (c .before .enum-told .given .1) at (c .before .before .before .before .before .pre (lt-ltb 0 (c .before .before .before .before .before .args .v .to) (omega arith)) .value))
+list-from-requires c κs = got-of (diagnosticsAt _ _ _) _ (rw (c .before .before .kind .given .1) at (c .before .before .before .before .before .before .pre (lt-ltb 0 (c .before .before .before .before .before .before .args .v .to) (omega arith)) .value))
 
 returns-2 : tie.Need-returns-2
-returns-2 c = rw (c .before .before .enum-told .given .1) (diagnostics-entries (now (c .before .before .before .before .before .before .args .s)) (c .before .before .before .before .before .before .args .v) (c .list-from .result) (lt-ltb 0 (c .before .before .before .before .before .before .args .v .to) (omega arith)) (c .list-from .ensures))
+returns-2 c = rw (c .before .before .before .kind .given .1) (diagnostics-entries (now (c .before .before .before .before .before .before .before .args .s)) (c .before .before .before .before .before .before .before .args .v) (c .before .before .before .kind .given .0 .0) (c .list-from .result) (lt-ltb 0 (c .before .before .before .before .before .before .before .args .v .to) (omega arith)) (c .list-from .ensures))
 
 returns-3 : tie.Need-returns-3
 returns-3 c = no-entries _ _ _ (c .match .keys2)
@@ -34,4 +34,10 @@ returns-3 c = no-entries _ _ _ (c .match .keys2)
 pub entries-from-spec : {M : Type 1} → statement M
 entries-from-spec =
     tie.close
-    (tie.spec returns enum-told slice-aggregate-list-from list-from-requires returns-2 returns-3)
+    (tie.spec
+    returns
+    enum-known-kind
+    slice-aggregate-list-from
+    list-from-requires
+    returns-2
+    returns-3)

@@ -39,6 +39,9 @@ enum-told-10 c = search needs
 enum-told-11 : tie.Need-enum-told-11
 enum-told-11 c = search needs
 
+enum-told-12 : tie.Need-enum-told-12
+enum-told-12 c = search needs
+
 returns : tie.Need-returns
 returns c = rw (c .before .enum-told .given .1) (c .is-head .ensures)
 
@@ -72,6 +75,9 @@ returns-10 c = search needs
 returns-11 : tie.Need-returns-11
 returns-11 c = search needs
 
+returns-12 : tie.Need-returns-12
+returns-12 c = search needs
+
 pub is-head-of-spec : {M : Type 1} → statement M
 is-head-of-spec =
     tie.close
@@ -88,6 +94,7 @@ is-head-of-spec =
     enum-told-9
     enum-told-10
     enum-told-11
+    enum-told-12
     returns
     returns-2
     returns-3
@@ -98,4 +105,5 @@ is-head-of-spec =
     returns-8
     returns-9
     returns-10
-    returns-11)
+    returns-11
+    returns-12)

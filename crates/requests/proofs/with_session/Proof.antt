@@ -3,10 +3,10 @@ use mathlib.Core.Path.{sym}
 use borrow.Author.Needs.{needs}
 use Rattle.requests.proofs.with_session.Statement.{statement}
 use Rattle.requests.proofs.with_session.Tie as tie
-use Rattle.values.proofs.session_at.Reads as session-at-reads
+use Rattle.values.proofs.one_at.Reads as one-at-reads
 
-session-at-requires : tie.Need-session-at-requires
-session-at-requires c κs = search needs
+one-at-requires : tie.Need-one-at-requires
+one-at-requires c κs = search needs
 
 enum-known-v : tie.Need-enum-known-v
 enum-known-v c = search needs
@@ -15,11 +15,11 @@ enum-told : tie.Need-enum-told
 enum-told c = search needs
 
 returns : tie.Need-returns
-returns c = rw (sym (c .before .before .before .session-at .ensures), c .before .v .given .1)
+returns c = rw (sym (c .before .before .before .one-at .ensures), c .before .v .given .1)
 
 returns-2 : tie.Need-returns-2
-returns-2 c = rw (sym (c .before .before .session-at .ensures), c .enum-told .given .1)
+returns-2 c = rw (sym (c .before .before .one-at .ensures), c .enum-told .given .1)
 
 pub with-session-spec : {M : Type 1} → statement M
 with-session-spec =
-    tie.close (tie.spec session-at-requires enum-known-v enum-told returns returns-2)
+    tie.close (tie.spec one-at-requires enum-known-v enum-told returns returns-2)

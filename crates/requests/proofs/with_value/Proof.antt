@@ -5,7 +5,7 @@ use denote.Ref.{now}
 use borrow.Author.Needs.{needs}
 use lib.Seq.{length-take-le}
 use Rattle.rows.specs.declared.Kind.the-variants as kind
-use Rattle.values.specs.Values.{mmeAt, mceAt, tmgiAt, sessionAt, causeAt, waitAt}
+use Rattle.values.specs.Values.{mmeAt, mceAt, tmgiAt, oneAt, twoAt, causeAt, waitAt}
 use Rattle.names.specs.Names.{nameAt}
 use Rattle.items.specs.Items.{itemsAt, resetAt}
 use Rattle.diagnostics.specs.Diagnostics.{diagnosticsAt}
@@ -13,6 +13,7 @@ use Rattle.meaning.specs.Value as value
 use Rattle.meaning.specs.Reading.{readAs}
 use Rattle.requests.proofs.Laws.{none-there, seen-value, not-seen, carried-not-seen}
 use Rattle.requests.proofs.with_value.Statement.{statement}
+use Rattle.rows.specs.Table.{meanings}
 use Rattle.requests.proofs.with_value.Tie as tie
 
 returns : tie.Need-returns
@@ -84,6 +85,9 @@ enum-told-10 c = search needs
 enum-told-11 : tie.Need-enum-told-11
 enum-told-11 c = search needs
 
+enum-told-12 : tie.Need-enum-told-12
+enum-told-12 c = search needs
+
 slice-aggregate-with-wait : tie.Need-slice-aggregate-with-wait
 slice-aggregate-with-wait c = sym (length-take-le _ (now (c .before .before .before .before .before .before .before .args .s)) (omega (arith, c .before .before .before .lesser .ensures)))
 
@@ -104,7 +108,7 @@ returns-4 c = let a = c .before .before .before .before .before .before .before 
 
 returns-5 : tie.Need-returns-5
 unfolding readAs
-returns-5 c = let a = c .before .before .before .before .before .before .before .before .args in rw (c .before .before .enum-told4 .given .1) (seen-value kind.Session (now (a .s)) (a .v) (a .x) sessionAt value.session refl (omega (arith, c .before .before .before .before .before .if1 .left)) (c .before .before .before .before .lesser .ensures) (c .with-session .ensures))
+returns-5 c = let a = c .before .before .before .before .before .before .before .before .args in rw (c .before .before .enum-told4 .given .1) (seen-value kind.OneOctet (now (a .s)) (a .v) (a .x) oneAt value.one refl (omega (arith, c .before .before .before .before .before .if1 .left)) (c .before .before .before .before .lesser .ensures) (c .with-session .ensures))
 
 returns-6 : tie.Need-returns-6
 unfolding readAs
@@ -116,23 +120,27 @@ returns-7 c = let a = c .before .before .before .before .before .before .args in
 
 returns-8 : tie.Need-returns-8
 unfolding readAs
-returns-8 c = let a = c .before .before .before .before .before .before .args in rw (c .enum-told7 .given .1) (not-seen kind.Cause (now (a .s)) (a .v) (a .x) causeAt value.cause refl (λ _. refl))
+returns-8 c = let a = c .before .before .before .before .before .before .args in rw (c .enum-told7 .given .1) (not-seen kind.TwoOctets (now (a .s)) (a .v) (a .x) twoAt value.two refl (λ _. refl))
 
 returns-9 : tie.Need-returns-9
 unfolding readAs
-returns-9 c = let a = c .before .before .before .before .before .before .args in rw (c .enum-told8 .given .1) (not-seen kind.Acknowledged (now (a .s)) (a .v) (a .x) itemsAt value.list refl (λ _. refl))
+returns-9 c = let a = c .before .before .before .before .before .before .args in rw (c .enum-told8 .given .1) (not-seen kind.Cause (now (a .s)) (a .v) (a .x) causeAt value.cause refl (λ _. refl))
 
 returns-10 : tie.Need-returns-10
 unfolding readAs
-returns-10 c = let a = c .before .before .before .before .before .before .args in rw (c .enum-told9 .given .1) (not-seen kind.Diagnostics (now (a .s)) (a .v) (a .x) diagnosticsAt value.diagnostics refl (λ _. refl))
+returns-10 c = let a = c .before .before .before .before .before .before .args in rw (c .enum-told9 .given .1) (not-seen kind.Acknowledged (now (a .s)) (a .v) (a .x) itemsAt value.list refl (λ _. refl))
 
 returns-11 : tie.Need-returns-11
 unfolding readAs
-returns-11 c = let a = c .before .before .before .before .before .before .args in rw (c .enum-told10 .given .1) (not-seen kind.Name (now (a .s)) (a .v) (a .x) nameAt value.name refl (λ _. refl))
+returns-11 c = let a = c .before .before .before .before .before .before .args in rw (c .enum-told10 .given .1) (let t = c .enum-told10 .given .0 .0 in not-seen (kind.Diagnostics t) (now (a .s)) (a .v) (a .x) (diagnosticsAt (meanings t)) (value.diagnostics t) refl (λ _. refl))
 
 returns-12 : tie.Need-returns-12
 unfolding readAs
-returns-12 c = let a = c .before .before .before .before .before .before .before .before .args in rw (c .before .before .enum-told11 .given .1) (seen-value kind.Wait (now (a .s)) (a .v) (a .x) waitAt value.wait refl (omega (arith, c .before .before .before .before .before .if1 .left)) (c .before .before .before .before .lesser .ensures) (c .with-wait .ensures))
+returns-12 c = let a = c .before .before .before .before .before .before .args in rw (c .enum-told11 .given .1) (not-seen kind.Name (now (a .s)) (a .v) (a .x) nameAt value.name refl (λ _. refl))
+
+returns-13 : tie.Need-returns-13
+unfolding readAs
+returns-13 c = let a = c .before .before .before .before .before .before .before .before .args in rw (c .before .before .enum-told12 .given .1) (seen-value kind.Wait (now (a .s)) (a .v) (a .x) waitAt value.wait refl (omega (arith, c .before .before .before .before .before .if1 .left)) (c .before .before .before .before .lesser .ensures) (c .with-wait .ensures))
 
 pub with-value-spec : {M : Type 1} → statement M
 with-value-spec =
@@ -161,6 +169,7 @@ with-value-spec =
     enum-told-9
     enum-told-10
     enum-told-11
+    enum-told-12
     slice-aggregate-with-wait
     with-wait-requires
     returns-2
@@ -173,4 +182,5 @@ with-value-spec =
     returns-9
     returns-10
     returns-11
-    returns-12)
+    returns-12
+    returns-13)

@@ -4,7 +4,7 @@ use native.Mathlib.Omega.{arith}
 use denote.Ref.{now}
 use lib.Seq.{length-take-le}
 use Rattle.rows.specs.declared.Kind.the-variants as kind
-use Rattle.reset_items.proofs.Laws.{none-there, of-reset, of-list, none-front, silent-none, carried-silent, mme-silent, mce-silent, tmgi-silent, session-silent, cause-silent, wait-silent, name-silent, diagnostics-silent}
+use Rattle.reset_items.proofs.Laws.{none-there, of-reset, of-list, none-front, silent-none, carried-silent, mme-silent, mce-silent, tmgi-silent, one-silent, two-silent, cause-silent, wait-silent, name-silent, diagnostics-silent}
 use borrow.Author.Needs.{needs}
 use Rattle.reset_items.proofs.value_items.Statement.{statement}
 use Rattle.reset_items.proofs.value_items.Tie as tie
@@ -60,6 +60,9 @@ enum-told-10 c = search needs
 enum-told-11 : tie.Need-enum-told-11
 enum-told-11 c = search needs
 
+enum-told-12 : tie.Need-enum-told-12
+enum-told-12 c = search needs
+
 same-length : tie.Need-same-length
 same-length c = search needs
 
@@ -85,19 +88,22 @@ returns-7 : tie.Need-returns-7
 returns-7 c = let a = c .before .before .before .before .before .before .before .args in rw (c .enum-told6 .given .1) (none-front _ _ (silent-none (now (a .s)) (a .v) kind.Tmgi (tmgi-silent (now (a .s)) (a .v))))
 
 returns-8 : tie.Need-returns-8
-returns-8 c = let a = c .before .before .before .before .before .before .before .args in rw (c .enum-told7 .given .1) (none-front _ _ (silent-none (now (a .s)) (a .v) kind.Session (session-silent (now (a .s)) (a .v))))
+returns-8 c = let a = c .before .before .before .before .before .before .before .args in rw (c .enum-told7 .given .1) (none-front _ _ (silent-none (now (a .s)) (a .v) kind.OneOctet (one-silent (now (a .s)) (a .v))))
 
 returns-9 : tie.Need-returns-9
-returns-9 c = let a = c .before .before .before .before .before .before .before .args in rw (c .enum-told8 .given .1) (none-front _ _ (silent-none (now (a .s)) (a .v) kind.Cause (cause-silent (now (a .s)) (a .v))))
+returns-9 c = let a = c .before .before .before .before .before .before .before .args in rw (c .enum-told8 .given .1) (none-front _ _ (silent-none (now (a .s)) (a .v) kind.TwoOctets (two-silent (now (a .s)) (a .v))))
 
 returns-10 : tie.Need-returns-10
-returns-10 c = let a = c .before .before .before .before .before .before .before .args in rw (c .enum-told9 .given .1) (none-front _ _ (silent-none (now (a .s)) (a .v) kind.Wait (wait-silent (now (a .s)) (a .v))))
+returns-10 c = let a = c .before .before .before .before .before .before .before .args in rw (c .enum-told9 .given .1) (none-front _ _ (silent-none (now (a .s)) (a .v) kind.Cause (cause-silent (now (a .s)) (a .v))))
 
 returns-11 : tie.Need-returns-11
-returns-11 c = let a = c .before .before .before .before .before .before .before .args in rw (c .enum-told10 .given .1) (none-front _ _ (silent-none (now (a .s)) (a .v) kind.Name (name-silent (now (a .s)) (a .v))))
+returns-11 c = let a = c .before .before .before .before .before .before .before .args in rw (c .enum-told10 .given .1) (none-front _ _ (silent-none (now (a .s)) (a .v) kind.Wait (wait-silent (now (a .s)) (a .v))))
 
 returns-12 : tie.Need-returns-12
-returns-12 c = let a = c .before .before .before .before .before .before .before .args in rw (c .enum-told11 .given .1) (none-front _ _ (silent-none (now (a .s)) (a .v) kind.Diagnostics (diagnostics-silent (now (a .s)) (a .v))))
+returns-12 c = let a = c .before .before .before .before .before .before .before .args in rw (c .enum-told11 .given .1) (none-front _ _ (silent-none (now (a .s)) (a .v) kind.Name (name-silent (now (a .s)) (a .v))))
+
+returns-13 : tie.Need-returns-13
+returns-13 c = let a = c .before .before .before .before .before .before .before .args in rw (c .enum-told12 .given .1) (none-front _ _ (silent-none (now (a .s)) (a .v) _ (diagnostics-silent (now (a .s)) (a .v) (c .enum-told12 .given .0 .0))))
 
 pub value-items-spec : {M : Type 1} → statement M
 value-items-spec =
@@ -120,6 +126,7 @@ value-items-spec =
     enum-told-9
     enum-told-10
     enum-told-11
+    enum-told-12
     same-length
     returns-2
     same-length-2
@@ -132,4 +139,5 @@ value-items-spec =
     returns-9
     returns-10
     returns-11
-    returns-12)
+    returns-12
+    returns-13)

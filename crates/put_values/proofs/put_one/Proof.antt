@@ -1,9 +1,9 @@
--- `put_values::put_session` meets its contract: an octet is the number of one octet. Assumes nothing.
+-- `put_values::put_one` meets its contract: an octet is the number of one octet. Assumes nothing.
 use native.Mathlib.Omega.{arith}
 use Rattle.octets.proofs.Writing.{number-one}
 use borrow.Author.Needs.{needs}
-use Rattle.put_values.proofs.put_session.Statement.{statement}
-use Rattle.put_values.proofs.put_session.Tie as tie
+use Rattle.put_values.proofs.put_one.Statement.{statement}
+use Rattle.put_values.proofs.put_one.Tie as tie
 
 put-octet-requires : tie.Need-put-octet-requires
 put-octet-requires c κs = search needs
@@ -14,5 +14,5 @@ same-length c = search needs
 returns : tie.Need-returns
 returns c = rw (number-one (c .before .before .before .before .before .args .v) (omega arith)) (c .before .before .put-octet .ensures)
 
-pub put-session-spec : {M : Type 1} → statement M
-put-session-spec = tie.close (tie.spec put-octet-requires same-length returns)
+pub put-one-spec : {M : Type 1} → statement M
+put-one-spec = tie.close (tie.spec put-octet-requires same-length returns)
