@@ -1,6 +1,6 @@
 #!/usr/bin/env python3
 """captures.py FOLDER: writes what sample/test plays: captures (an entry is an offered identity, a length, two octets each, high first, and a message),
-and for rewrite.c messages, each behind its length. The evening depends on its seed alone."""
+and for rewrite.c messages and for warning.c warnings, each behind its length. The evening depends on its seed alone."""
 import os, sys
 sys.path.insert(0, os.path.join(os.path.dirname(os.path.abspath(__file__)), '..', 'tools'))
 from encoder import *
@@ -86,6 +86,21 @@ messages = [
     message(0, 3, REJECT, []), message(0, 1, REJECT, [mme(1, REJECT), element(1, REJECT, b'\0')]),
     b'\0\4\0\1\x80', RESET[:-1], b'', bytes(8193),
 ]
-made = {**captures, 'messages': b''.join(two(len(m)) + m for m in messages)}
+AREAS, OMC, INDICATED = element(15, IGNORE, b'\x20\0\0\0\x62\xf2\x10\0\1'), element(19, IGNORE, b'\x10\1\2\3'), element(26, IGNORE, b'\0')
+TAIS, ALL = element(14, REJECT, b'\0\0\0\x62\xf2\x10\0\1'), element(27, REJECT, b'\0')
+REQUESTED = stop_warning(0x1112, 0x4001)
+# Those that the lab profile answers alike, and otherwise; extensions beside the elements; what is rejected, faults, and what is no request.
+warnings = [
+    REQUESTED, stop_warning(0, 65535, AREAS, OMC, INDICATED), stop_warning(0x1112, 0x4001, TAIS, AREAS, OMC, INDICATED, ALL),
+    stop_warning(0x1112, 0x4001, OMC, AREAS), stop_warning(0x1112, 0x4001, OMC, element(15, NOTIFY, b'\0')),
+    stop_warning(0x1112, 0x4001, extensions=[element(99, IGNORE, b'\1'), element(5, NOTIFY, b'\2')]),
+    stop_warning(0x1112, 0x4001, extensions=[element(99, REJECT, b'\1')]),
+    stop_warning(0x1112, 0x4001, identifier(0x1113)), message(0, 1, REJECT, [identifier(0x1112)]),
+    stop_warning(0x1112, 0x4001, element(14, REJECT, b'')), message(0, 1, REJECT, [identifier(0x1112), element(11, REJECT, b'\1')]),
+    stop_warning(0x1112, 0x4001, extensions=[element(99, IGNORE, b'\1'), b'\0']), b'\0\1\0\1\x80',
+    warning_stopped(0x1112, 0x4001, element(2, IGNORE, b'\x23')), message(0, 2, IGNORE, []), message(0, 0, REJECT, [identifier(0x1112), serial(0x4001)]),
+    REQUESTED + b'\0', b'', bytes(8193),
+]
+made = {**captures, **{name: b''.join(two(len(m)) + m for m in list) for name, list in (('messages', messages), ('warnings', warnings))}}
 for name, octets in made.items():
     with open(os.path.join(sys.argv[1], name), 'wb') as f: f.write(octets)

@@ -1,9 +1,9 @@
 /*
  * Calls at the edges of what may be handed over, and how much stack calls need: a capture from standard input is played on a painted stack, and each of
- * its messages is read, written again and shown. Writes the deepest of each call in octets, from the caller's frame on. Status 1 if a call answers otherwise
- * than it must, or needs more than the header says.
+ * its messages is read, written again and shown, and read and written again as one of SBc-AP, in both profiles. Writes the deepest of each call in octets,
+ * from the caller's frame on. Status 1 if a call answers otherwise than it must, or needs more than the header says.
  */
-#include "m3ap.h"
+#include "sbcap.h"
 
 #include <pthread.h>
 #include <stdio.h>
@@ -16,8 +16,11 @@ static uint8_t unit[M3AP_UNIT_OCTETS];
 static uint8_t room[M3AP_MESSAGE_OCTETS];
 static uint8_t message[65535];
 static struct m3ap_record record;
+static struct sbcap_record warning;
 static struct m3ap_association run[257];
 static size_t deepest_call, deepest_read, deepest_write, deepest_setup, deepest_shown, deepest_count, deepest_row, deepest_count_in, deepest_marks;
+/* Of SBc-AP, by profile: ordinary, lab. */
+static size_t deepest_warning_read[2], deepest_warning_write[2];
 static int wrong;
 
 /* The painting leaves the frames that are in use alone. */
@@ -119,6 +122,25 @@ __attribute__((noinline)) static struct m3ap_marks marks(const uint8_t *u, size_
     struct m3ap_marks m = m3ap_marks(u, u_len);
     look(here, &deepest_marks);
     return m;
+}
+
+__attribute__((noinline)) static struct m3ap_answer warning_read(int lab, const uint8_t *m, size_t m_len, struct sbcap_record *r, size_t r_len)
+{
+    const uint8_t *here = __builtin_frame_address(0);
+    paint(here);
+    struct m3ap_answer a = (lab ? sbcap_read_lab : sbcap_read)(m, m_len, r, r_len);
+    look(here, &deepest_warning_read[lab]);
+    return a;
+}
+
+__attribute__((noinline)) static struct m3ap_answer warning_written(int lab, const struct sbcap_record *r, size_t r_len, const uint8_t *v, size_t v_len,
+                                                                    uint8_t *o, size_t o_len)
+{
+    const uint8_t *here = __builtin_frame_address(0);
+    paint(here);
+    struct m3ap_answer a = (lab ? sbcap_write_lab : sbcap_write)(r, r_len, v, v_len, o, o_len);
+    look(here, &deepest_warning_write[lab]);
+    return a;
 }
 
 static void expect(const char *what, struct m3ap_answer a, uint32_t answer, uint32_t place, uint32_t octets)
@@ -263,6 +285,76 @@ static void setup_edges(uint8_t *u)
     expect_part("shown, no label", shown(NULL, 0, NULL, 0), 1, 0, 0);
 }
 
+/* Stop-Warning Request with the message identifier 1, the serial number 2, a carried value (an OMC identity) and an extension of notify. */
+static const uint8_t stop_warning[] = {0, 1, 0, 28, 64, 0, 3, 0, 5, 0, 2, 0, 1, 0, 11, 0, 2, 0, 2, 0, 19, 64, 2, 7, 8, 0, 0, 0, 99, 128, 1, 9};
+
+/* Writes what stands in the record of a warning, or in its front, with the values of that request. */
+static struct m3ap_answer rewritten(int lab, size_t r_len, uint8_t *o, size_t o_len)
+{
+    return warning_written(lab, r_len == 0 ? NULL : &warning, r_len, stop_warning, sizeof stop_warning, o, o_len);
+}
+
+/* In either profile. The lab profile does not know the carried value. */
+static void warning_edges(int lab)
+{
+    static const uint8_t slots[34] = {SBCAP_STOP_WARNING_REQUEST, 0, 1, 0, 1, 0, 0, 0, 0, 0, 1, 0, 2};
+    static const uint8_t omc[8] = {1, 0, 23, 0, 2};
+    /* The message of the record: without the extension, and the lab profile's without the value. */
+    static const uint8_t again[] = {0, 1, 0, 21, 0, 0, 3, 0, 5, 0, 2, 0, 1, 0, 11, 0, 2, 0, 2, 0, 19, 64, 2, 7, 8};
+    static const uint8_t fewer[] = {0, 1, 0, 15, 0, 0, 2, 0, 5, 0, 2, 0, 1, 0, 11, 0, 2, 0, 2};
+    static const uint8_t extended_warning[] = {0, 1, 0, 3, 192, 0, 0};
+    const uint8_t *due = lab ? fewer : again;
+    uint32_t octets = lab ? sizeof fewer : sizeof again;
+
+    memset(&warning, 0xEE, sizeof warning);
+    expect("warning read, no room", warning_read(lab, stop_warning, sizeof stop_warning, NULL, 0), M3AP_NO_ROOM, 0, 0);
+    expect("warning read, room of 2661", warning_read(lab, stop_warning, sizeof stop_warning, &warning, sizeof warning - 1), M3AP_NO_ROOM, 0, 0);
+    expect("warning read, extension", warning_read(lab, extended_warning, sizeof extended_warning, &warning, sizeof warning), M3AP_EXTENSION, 4, 0);
+    expect("warning read, cut", warning_read(lab, stop_warning, sizeof stop_warning - 1, &warning, sizeof warning), M3AP_FAULT, 3, 0);
+    expect("warning read, no message", warning_read(lab, NULL, 0, &warning, sizeof warning), M3AP_FAULT, 0, 0);
+    expect("warning read, not ours", warning_read(lab, reset, sizeof reset, &warning, sizeof warning), M3AP_NO_REQUEST, 0, 0);
+    expect("warning read, too long", warning_read(lab, message, 8193, NULL, 0), M3AP_TOO_LONG, 0, 0);
+    for (size_t i = 0; i < sizeof warning; i++)
+        expect_octets("warning read, room that is kept", (const uint8_t *)&warning + i, (const uint8_t[]){0xEE}, 1);
+
+    expect("warning read", warning_read(lab, stop_warning, sizeof stop_warning, &warning, sizeof warning), M3AP_CARRIED_OUT, 0, SBCAP_RECORD_OCTETS);
+    expect_octets("warning read, slots", (const uint8_t *)&warning, slots, sizeof slots);
+    expect_octets("warning read, a carried value", &warning.slots[SBCAP_REQUEST_OMC_ID].there, lab ? (const uint8_t[8]){0} : omc, sizeof omc);
+
+    memset(room, 0xEE, sizeof room);
+    expect("warning write, no room", rewritten(lab, sizeof warning, NULL, 0), M3AP_NO_ROOM, 0, 0);
+    expect("warning write, an octet short", rewritten(lab, sizeof warning, room, octets - 1), M3AP_NO_ROOM, 0, 0);
+    expect("warning write, no record", rewritten(lab, 0, room, sizeof room), M3AP_NOT_WRITTEN, 0, 0);
+    expect("warning write, record cut", rewritten(lab, sizeof warning - 1, room, sizeof room), M3AP_NOT_WRITTEN, 0, 0);
+    /* An octet where M3AP has items; a message that there is not; a value that lies nowhere, for which the lab profile has no row. */
+    warning.no_items[1537] = 1;
+    expect("warning write, items", rewritten(lab, sizeof warning, room, sizeof room), M3AP_NOT_WRITTEN, 0, 0);
+    warning.no_items[1537] = 0;
+    warning.message = 4;
+    expect("warning write, no message", rewritten(lab, sizeof warning, room, sizeof room), M3AP_NOT_WRITTEN, 0, 0);
+    warning.message = SBCAP_STOP_WARNING_REQUEST;
+    warning.slots[SBCAP_REQUEST_STOP_ALL_INDICATOR].there = 1;
+    expect("warning write, no value", rewritten(lab, sizeof warning, room, sizeof room), M3AP_NOT_WRITTEN, 0, 0);
+    warning.slots[SBCAP_REQUEST_STOP_ALL_INDICATOR].there = 0;
+    expect_octets("warning write, room that is kept", room, (const uint8_t[]){0xEE, 0xEE}, 2);
+    expect("warning write", rewritten(lab, sizeof warning, room, sizeof room), M3AP_CARRIED_OUT, 0, octets);
+    expect_octets("warning write", room, due, octets);
+    expect_octets("warning write, behind it", room + octets, (const uint8_t[]){0xEE}, 1);
+}
+
+/* Stop-Warning Response with a list of 256 entries, of zeros: the longest that a record has. */
+static void long_warning(int lab)
+{
+    static const uint8_t front[] = {32, 1, 0, 131, 28, 0, 0, 4, 0, 5, 0, 2, 0, 1, 0, 11, 0, 2, 0, 2, 0, 1, 0, 1, 0, 0, 2, 64, 131, 3, 8, 255};
+    static uint8_t response[sizeof front + 1 + 3 * 256];
+
+    memcpy(response, front, sizeof front);
+    expect("warning read, 256 entries", warning_read(lab, response, sizeof response, &warning, sizeof warning), M3AP_CARRIED_OUT, 0, SBCAP_RECORD_OCTETS);
+    expect_octets("warning read, 256 entries", warning.entry_count, (const uint8_t[]){1, 0}, 2);
+    expect("warning write, 256 entries", warning_written(lab, &warning, sizeof warning, NULL, 0, room, sizeof response), M3AP_CARRIED_OUT, 0, sizeof response);
+    expect_octets("warning write, 256 entries", room, response, sizeof response);
+}
+
 static void count_edges(void)
 {
     for (unsigned i = 0; i < 257; i++)
@@ -349,6 +441,10 @@ static void *play(void *unused)
     call_edges();
     record_edges();
     setup_edges(unit);
+    for (int lab = 0; lab < 2; lab++) {
+        warning_edges(lab);
+        long_warning(lab);
+    }
     count_edges();
     view_edges();
     while (fread(head, 1, 4, stdin) == 4) {
@@ -359,6 +455,9 @@ static void *play(void *unused)
         if (was_read(message, length, &record, sizeof record).octets != 0)
             written(&record, sizeof record, message, length, room, sizeof room);
         shown(message, length, NULL, 0);
+        for (int lab = 0; lab < 2; lab++)
+            if (warning_read(lab, message, length, &warning, sizeof warning).octets != 0)
+                warning_written(lab, &warning, sizeof warning, message, length, room, sizeof room);
     }
     return NULL;
 }
@@ -369,11 +468,14 @@ int main(void)
     pthread_attr_t how;
 
     if (m3ap_version() != M3AP_VERSION || sizeof(struct m3ap_answer) != 16 || sizeof(struct m3ap_part) != 12 || sizeof(struct m3ap_record) != M3AP_RECORD_OCTETS ||
-        sizeof(struct m3ap_association) != 14 || sizeof(struct m3ap_row) != 24 || sizeof(struct m3ap_marks) != 36 || pthread_attr_init(&how) != 0 ||
-        pthread_attr_setstack(&how, stack, sizeof stack) != 0 || pthread_create(&thread, &how, play, NULL) != 0 || pthread_join(thread, NULL) != 0)
+        sizeof(struct sbcap_record) != SBCAP_RECORD_OCTETS || sizeof(struct m3ap_association) != 14 || sizeof(struct m3ap_row) != 24 ||
+        sizeof(struct m3ap_marks) != 36 || pthread_attr_init(&how) != 0 || pthread_attr_setstack(&how, stack, sizeof stack) != 0 ||
+        pthread_create(&thread, &how, play, NULL) != 0 || pthread_join(thread, NULL) != 0)
         return 2;
     printf("stack: call=%zu read=%zu write=%zu setup=%zu shown=%zu count=%zu row=%zu count_in=%zu marks=%zu\n", deepest_call, deepest_read, deepest_write,
            deepest_setup, deepest_shown, deepest_count, deepest_row, deepest_count_in, deepest_marks);
+    printf("stack: sbcap_read=%zu sbcap_read_lab=%zu sbcap_write=%zu sbcap_write_lab=%zu\n", deepest_warning_read[0], deepest_warning_read[1],
+           deepest_warning_write[0], deepest_warning_write[1]);
     expect_stack("call", deepest_call);
     expect_stack("read", deepest_read);
     expect_stack("write", deepest_write);
@@ -383,5 +485,9 @@ int main(void)
     expect_stack("row", deepest_row);
     expect_stack("count_in", deepest_count_in);
     expect_stack("marks", deepest_marks);
+    expect_stack("sbcap_read", deepest_warning_read[0]);
+    expect_stack("sbcap_read_lab", deepest_warning_read[1]);
+    expect_stack("sbcap_write", deepest_warning_write[0]);
+    expect_stack("sbcap_write_lab", deepest_warning_write[1]);
     return wrong;
 }

@@ -1,4 +1,4 @@
-"""The messages that calls.py, captures.py and sample/captures.py use, encoded by hand from 000 and X.691; and the octets that a text of cases says."""
+"""The messages that calls.py, captures.py and sample/captures.py use, encoded by hand from 000, 004 and X.691; and the octets that a text of cases says."""
 def octets_of(text):
     """Hexadecimal, with blanks between or without; '41*150' is 150 such octets, '.' none."""
     words = [w.partition('*') for w in text.split() if w != '.']
@@ -7,8 +7,10 @@ def octets_of(text):
 def two(n): return n.to_bytes(2, 'big')
 def length(n): return bytes([n]) if n < 128 else bytes([0x80 | n >> 8, n & 255])
 def element(id, crit, value): return two(id) + bytes([crit << 6]) + length(len(value)) + value
-def message(kind, code, crit, elements):
-    inside = b'\0' + two(len(elements)) + b''.join(elements)
+def message(kind, code, crit, elements, extensions=()):
+    """Extensions stand beside the elements in SBc-AP, in a container that the second bit announces."""
+    beside = two(len(extensions) - 1) + b''.join(extensions) if extensions else b''
+    inside = bytes([bool(extensions) << 6]) + two(len(elements)) + b''.join(elements) + beside
     return bytes([kind << 5, code, crit << 6]) + length(len(inside)) + inside
 
 REJECT, IGNORE, NOTIFY = 0, 1, 2
@@ -33,3 +35,8 @@ def set_up(global_id, name, areas):
 def set_up_failed(*more): return message(2, 7, REJECT, [element(9, IGNORE, b'\x42'), *more])
 def time_to_wait(n): return element(12, IGNORE, bytes([n << 4]))
 SET_UP = message(1, 7, REJECT, [])
+
+def identifier(n): return element(5, REJECT, two(n))
+def serial(n): return element(11, REJECT, two(n))
+def stop_warning(i, s, *more, extensions=()): return message(0, 1, REJECT, [identifier(i), serial(s), *more], extensions)
+def warning_stopped(i, s, *more): return message(1, 1, REJECT, [identifier(i), serial(s), element(1, REJECT, b'\0'), *more])

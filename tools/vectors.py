@@ -3,7 +3,7 @@
 what must be read of each message, as the octets of a record (docs/LAYOUTS.md), and for those that another program encoded, the same octets written again.
 A FILE is one of messages that another program encoded, one JSON object a line (hex, name, criticality, octets, the elements' meanings),
 or a text with lines 'HEX => answer=N offset=K', or '=> answer=N NAME frame=C ID:VALUE .. noted=[..]' with what was read ('read' may stand in front),
-or 'write HEX => answer=N octets=HEX': what was read, written again."""
+or 'write HEX => answer=N octets=HEX': what was read, written again. Of SBc-AP: 'sbc' and 'lab' for 'read', 'writesbc' and 'writelab' for 'write'."""
 import json, re, sys
 from encoder import octets_of, two
 
@@ -21,6 +21,17 @@ ROWS = {
     'SetupResponse': (8,),
     'SetupFailure': (9, 12, 8),
 }
+
+# Likewise of SBc-AP; the lab profile has two rows of a request.
+WARNINGS = {
+    'StopWarningRequest': (5, 11, 14, 15, 19, 26, 27),
+    'StopWarningResponse': (5, 11, 1, 2, 22),
+    'WarningErrorIndication': (1, 2),
+}
+LAB = WARNINGS | {'StopWarningRequest': (5, 11)}
+
+# What the first number of an entry says: M3AP, SBc-AP, its lab profile.
+TABLES = (ROWS, WARNINGS, LAB)
 
 def maybe(v, octets):
     """1 and the value, or as many zeros."""
@@ -47,7 +58,9 @@ def value(e, s):
     if 'mce' in e: return two(e['mce'])
     if 'tmgi' in e: return bytes.fromhex(''.join(e['tmgi']))
     if 'session' in e: return bytes([e['session']])
-    if 'cause' in e: return bytes(e['cause'])
+    if 'cause' in e: return bytes(e['cause']) if isinstance(e['cause'], list) else bytes([e['cause']])
+    if 'message_identifier' in e: return two(e['message_identifier'])
+    if 'serial_number' in e: return two(e['serial_number'])
     if 'reset' in e or 'ack' in e: return b''
     if 'diagnostics' in e:
         d = e['diagnostics']
@@ -64,14 +77,15 @@ def value(e, s):
 def slot(e, s):
     return bytes(8) if e is None else (bytes([2 if isinstance(e.get('reset'), list) else 1]) + value(e, s)).ljust(8, b'\0')
 
-def record(name, criticality, elements, s):
-    """The record of what was read of the octets s: what is in front of the lists, the items, the entries."""
+def record(rows, name, criticality, elements, s):
+    """The record of what was read of the octets s by tables of rows: what is in front of the lists, the items, the entries."""
     found = {e['id']: e for e in elements}
-    slots = b''.join(slot(found.get(id), s) for id in ROWS[name])
-    front = bytes([1 + list(ROWS).index(name), criticality]) + slots.ljust(96, b'\0')
-    named = found.get(13, {}).get('reset', found.get(15, {}).get('ack', []))
+    slots = b''.join(slot(found.get(id), s) for id in rows[name])
+    front = bytes([1 + list(rows).index(name), criticality]) + slots.ljust(96, b'\0')
+    said = [found[id] for id in rows[name] if id in found]
+    named = next((e[k] for e in said for k in ('reset', 'ack') if k in e), [])
     items = [] if named == 'all' else named
-    listed = found.get(8, {}).get('diagnostics', {}).get('list') or []
+    listed = next((e['diagnostics'].get('list') for e in said if 'diagnostics' in e), None) or []
     return front, [maybe(m, 2) + maybe(c, 2) for m, c in items], [bytes([crit]) + two(id) + bytes([error]) for crit, id, error in listed]
 
 NONE = bytes(98), [], []
@@ -81,11 +95,17 @@ def line(answer, record, noted):
     rows = lambda l: (two(len(l)) + b''.join(l)).hex()
     return f'{answer} record={front.hex()} items={rows(items)} entries={rows(entries)} noted:' + ''.join(f' {e[0]}.{e[1]}.{e[2]}' for e in noted)
 
+NAMES = {'Stop-Warning-Request': 'StopWarningRequest', 'Stop-Warning-Response': 'StopWarningResponse', 'Error-Indication': 'WarningErrorIndication'}
+
 def encoded(m, s):
     """The line of a message that another program encoded."""
     if m['octets'] > 8192:
         return line('answer=1', NONE, [])
-    return line('answer=0', record(m['name'].removeprefix('MBMSSession').removeprefix('M3'), m['criticality'], m['elements'], s), [])
+    name = m['name'].removeprefix('MBMSSession').removeprefix('M3')
+    extensions = m.get('extensions', [])
+    noted = [(crit, id, 0) for id, crit, _ in extensions if crit != 1]
+    answer = 'answer=5 cause=3.1' if any(crit == 0 for crit, _, _ in noted) else 'answer=0'
+    return line(answer, record(WARNINGS if name in NAMES else ROWS, NAMES.get(name, name), m['criticality'], m['elements'], s), noted)
 
 def number(x):
     return None if x == '-' else int(x)
@@ -95,6 +115,19 @@ def entries(text):
 
 def pairs(text):
     return [[number(x) for x in i] for i in re.findall(r'\(([^,]*),([^)]*)\)', text)]
+
+def diagnostics(text):
+    code, trigger, crit, list = re.match(r'\{(.*?),(.*?),(.*?),(.*)\}', text).groups()
+    return {'procedure': number(code), 'trigger': number(trigger), 'criticality': number(crit), 'list': None if list == '-' else entries(list)}
+
+def warning(id, text):
+    """An element of SBc-AP as a witness has it: ID:VALUE."""
+    e = {'id': id, 'hex': text}
+    if id == 1: e['cause'] = int(text)
+    if id == 2: e['diagnostics'] = diagnostics(text)
+    if id == 5: e['message_identifier'] = int(text, 16)
+    if id == 11: e['serial_number'] = int(text, 16)
+    return e
 
 def element(id, text):
     """An element as a witness has it: ID:VALUE."""
@@ -108,35 +141,41 @@ def element(id, text):
     if id == 19: e['text'] = bytes.fromhex(text).decode()
     if id == 13: e['reset'] = 'all' if text == 'all' else pairs(text)
     if id == 15: e['ack'] = pairs(text)
-    if id == 8:
-        code, trigger, crit, list = re.match(r'\{(.*?),(.*?),(.*?),(.*)\}', text).groups()
-        e['diagnostics'] = {'procedure': number(code), 'trigger': number(trigger), 'criticality': number(crit), 'list': None if list == '-' else entries(list)}
+    if id == 8: e['diagnostics'] = diagnostics(text)
     return e
 
-def read(said, s):
+def read(said, s, profile=0):
     """What is said behind '=>' of a witness, as a line."""
     words = said.split()
     if words[0] not in ('answer=0', 'answer=5'):
         return line(' '.join(words), NONE, [])
-    elements = [element(int(m.group(1)), m.group(2)) for w in words[3:] if (m := re.match(r'(\d+):(.*)', w))]
+    elements = [(warning if profile else element)(int(m.group(1)), m.group(2)) for w in words[3:] if (m := re.match(r'(\d+):(.*)', w))]
     noted = next(w for w in words if w.startswith('noted='))[len('noted='):]
     answer = words[0] + ''.join(' ' + w for w in words if w.startswith(('cause=', 'place=')) and w != 'place=-')
-    return line(answer, record(words[1], int(words[2].removeprefix('frame=')), elements, s), entries(noted))
+    return line(answer, record(TABLES[profile], words[1], int(words[2].removeprefix('frame=')), elements, s), entries(noted))
 
 with open('crates/vectors/stdin', 'wb') as data, open('crates/vectors/stdout', 'w') as wanted:
-    def add(what, octets, wants):
-        data.write(bytes([what]) + two(0) + two(8192) + two(len(octets)) + octets)
+    def add(what, profile, octets, wants):
+        data.write(bytes([what]) + two(profile) + two(8192) + two(len(octets)) + octets)
         wanted.write(wants + '\n')
     for path in sys.argv[1:]:
         for text in open(path):
             if path.endswith('.jsonl'):
                 m = json.loads(text)
+                # what has additions inside is read as soon as additions are
+                if m.get('tags', ['message-container']) != ['message-container']:
+                    continue
                 octets = bytes.fromhex(m['hex'])
-                add(0, octets, encoded(m, octets))
-                if m['octets'] <= 8192:
-                    add(1, octets, 'answer=0 ' + octets.hex())
+                profile = int(m['name'] in NAMES)
+                add(0, profile, octets, encoded(m, octets))
+                if m['octets'] <= 8192 and not m.get('extensions'):
+                    add(1, profile, octets, 'answer=0 ' + octets.hex())
             elif m := re.match(r'(?:\s*read ?)?([0-9a-f* ]*) => (.*)', text):
                 octets = octets_of(m.group(1))
-                add(0, octets, read(m.group(2), octets))
-            elif m := re.match(r'write ([0-9a-f ]*) => (.*) octets=(.*)', text):
-                add(1, octets_of(m.group(1)), f'{m.group(2)} {m.group(3)}')
+                add(0, 0, octets, read(m.group(2), octets))
+            elif m := re.match(r'(?:(sbc|lab) )([0-9a-f* ]*) => (.*)', text):
+                octets = octets_of(m.group(2))
+                profile = ('sbc', 'lab').index(m.group(1)) + 1
+                add(0, profile, octets, read(m.group(3), octets, profile))
+            elif m := re.match(r'write(sbc|lab|) ([0-9a-f ]*) => (.*) octets=(.*)', text):
+                add(1, ('', 'sbc', 'lab').index(m.group(1)), octets_of(m.group(2)), f'{m.group(3)} {m.group(4)}'.rstrip())

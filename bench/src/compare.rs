@@ -3,7 +3,7 @@ use crate::ours::{self, Answer, Association, Counted, Marks, Part, Row, Tmgi};
 use second::layout::{read_record, write_record, RECORD_OCTETS};
 use second::make::{Calls, Reads, Records, Rng, Step};
 use second::text::hex;
-use second::{Done, Kind as Message, LIMIT, MOST, OPEN_AT, ROW_OCTETS, TABLE_OCTETS, UNIT_OCTETS};
+use second::{Done, Kind as Message, Profile, LIMIT, MOST, OPEN_AT, ROW_OCTETS, TABLE_OCTETS, UNIT_OCTETS};
 use std::collections::BTreeMap;
 use std::fmt::Debug;
 
@@ -17,7 +17,7 @@ const LARGE: usize = LIMIT + 100;
 /// `M3AP_VERSION` of the header that `ours` is written from.
 const VERSION: u32 = 3;
 
-// Where things stand in a record (`struct m3ap_record`): slots, the number of items and they, the number of entries and they.
+// Where things stand in a record (`struct m3ap_record`, `struct sbcap_record`): slots, the number of items and they, the number of entries and they.
 const SLOTS: usize = 2;
 const SLOT: usize = 8;
 const ITEM_COUNT: usize = SLOTS + 12 * SLOT;
@@ -31,13 +31,13 @@ const NAME: usize = SLOTS + SLOT;
 
 /// How many cases of a kind were equal, and with which answers.
 struct Kind {
-    name: &'static str,
+    name: String,
     answers: BTreeMap<u32, usize>,
 }
 
 impl Kind {
-    fn new(name: &'static str) -> Self {
-        Kind { name, answers: BTreeMap::new() }
+    fn new(name: impl Into<String>) -> Self {
+        Kind { name: name.into(), answers: BTreeMap::new() }
     }
 
     fn cases(&self) -> usize {
@@ -91,6 +91,30 @@ pub fn read_by_second(message: &[u8], record: &mut [u8]) -> Answer {
 pub fn write_by_second(record: &[u8], values: &[u8], room: &mut [u8]) -> Answer {
     answered(write_record(record, values, room))
 }
+
+/// A reader and a writer, ours and the second program's, and the profile that they go by.
+pub struct By {
+    pub profile: &'static Profile,
+    pub read: [Read; 2],
+    pub write: [Write; 2],
+}
+
+type Read = fn(&[u8], &mut [u8]) -> Answer;
+type Write = fn(&[u8], &[u8], &mut [u8]) -> Answer;
+
+pub static M3AP: By = By { profile: &second::M3AP, read: [ours::read, read_by_second], write: [ours::write, write_by_second] };
+
+pub static SBCAP: By = By {
+    profile: &second::SBCAP,
+    read: [ours::read_warning, |message, record| answered(second::SBCAP.read_record(message, record))],
+    write: [ours::write_warning, |record, values, room| answered(second::SBCAP.write_record(record, values, room))],
+};
+
+pub static SBCAP_LAB: By = By {
+    profile: &second::SBCAP_LAB,
+    read: [ours::read_warning_lab, |message, record| answered(second::SBCAP_LAB.read_record(message, record))],
+    write: [ours::write_warning_lab, |record, values, room| answered(second::SBCAP_LAB.write_record(record, values, room))],
+};
 
 pub fn call_by_second(unit: &mut [u8], message: &[u8], offered: u16, room: &mut [u8]) -> Answer {
     answered(second::call(unit, message, offered, room))
@@ -146,6 +170,11 @@ pub fn marks_by_second(unit: &[u8]) -> Marks {
 
 // ---- reading and writing
 
+/// Two rooms. A room's size is two octets in a call's case.
+fn rooms() -> [Vec<u8>; 2] {
+    [vec![FILL; usize::from(u16::MAX) + BEHIND], vec![FILL; usize::from(u16::MAX) + BEHIND]]
+}
+
 /// The front of both rooms as it is before a call: what is lent, and some octets behind it.
 fn front(rooms: &mut [Vec<u8>; 2], lent: usize) -> (&mut [u8], &mut [u8]) {
     let [a, b] = rooms;
@@ -156,33 +185,46 @@ fn front(rooms: &mut [Vec<u8>; 2], lent: usize) -> (&mut [u8], &mut [u8]) {
 }
 
 struct Messages {
+    by: &'static By,
     rng: Rng,
     reads: Kind,
     small: Kind,
     /// By room: large, exact, an octet short.
     writes: [Kind; 3],
     damaged: Kind,
-    shown: Kind,
     rooms: [Vec<u8>; 2],
 }
 
 impl Messages {
+    fn new(by: &'static By, of: &str, seed: u64) -> Self {
+        let kind = |name: &str| Kind::new(format!("{of}{name}"));
+        Messages {
+            by,
+            rng: Rng::new(!seed),
+            reads: kind("reads"),
+            small: kind("reads, room too small"),
+            writes: ["writes, large room", "writes, exact room", "writes, room an octet short"].map(kind),
+            damaged: kind("writes of damaged records"),
+            rooms: rooms(),
+        }
+    }
+
     fn message(&mut self, message: &[u8]) -> Result<(), String> {
         let size = RECORD_OCTETS + if self.rng.percent(50) { 0 } else { self.rng.below(RECORD_OCTETS) };
+        let [ours, second] = self.by.read;
         let (a, b) = front(&mut self.rooms, size);
-        let got = ours::read(message, &mut a[..size]);
-        let due = read_by_second(message, &mut b[..size]);
+        let got = ours(message, &mut a[..size]);
+        let due = second(message, &mut b[..size]);
         self.reads.case((got, &[a]), (due, &[b]), &[("message", message)])?;
         let record = (due.octets > 0).then(|| b[..RECORD_OCTETS].to_vec());
 
         // One octet short, or any number of them.
         let size = if self.rng.percent(50) { RECORD_OCTETS - 1 } else { self.rng.below(RECORD_OCTETS) };
         let (a, b) = front(&mut self.rooms, size);
-        let got = ours::read(message, &mut a[..size]);
-        let due = read_by_second(message, &mut b[..size]);
+        let got = ours(message, &mut a[..size]);
+        let due = second(message, &mut b[..size]);
         self.small.case((got, &[a]), (due, &[b]), &[("message", message)])?;
 
-        show(&mut self.shown, &mut self.rng, message)?;
         if let Some(record) = record {
             self.write(&record, message)?;
             self.damage(record, message)?;
@@ -190,10 +232,15 @@ impl Messages {
         Ok(())
     }
 
+    /// How many octets the second program writes in a room that is large enough.
+    fn written(&mut self, record: &[u8], values: &[u8]) -> usize {
+        self.by.profile.write_record(record, values, &mut self.rooms[1]).reply
+    }
+
     fn write(&mut self, record: &[u8], values: &[u8]) -> Result<(), String> {
-        let size = write_record(record, values, &mut self.rooms[1]).reply;
+        let size = self.written(record, values);
         for (kind, size) in self.writes.iter_mut().zip([LARGE, size, size.saturating_sub(1)]) {
-            one_write(kind, &mut self.rooms, size, record, values)?;
+            one_write(kind, self.by, &mut self.rooms, size, record, values)?;
         }
         Ok(())
     }
@@ -224,16 +271,23 @@ impl Messages {
     }
 
     fn any_room(&mut self, record: Vec<u8>, values: Vec<u8>) -> Result<(), String> {
-        let size = write_record(&record, &values, &mut self.rooms[1]).reply;
+        let size = self.written(&record, &values);
         let size = self.rng.pick(&[LARGE, size, size.saturating_sub(1), 0]);
-        one_write(&mut self.damaged, &mut self.rooms, size, &record, &values)
+        one_write(&mut self.damaged, self.by, &mut self.rooms, size, &record, &values)
+    }
+
+    fn print(&self) {
+        for kind in [&self.reads, &self.small].into_iter().chain(&self.writes).chain([&self.damaged]) {
+            kind.print();
+        }
     }
 }
 
-fn one_write(kind: &mut Kind, rooms: &mut [Vec<u8>; 2], room: usize, record: &[u8], values: &[u8]) -> Result<(), String> {
+fn one_write(kind: &mut Kind, by: &By, rooms: &mut [Vec<u8>; 2], room: usize, record: &[u8], values: &[u8]) -> Result<(), String> {
+    let [ours, second] = by.write;
     let (a, b) = front(rooms, room);
-    let got = ours::write(record, values, &mut a[..room]);
-    let due = write_by_second(record, values, &mut b[..room]);
+    let got = ours(record, values, &mut a[..room]);
+    let due = second(record, values, &mut b[..room]);
     kind.case((got, &[a]), (due, &[b]), &[("record", record), ("values", values)])
 }
 
@@ -494,28 +548,35 @@ pub fn compare(seed: u64, count: usize) -> Result<(), String> {
     if ours::version() != VERSION {
         return Err(format!("the archive is of version {}, not {VERSION}", ours::version()));
     }
-    // A room's size is two octets in a call's case.
-    let rooms = || [vec![FILL; usize::from(u16::MAX) + BEHIND], vec![FILL; usize::from(u16::MAX) + BEHIND]];
-    let mut m = Messages {
-        rng: Rng::new(!seed),
-        reads: Kind::new("reads"),
-        small: Kind::new("reads, room too small"),
-        writes: ["writes, large room", "writes, exact room", "writes, room an octet short"].map(Kind::new),
-        damaged: Kind::new("writes of damaged records"),
-        shown: Kind::new("shown names (0) and labels (1)"),
-        rooms: rooms(),
-    };
+    let mut m = Messages::new(&M3AP, "", seed);
+    let mut shown = Kind::new("shown names (0) and labels (1)");
     for message in Reads::new(seed) {
         if m.writes[0].cases() >= count {
             break;
         }
         m.message(&message)?;
+        show(&mut shown, &mut m.rng, &message)?;
     }
     for (record, values) in Records::new(seed).take(count) {
         m.any_room(record, values)?;
     }
-    for kind in [&m.reads, &m.small].into_iter().chain(&m.writes).chain([&m.damaged, &m.shown]) {
-        kind.print();
+    m.print();
+    shown.print();
+    for (by, of) in [(&SBCAP, "SBc-AP: "), (&SBCAP_LAB, "SBc-AP, lab: ")] {
+        let mut m = Messages::new(by, of, seed);
+        for message in Reads::warnings(seed) {
+            if m.writes[0].cases() >= count {
+                break;
+            }
+            m.message(&message)?;
+        }
+        // Records as either profile reads them: the lab profile has no rows for some of the other's.
+        for reader in [&second::SBCAP, &second::SBCAP_LAB] {
+            for (record, values) in Records::warnings(seed, reader).take(count) {
+                m.any_room(record, values)?;
+            }
+        }
+        m.print();
     }
     let mut u = Units {
         rng: Rng::new(!seed),

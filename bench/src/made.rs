@@ -48,6 +48,17 @@ pub fn set_up_failed() -> Vec<u8> {
     message(2, 7, &[element(9, 1, &[0x42]), element(12, 1, &[0x20])])
 }
 
+/// Stop-Warning Request of SBc-AP, with a list of three tracking areas and the ids of an operation centre.
+pub fn stop_warning() -> Vec<u8> {
+    message(0, 1, &[element(5, 0, &[0x11, 0x12]), element(11, 0, &[0x40, 1]), element(14, 0, &[7; 20]), element(19, 1, &[7; 9])])
+}
+
+/// Stop-Warning Response of SBc-AP, with diagnostics of all parts and two entries.
+pub fn stop_warning_answered() -> Vec<u8> {
+    let diagnostics = [0x78, 1, 0x40, 1, 0x20, 0, 99, 0x08, 0, 100, 0];
+    message(1, 1, &[element(5, 0, &[0x11, 0x12]), element(11, 0, &[0x40, 1]), element(1, 0, &[0]), element(2, 1, &diagnostics)])
+}
+
 /// The k-th association's identities.
 pub fn identities(k: u16) -> (u16, u16) {
     (k.wrapping_mul(257), 65535 - k)
@@ -84,6 +95,15 @@ pub fn evening(entries: usize) -> Vec<(u16, Vec<u8>)> {
 #[cfg(test)]
 mod tests {
     use super::*;
+
+    #[test]
+    fn a_warning_is_stopped() {
+        let read = |message: &[u8]| second::text::read_verdict_by(&second::SBCAP, message);
+        let request = format!("answer=0 StopWarningRequest frame=0 5:1112 11:4001 14:{} 19:{} noted=[]", "07".repeat(20), "07".repeat(9));
+        assert_eq!(read(&stop_warning()), request);
+        let response = "answer=0 StopWarningResponse frame=0 5:1112 11:4001 1:0 2:{1,1,0,[2.99.0,2.100.0]} noted=[]";
+        assert_eq!(read(&stop_warning_answered()), response);
+    }
 
     #[test]
     fn an_evening_is_mostly_carried_out() {

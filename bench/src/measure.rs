@@ -1,8 +1,8 @@
 //! Times, as ratios to the second program. Both take turns on the same octets and the same rooms, which the rounds before have warmed; the least round counts.
-use crate::compare::{call_by_second, count_by_second, marks_by_second, read_by_second, row_by_second, setup_by_second, shown_by_second, write_by_second};
-use crate::made::{acknowledge, evening, identities, reset, set_up, set_up_failed, start, stop, CHOSEN};
+use crate::compare::{call_by_second, count_by_second, marks_by_second, read_by_second, row_by_second, setup_by_second, shown_by_second, By, M3AP, SBCAP};
+use crate::made::{acknowledge, evening, identities, reset, set_up, set_up_failed, start, stop, stop_warning, stop_warning_answered, CHOSEN};
 use crate::ours::{self, Answer, Tmgi};
-use second::layout::{taken, RECORD_OCTETS};
+use second::layout::RECORD_OCTETS;
 use second::{LIMIT, UNIT_OCTETS};
 use std::cell::RefCell;
 use std::hint::black_box;
@@ -39,39 +39,41 @@ fn head(title: &str) {
 
 // ---- reading and writing
 
-fn read_rows(name: &str, message: &[u8]) {
+fn read_rows(name: &str, by: &By, message: &[u8]) {
     let (mut room, mut record) = ([0; RECORD_OCTETS], [0; RECORD_OCTETS]);
-    assert_eq!(ours::read(message, &mut room).answer, 0);
-    assert_eq!(read_by_second(message, &mut record).answer, 0);
+    let [ours, second] = by.read;
+    assert_eq!(ours(message, &mut room).answer, 0);
+    assert_eq!(second(message, &mut record).answer, 0);
     assert_eq!(room, record);
     let name = format!("read {name} ({} octets)", message.len());
     let mut ours = || {
-        black_box(ours::read(black_box(message), &mut room));
+        black_box(ours(black_box(message), &mut room));
     };
     row(&format!("{name}; second: `read`, record octets made"), 1, &mut ours, &mut || {
-        black_box(read_by_second(black_box(message), &mut record));
+        black_box(second(black_box(message), &mut record));
     });
     row(&format!("{name}; second: `read` alone"), 1, &mut ours, &mut || {
-        black_box(second::read(black_box(message)));
+        black_box(by.profile.read(black_box(message)));
     });
 }
 
-fn write_rows(name: &str, message: &[u8]) {
+fn write_rows(name: &str, by: &By, message: &[u8]) {
     let mut octets = [0; RECORD_OCTETS];
     let (mut room, mut other) = ([0; LIMIT], [0; LIMIT]);
-    assert_eq!(read_by_second(message, &mut octets).answer, 0);
+    let [ours, second] = by.write;
+    assert_eq!(by.read[1](message, &mut octets).answer, 0);
     let written = Answer { octets: message.len() as u32, ..CARRIED_OUT };
-    assert_eq!(ours::write(&octets, message, &mut room), written);
-    assert_eq!(write_by_second(&octets, message, &mut other), written);
+    assert_eq!(ours(&octets, message, &mut room), written);
+    assert_eq!(second(&octets, message, &mut other), written);
     assert_eq!(room, other);
     let name = format!("write {name} ({} octets)", message.len());
     let mut ours = || {
-        black_box(ours::write(black_box(&octets), message, &mut room));
+        black_box(ours(black_box(&octets), message, &mut room));
     };
     row(&format!("{name}; second: record octets taken, `write`"), 1, &mut ours, &mut || {
-        black_box(write_by_second(black_box(&octets), message, &mut other));
+        black_box(second(black_box(&octets), message, &mut other));
     });
-    let record = taken(&octets, message).expect("a record").record;
+    let record = by.profile.taken(&octets, message).expect("a record").record;
     row(&format!("{name}; second: `write` alone"), 1, &mut ours, &mut || {
         let _ = black_box(second::write(black_box(&record), &mut other));
     });
@@ -228,13 +230,13 @@ fn chosen() {
 pub fn measure() {
     let items: Vec<_> = (0..256).map(identities).collect();
     head("### Times");
-    read_rows("START REQUEST", &start(300));
-    read_rows("STOP REQUEST", &stop(300, 300));
-    read_rows("RESET of 256 items", &reset(&items));
-    read_rows("M3 SETUP REQUEST", &set_up(b"North Hall, plate 7"));
-    write_rows("START REQUEST", &start(300));
-    write_rows("M3 SETUP REQUEST", &set_up(b"North Hall, plate 7"));
-    write_rows("RESET ACKNOWLEDGE of 256 items", &acknowledge(&items));
+    read_rows("START REQUEST", &M3AP, &start(300));
+    read_rows("STOP REQUEST", &M3AP, &stop(300, 300));
+    read_rows("RESET of 256 items", &M3AP, &reset(&items));
+    read_rows("M3 SETUP REQUEST", &M3AP, &set_up(b"North Hall, plate 7"));
+    write_rows("START REQUEST", &M3AP, &start(300));
+    write_rows("M3 SETUP REQUEST", &M3AP, &set_up(b"North Hall, plate 7"));
+    write_rows("RESET ACKNOWLEDGE of 256 items", &M3AP, &acknowledge(&items));
     call_rows(&items);
     println!();
     head("### How the cost grows");
@@ -248,4 +250,10 @@ pub fn measure() {
     println!();
     head("### Looking at a unit");
     view_rows();
+    println!();
+    head("### Warnings over SBc-AP");
+    for (name, message) in [("Stop-Warning Request", stop_warning()), ("Stop-Warning Response with diagnostics", stop_warning_answered())] {
+        read_rows(name, &SBCAP, &message);
+        write_rows(name, &SBCAP, &message);
+    }
 }

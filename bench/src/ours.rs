@@ -1,4 +1,4 @@
-//! The calls of `include/m3ap.h`, in the archive `libm3ap.a`.
+//! The calls of `include/m3ap.h` and `include/sbcap.h`, in the archive `libm3ap.a`.
 
 #[repr(C)]
 #[derive(Clone, Copy, PartialEq, Eq, Debug)]
@@ -77,6 +77,10 @@ extern "C" {
     fn m3ap_count_in(unit: *const u8, unit_len: usize, tmgi: Tmgi) -> Counted;
     fn m3ap_marks(unit: *const u8, unit_len: usize) -> Marks;
     fn m3ap_version() -> u32;
+    fn sbcap_read(message: *const u8, message_len: usize, record: *mut u8, record_len: usize) -> Answer;
+    fn sbcap_read_lab(message: *const u8, message_len: usize, record: *mut u8, record_len: usize) -> Answer;
+    fn sbcap_write(record: *const u8, record_len: usize, values: *const u8, values_len: usize, room: *mut u8, room_len: usize) -> Answer;
+    fn sbcap_write_lab(record: *const u8, record_len: usize, values: *const u8, values_len: usize, room: *mut u8, room_len: usize) -> Answer;
 }
 
 pub fn call(unit: &mut [u8], message: &[u8], offered: u16, room: &mut [u8]) -> Answer {
@@ -117,6 +121,26 @@ pub fn count_in(unit: &[u8], tmgi: Tmgi) -> Counted {
 pub fn marks(unit: &[u8]) -> Marks {
     // SAFETY: a part with its length, which is only read.
     unsafe { m3ap_marks(unit.as_ptr(), unit.len()) }
+}
+
+pub fn read_warning(message: &[u8], record: &mut [u8]) -> Answer {
+    // SAFETY: two parts that do not overlap, each with its length.
+    unsafe { sbcap_read(message.as_ptr(), message.len(), record.as_mut_ptr(), record.len()) }
+}
+
+pub fn read_warning_lab(message: &[u8], record: &mut [u8]) -> Answer {
+    // SAFETY: two parts that do not overlap, each with its length.
+    unsafe { sbcap_read_lab(message.as_ptr(), message.len(), record.as_mut_ptr(), record.len()) }
+}
+
+pub fn write_warning(record: &[u8], values: &[u8], room: &mut [u8]) -> Answer {
+    // SAFETY: three parts, of which only the room is written, and it overlaps none.
+    unsafe { sbcap_write(record.as_ptr(), record.len(), values.as_ptr(), values.len(), room.as_mut_ptr(), room.len()) }
+}
+
+pub fn write_warning_lab(record: &[u8], values: &[u8], room: &mut [u8]) -> Answer {
+    // SAFETY: three parts, of which only the room is written, and it overlaps none.
+    unsafe { sbcap_write_lab(record.as_ptr(), record.len(), values.as_ptr(), values.len(), room.as_mut_ptr(), room.len()) }
 }
 
 pub fn version() -> u32 {

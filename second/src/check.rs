@@ -1,21 +1,25 @@
 //! Comparing with witnesses and with messages another program encoded.
 
 use crate::json::Json;
-use crate::layout::{read_record, write_record, RECORD_OCTETS};
-use crate::text::{case_verdict, push_record, read_verdict, unhex};
-use crate::{read, write, Cause, Diagnostics, Entries, Entry, Field, Item, Items, Kind, Read, Record, Refused};
-use crate::{ResetType, Tmgi, KINDS, LIMIT, UNIT_OCTETS};
+use crate::layout::RECORD_OCTETS;
+use crate::text::{self, case_verdict, push_record, read_verdict_by, unhex};
+use crate::{write, Cause, Diagnostics, Entries, Entry, Fault, Field, Item, Items, Kind, Profile, Read, Record, Refused};
+use crate::{ResetType, Table, Tmgi, IGNORE, LIMIT, M3AP, NOT_UNDERSTOOD, REJECT, SBCAP, SBCAP_LAB, UNIT_OCTETS};
+use std::ops::Range;
 
 /// The words with which a witness begins.
-pub const WORDS: [&str; 6] = ["read", "write", "written", "call", "setup", "shown"];
+pub const WORDS: [&str; 10] =
+    ["read", "write", "written", "call", "setup", "shown", "sbc", "lab", "writesbc", "writelab"];
 
 /// Lines that were run, and a text for each that differs.
 #[derive(Default, Debug)]
 pub struct Result {
     /// Witnesses of each word.
-    pub witnesses: [usize; 6],
+    pub witnesses: [usize; WORDS.len()],
+    /// Messages of vectors; those over the limit and those with an extension that is answered 3 among them.
     pub messages: usize,
     pub over: usize,
+    pub extended: usize,
     pub differences: Vec<String>,
 }
 
@@ -53,9 +57,10 @@ pub fn witnesses(name: &str, text: &str, result: &mut Result) {
 pub fn vectors(name: &str, text: &str, result: &mut Result) {
     for (i, line) in text.lines().enumerate().filter(|(_, line)| !line.trim().is_empty()) {
         match vector(line) {
-            Ok(over) => {
+            Ok(outcome) => {
                 result.messages += 1;
-                result.over += over as usize;
+                result.over += (outcome == Outcome::Over) as usize;
+                result.extended += (outcome == Outcome::Extended) as usize;
             }
             Err(why) => result.differences.push(format!("{name} line {}: {why}", i + 1)),
         }
@@ -84,39 +89,166 @@ fn three(v: &Json) -> Option<[u8; 3]> {
     unhex(v.text()?)?.try_into().ok()
 }
 
-/// One message: read to answer 0 with all fields equal (1 if it is too long, which is
-/// returned), rewritten to the same octets from what was read and from the vector's own fields.
-fn vector(line: &str) -> std::result::Result<bool, String> {
-    let broken = || "not understood".to_string();
+#[derive(PartialEq)]
+enum Outcome {
+    /// 0, or 5 for what is unknown.
+    Read,
+    /// 1
+    Over,
+    /// 3
+    Extended,
+}
+
+/// An element of a vector: its id, its criticality, the octets of its value, and what they mean.
+struct Element<'a> {
+    id: u16,
+    criticality: u8,
+    octets: Vec<u8>,
+    meaning: &'a Json,
+}
+
+/// Tags of extensions in what is read, which no reader passes over; and of those beside it, and of unknown elements.
+const REFUSED: [&str; 6] = [
+    "message-addition",
+    "diag-addition",
+    "diag-container",
+    "diag-entry-addition",
+    "diag-entry-container",
+    "error-type-new",
+];
+const PASSED: [&str; 4] = ["message-container", "carried-container", "new-element", "foreign-element"];
+
+type Checked<T> = std::result::Result<T, String>;
+
+fn broken() -> String {
+    "not understood".into()
+}
+
+fn list<'a>(v: &'a Json, key: &str) -> Checked<&'a [Json]> {
+    v.get(key).map_or(Some(&[][..]), Json::list).ok_or_else(broken)
+}
+
+/// One message, by its protocol, SBc-AP's in both profiles.
+fn vector(line: &str) -> Checked<Outcome> {
     let v = Json::parse(line).ok_or_else(broken)?;
     let octets = v.get("hex").and_then(Json::text).and_then(unhex).ok_or_else(broken)?;
     if v.get("octets").and_then(Json::number) != Some(octets.len() as u64) {
         return Err("octets".into());
     }
-    let name = v.get("name").and_then(Json::text).ok_or_else(broken)?;
-    let short = name.strip_prefix("MBMSSession").or(name.strip_prefix("M3")).unwrap_or(name);
-    let kind = *KINDS.iter().find(|k| crate::text::name(**k) == short).ok_or_else(broken)?;
-    let frame = (small(v.get("kind")), small(v.get("procedure")), small(v.get("criticality")));
-    let (choice, procedure, criticality) = kind.frame();
-    if frame != (Some(choice), Some(procedure), Some(criticality)) {
-        return Err("frame".into());
+    let mut elements = Vec::new();
+    for e in list(&v, "elements")? {
+        elements.push(Element {
+            id: e.get("id").and_then(wide).ok_or_else(broken)?,
+            criticality: small(e.get("crit")).ok_or_else(broken)?,
+            octets: e.get("hex").and_then(Json::text).and_then(unhex).ok_or_else(broken)?,
+            meaning: e,
+        });
     }
-    let elements = v.get("elements").and_then(Json::list).ok_or_else(broken)?;
+    let name = v.get("name").and_then(Json::text).ok_or_else(broken)?;
+    let kind = match name {
+        "Error-Indication" => "WarningErrorIndication".into(),
+        _ => name.replace('-', ""),
+    };
+    let kind = kind.strip_prefix("MBMSSession").or(kind.strip_prefix("M3")).unwrap_or(&kind);
+    let profiles: &[&Profile] = if name.contains('-') { &[&SBCAP, &SBCAP_LAB] } else { &[&M3AP] };
 
-    // The lists first, so that the record can borrow them.
-    let mut values = Vec::new();
-    let (mut list, mut entries) = (Vec::new(), Vec::new());
-    for e in elements {
-        let id = e.get("id").and_then(wide).ok_or_else(broken)?;
-        let row = kind.table().rows.iter().position(|row| row.id == id).ok_or_else(broken)?;
-        if small(e.get("crit")) != Some(kind.table().rows[row].criticality) {
-            return Err(format!("criticality of {id}"));
+    let tags: Vec<&str> = list(&v, "tags")?.iter().map(|tag| tag.text().unwrap_or("")).collect();
+    if let Some(tag) = tags.iter().find(|tag| !REFUSED.contains(tag) && !PASSED.contains(tag)) {
+        return Err(format!("tag {tag}"));
+    }
+    if tags.iter().any(|tag| REFUSED.contains(tag)) {
+        let places = extended_at(&octets, &elements, &tags).ok_or_else(broken)?;
+        for profile in profiles {
+            match profile.read(&octets) {
+                Read::Faulty(Fault::Extension(at)) if places.contains(&at) => {}
+                _ => return Err(format!("not 3 at {places:?}: {}", read_verdict_by(profile, &octets))),
+            }
         }
-        let octets = e.get("hex").and_then(Json::text).and_then(unhex).ok_or_else(broken)?;
-        if let Some(of) = e.get("reset").or(e.get("ack")).filter(|v| v.text().is_none()) {
+        return Ok(Outcome::Extended);
+    }
+    for profile in profiles {
+        let table = profile.tables.iter().find(|table| text::name(table.kind) == kind).ok_or_else(broken)?;
+        let frame = (small(v.get("kind")), small(v.get("procedure")), small(v.get("criticality")));
+        let (choice, procedure, criticality) = table.frame;
+        if frame != (Some(choice), Some(procedure), Some(criticality)) {
+            return Err("frame".into());
+        }
+        by_profile(profile, table, &octets, &elements, list(&v, "extensions")?)?;
+    }
+    if name.contains('-') {
+        across_profiles(&octets)?;
+    }
+    Ok(if octets.len() > LIMIT { Outcome::Over } else { Outcome::Read })
+}
+
+/// Where the first extension may begin: the message's bit or that of the diagnostics at one octet, those in the
+/// diagnostics at any behind it.
+fn extended_at(octets: &[u8], elements: &[Element], tags: &[&str]) -> Option<Range<usize>> {
+    let behind_length = |at: usize| at + if octets[at] < 0x80 { 1 } else { 2 };
+    let start = behind_length(3);
+    if tags.contains(&"message-addition") {
+        return Some(start..start + 1);
+    }
+    let mut at = start + 3;
+    for e in elements {
+        let value = behind_length(at + 3);
+        at = value + e.octets.len();
+        if e.meaning.get("diagnostics").is_some() {
+            let whole = tags.contains(&"diag-addition") || tags.contains(&"diag-container");
+            return Some(if whole { value..value + 1 } else { value + 1..at });
+        }
+    }
+    None
+}
+
+/// A length and the octets.
+fn sized(octets: &[u8]) -> Vec<u8> {
+    let n = octets.len();
+    let length = if n < 128 { vec![n as u8] } else { vec![0x80 | (n >> 8) as u8, n as u8] };
+    [&length, octets].concat()
+}
+
+/// The message of these elements alone.
+fn assembled(table: &Table, elements: &[(usize, &Element)]) -> Vec<u8> {
+    let (choice, procedure, criticality) = table.frame;
+    let mut inside = vec![0, (elements.len() >> 8) as u8, elements.len() as u8];
+    for (_, e) in elements {
+        inside.extend(e.id.to_be_bytes());
+        inside.push(e.criticality << 6);
+        inside.extend(sized(&e.octets));
+    }
+    [&[choice << 5, procedure, criticality << 6], &sized(&inside)[..]].concat()
+}
+
+/// By one profile: what it knows of the elements, as a record, and the rest, which is unknown with all extensions.
+fn by_profile(
+    profile: &Profile,
+    table: &'static Table,
+    octets: &[u8],
+    elements: &[Element],
+    extensions: &[Json],
+) -> Checked<()> {
+    let lab = std::ptr::eq(profile, &SBCAP_LAB);
+    // The lists first, so that the record can borrow them.
+    let (mut list, mut entries) = (Vec::new(), Vec::new());
+    let (mut known, mut unknown) = (Vec::new(), Vec::new());
+    for e in elements {
+        let row = table.rows.iter().position(|row| row.id == e.id);
+        // The lab profile knows fewer.
+        if !lab && row.is_none() != (e.meaning.get("unknown") == Some(&Json::Bool(true))) {
+            return Err(format!("element {}", e.id));
+        }
+        let Some(row) = row else {
+            unknown.push((e.criticality, e.id));
+            continue;
+        };
+        if e.criticality != table.rows[row].criticality {
+            return Err(format!("criticality of {}", e.id));
+        }
+        if let Some(of) = e.meaning.get("reset").or(e.meaning.get("ack")).filter(|v| v.text().is_none()) {
             list = items(of).ok_or_else(broken)?;
         }
-        if let Some(of) = e.get("diagnostics").and_then(|d| d.get("list")).and_then(Json::list) {
+        if let Some(of) = e.meaning.get("diagnostics").and_then(|d| d.get("list")).and_then(Json::list) {
             for entry in of {
                 match entry.list().ok_or_else(broken)? {
                     [c, id, error] => entries.push(Entry {
@@ -128,32 +260,62 @@ fn vector(line: &str) -> std::result::Result<bool, String> {
                 }
             }
         }
-        values.push((row, e, octets));
+        known.push((row, e));
     }
-    let record = record(kind, &values, &list, &entries).ok_or_else(broken)?;
-
-    if octets.len() > LIMIT {
-        if read_verdict(&octets) != "answer=1" {
-            return Err(format!("read: {}", read_verdict(&octets)));
+    for extension in extensions {
+        match extension.list().ok_or_else(broken)? {
+            [id, c, _] => unknown.push((small(Some(c)).ok_or_else(broken)?, wide(id).ok_or_else(broken)?)),
+            _ => return Err(broken()),
         }
-        if write(&record, &mut [0; 2 * LIMIT]) != Err(Refused::Record) {
+    }
+    let record = record(table, &known, &list, &entries).ok_or_else(broken)?;
+    let again = assembled(table, &known);
+    if unknown.is_empty() && again != octets {
+        return Err("assembled otherwise".into());
+    }
+    read_and_written(profile, octets, &record, &unknown, &again)
+}
+
+/// Read to 0, or to 5 for what is unknown, with all fields equal (1 if it is too long); written, without what is unknown,
+/// to these octets again, from what was read, from the vector's own fields, and from the record for C.
+fn read_and_written(
+    profile: &Profile,
+    octets: &[u8],
+    record: &Record,
+    unknown: &[(u8, u16)],
+    again: &[u8],
+) -> Checked<()> {
+    if octets.len() > LIMIT {
+        let ours = read_verdict_by(profile, octets);
+        if ours != "answer=1" {
+            return Err(format!("read: {ours}"));
+        }
+        if write(record, &mut [0; 2 * LIMIT]) != Err(Refused::Record) {
             return Err("written".into());
         }
-        return Ok(true);
+        return Ok(());
     }
-    let mut wanted = format!("answer=0 {short} frame={criticality}");
-    push_record(&mut wanted, &record);
-    wanted.push_str(" noted=[]");
-    let ours = read_verdict(&octets);
+    let table = record.table;
+    let rejected = unknown.iter().any(|&(criticality, _)| criticality == REJECT);
+    let noted: Vec<String> =
+        unknown.iter().filter(|&&(c, _)| c != IGNORE).map(|(c, id)| format!("{c}.{id}.{NOT_UNDERSTOOD}")).collect();
+    let answer = if rejected { 5 } else { 0 };
+    let mut wanted = format!("answer={answer} {} frame={}", text::name(table.kind), table.frame.2);
+    push_record(&mut wanted, record);
+    wanted += &format!(" noted=[{}]", noted.join(","));
+    if rejected {
+        wanted += " cause=3.1 place=-";
+    }
+    let ours = read_verdict_by(profile, octets);
     if wanted != ours {
         return Err(format!("wanted {wanted}\n    ours: {ours}"));
     }
-    let Read::Message(reading) = read(&octets) else {
+    let Read::Message(reading) = profile.read(octets) else {
         return Err("not read".into());
     };
-    for record in [&record, &reading.record] {
-        let mut room = vec![0; octets.len()];
-        if write(record, &mut room) != Ok(octets.len()) || room != octets {
+    for record in [record, &reading.record] {
+        let mut room = vec![0; again.len()];
+        if write(record, &mut room) != Ok(again.len()) || room != again {
             return Err("written otherwise".into());
         }
         if write(record, &mut room[1..]) != Err(Refused::Room) {
@@ -162,27 +324,43 @@ fn vector(line: &str) -> std::result::Result<bool, String> {
     }
     // The same by the record for C.
     let mut lent = vec![0xa5; RECORD_OCTETS];
-    let done = read_record(&octets, &mut lent);
-    if (done.answer, done.reply) != (0, RECORD_OCTETS) {
+    let done = profile.read_record(octets, &mut lent);
+    if (done.answer, done.reply) != (answer, RECORD_OCTETS) {
         return Err("no record".into());
     }
-    let mut room = vec![0; octets.len()];
-    let done = write_record(&lent, &octets, &mut room);
-    if (done.answer, done.reply) != (0, octets.len()) || room != octets {
+    let mut room = vec![0; again.len()];
+    let done = profile.write_record(&lent, octets, &mut room);
+    if (done.answer, done.reply) != (0, again.len()) || room != again {
         return Err("written otherwise from the record for C".into());
     }
-    Ok(false)
+    Ok(())
+}
+
+/// The record for C of SBc-AP's ordinary profile under the lab profile: written alike, or 11 where it has other rows.
+fn across_profiles(octets: &[u8]) -> Checked<()> {
+    let mut lent = vec![0; RECORD_OCTETS];
+    SBCAP.read_record(octets, &mut lent);
+    let other = lent[0] == Kind::StopWarningRequest.table().number && lent[2 + 2 * 8..].iter().any(|&b| b != 0);
+    let [ordinary, lab] = [&SBCAP, &SBCAP_LAB].map(|profile| {
+        let mut room = vec![0; LIMIT];
+        (profile.write_record(&lent, octets, &mut room), room)
+    });
+    match other {
+        true if (lab.0.answer, lab.0.reply) != (11, 0) => Err("written with rows that the lab profile has not".into()),
+        false if lab != ordinary => Err("written otherwise under the lab profile".into()),
+        _ => Ok(()),
+    }
 }
 
 fn record<'a>(
-    kind: Kind,
-    values: &'a [(usize, &Json, Vec<u8>)],
+    table: &'static Table,
+    elements: &[(usize, &'a Element)],
     list: &'a [Item],
     entries: &'a [Entry],
 ) -> Option<Record<'a>> {
-    let mut record = Record::new(kind);
-    for (row, e, octets) in values {
-        match kind.table().rows[*row].field {
+    let mut record = Record::of(table);
+    for &(row, Element { octets, meaning: e, .. }) in elements {
+        match table.rows[row].field {
             Field::Mme => record.mme = Some(e.get("mme").and_then(wide)?),
             Field::Mce => record.mce = Some(e.get("mce").and_then(wide)?),
             Field::Tmgi => match e.get("tmgi")?.list()? {
@@ -218,7 +396,10 @@ fn record<'a>(
             }
             Field::Name => record.name = Some(e.get("text")?.text()?.as_bytes()),
             Field::Wait => record.wait = Some(small(e.get("wait"))?),
-            Field::Carried => record.carried[*row] = Some(octets),
+            Field::MessageIdentifier => record.message_identifier = Some(e.get("message_identifier").and_then(wide)?),
+            Field::SerialNumber => record.serial_number = Some(e.get("serial_number").and_then(wide)?),
+            Field::WarningCause => record.warning_cause = Some(small(e.get("cause"))?),
+            Field::Carried => record.carried[row] = Some(octets),
         }
     }
     Some(record)

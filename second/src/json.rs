@@ -3,6 +3,7 @@
 #[derive(Clone, Debug, PartialEq)]
 pub enum Json {
     Null,
+    Bool(bool),
     Number(u64),
     Text(String),
     List(Vec<Json>),
@@ -98,6 +99,14 @@ fn value(rest: &mut &str) -> Option<Json> {
         'n' => {
             *rest = rest.strip_prefix("null")?;
             Some(Json::Null)
+        }
+        't' => {
+            *rest = rest.strip_prefix("true")?;
+            Some(Json::Bool(true))
+        }
+        'f' => {
+            *rest = rest.strip_prefix("false")?;
+            Some(Json::Bool(false))
         }
         _ => {
             let end = rest.find(|c: char| !c.is_ascii_digit()).unwrap_or(rest.len());

@@ -1,9 +1,9 @@
 //! The record of a message for C (docs/LAYOUTS.md), and reading and writing by it.
 //! Octets are a record exactly if they are the octets of what they say.
 
-use crate::{bare, be16, faulty, place_in, read, write};
+use crate::{bare, be16, faulty, place_in, write};
 use crate::{Cause, Diagnostics, Done, Entries, Field, Items, Kind, Read, Reading, Record, Refused, ResetType, Tmgi};
-use crate::{KINDS, MOST, ROWS};
+use crate::{Profile, M3AP, MOST, ROWS};
 
 pub const RECORD_OCTETS: usize = ENTRIES_AT + 4 * MOST;
 const SLOTS_AT: usize = 2;
@@ -50,9 +50,9 @@ pub fn put(reading: &Reading, message: &[u8], octets: &mut [u8]) {
     let of = &reading.record;
     let octets = &mut octets[..RECORD_OCTETS];
     octets.fill(0);
-    octets[0] = of.kind as u8 + 1;
+    octets[0] = of.table.number;
     octets[1] = reading.frame;
-    for (i, row) in of.kind.table().rows.iter().enumerate() {
+    for (i, row) in of.table.rows.iter().enumerate() {
         // The flag, and the value behind it.
         let mut slot = [0; SLOT];
         let mut there = |flag: u8, value: &[u8]| {
@@ -98,6 +98,9 @@ pub fn put(reading: &Reading, message: &[u8], octets: &mut [u8]) {
             }
             Field::Name => of.name.into_iter().for_each(|v| there(1, &place(v))),
             Field::Wait => of.wait.into_iter().for_each(|v| there(1, &[v])),
+            Field::MessageIdentifier => of.message_identifier.into_iter().for_each(|v| there(1, &v.to_be_bytes())),
+            Field::SerialNumber => of.serial_number.into_iter().for_each(|v| there(1, &v.to_be_bytes())),
+            Field::WarningCause => of.warning_cause.into_iter().for_each(|v| there(1, &[v])),
             Field::Carried => of.carried[i].into_iter().for_each(|v| there(1, &place(v))),
         }
         let at = SLOTS_AT + SLOT * i;
@@ -146,132 +149,166 @@ fn rows(octets: &[u8], size: usize) -> Option<&[u8]> {
     zeros(behind).then_some(rows)
 }
 
-/// What the octets say, values being parts of `values`. None: they are no record.
-/// A place that does not lie in `values` is a value of no octets.
-pub fn taken<'a>(octets: &'a [u8], values: &'a [u8]) -> Option<Taken<'a>> {
-    if octets.len() != RECORD_OCTETS {
-        return None;
-    }
-    let kind = *KINDS.get((octets[0] as usize).checked_sub(1)?)?;
-    let items = rows(&octets[ITEM_COUNT_AT..ENTRY_COUNT_AT], 6)?;
-    if !items.chunks_exact(3).all(flagged) {
-        return None;
-    }
-    let entries = rows(&octets[ENTRY_COUNT_AT..], 4)?;
-    let (mut has_items, mut has_entries) = (false, false);
-    let mut record = Record::new(kind);
-    let table = kind.table().rows;
-    for (i, slot) in octets[SLOTS_AT..ITEM_COUNT_AT].chunks_exact(SLOT).enumerate() {
-        let Some(row) = table.get(i) else {
-            if !zeros(slot) {
-                return None;
-            }
-            continue;
-        };
-        let (flag, value) = (slot[0], &slot[1..]);
-        if flag == 0 {
-            if !zeros(value) {
-                return None;
-            }
-            continue;
-        }
-        if flag > if row.field == Field::Reset { 2 } else { 1 } {
+impl Profile {
+    /// What the octets say, values being parts of `values`. None: they are no record.
+    /// A place that does not lie in `values` is a value of no octets.
+    pub fn taken<'a>(&self, octets: &'a [u8], values: &'a [u8]) -> Option<Taken<'a>> {
+        if octets.len() != RECORD_OCTETS {
             return None;
         }
-        let at_place = || {
-            let (from, n) = (be16(value, 0) as usize, be16(value, 2) as usize);
-            values.get(from..from + n).unwrap_or(&[])
-        };
-        let used = match row.field {
-            Field::Mme => {
-                record.mme = Some(be16(value, 0));
-                2
-            }
-            Field::Mce => {
-                record.mce = Some(be16(value, 0));
-                2
-            }
-            Field::Tmgi => {
-                record.tmgi =
-                    Some(Tmgi { plmn: [value[0], value[1], value[2]], service: [value[3], value[4], value[5]] });
-                6
-            }
-            Field::Session => {
-                record.session = Some(value[0]);
-                1
-            }
-            Field::Cause => {
-                record.cause = Some(Cause { group: value[0], number: value[1] });
-                2
-            }
-            Field::Reset => {
-                has_items = flag == 2;
-                record.reset = Some(if has_items { ResetType::Part(Items::Lent(items)) } else { ResetType::All });
-                0
-            }
-            Field::Acknowledged => {
-                has_items = true;
-                record.acknowledged = Some(Items::Lent(items));
-                0
-            }
-            Field::Diagnostics => {
-                if !value[..6].chunks_exact(2).all(flagged) || value[6] > 1 {
+        let table = self.numbered(octets[0])?;
+        let items = rows(&octets[ITEM_COUNT_AT..ENTRY_COUNT_AT], 6)?;
+        if !items.chunks_exact(3).all(flagged) {
+            return None;
+        }
+        let entries = rows(&octets[ENTRY_COUNT_AT..], 4)?;
+        let (mut has_items, mut has_entries) = (false, false);
+        let mut record = Record::of(table);
+        for (i, slot) in octets[SLOTS_AT..ITEM_COUNT_AT].chunks_exact(SLOT).enumerate() {
+            let Some(row) = table.rows.get(i) else {
+                if !zeros(slot) {
                     return None;
                 }
-                has_entries = value[6] == 1;
-                let part = |i: usize| (value[i] == 1).then_some(value[i + 1]);
-                record.diagnostics = Some(Diagnostics {
-                    code: part(0),
-                    trigger: part(2),
-                    criticality: part(4),
-                    entries: has_entries.then_some(Entries::Lent(entries)),
-                });
-                7
+                continue;
+            };
+            let (flag, value) = (slot[0], &slot[1..]);
+            if flag == 0 {
+                if !zeros(value) {
+                    return None;
+                }
+                continue;
             }
-            Field::Name => {
-                record.name = Some(at_place());
-                4
+            if flag > if row.field == Field::Reset { 2 } else { 1 } {
+                return None;
             }
-            Field::Wait => {
-                record.wait = Some(value[0]);
-                1
+            let at_place = || {
+                let (from, n) = (be16(value, 0) as usize, be16(value, 2) as usize);
+                values.get(from..from + n).unwrap_or(&[])
+            };
+            let used = match row.field {
+                Field::Mme => {
+                    record.mme = Some(be16(value, 0));
+                    2
+                }
+                Field::Mce => {
+                    record.mce = Some(be16(value, 0));
+                    2
+                }
+                Field::Tmgi => {
+                    record.tmgi =
+                        Some(Tmgi { plmn: [value[0], value[1], value[2]], service: [value[3], value[4], value[5]] });
+                    6
+                }
+                Field::Session => {
+                    record.session = Some(value[0]);
+                    1
+                }
+                Field::Cause => {
+                    record.cause = Some(Cause { group: value[0], number: value[1] });
+                    2
+                }
+                Field::Reset => {
+                    has_items = flag == 2;
+                    record.reset = Some(if has_items { ResetType::Part(Items::Lent(items)) } else { ResetType::All });
+                    0
+                }
+                Field::Acknowledged => {
+                    has_items = true;
+                    record.acknowledged = Some(Items::Lent(items));
+                    0
+                }
+                Field::Diagnostics => {
+                    if !value[..6].chunks_exact(2).all(flagged) || value[6] > 1 {
+                        return None;
+                    }
+                    has_entries = value[6] == 1;
+                    let part = |i: usize| (value[i] == 1).then_some(value[i + 1]);
+                    record.diagnostics = Some(Diagnostics {
+                        code: part(0),
+                        trigger: part(2),
+                        criticality: part(4),
+                        entries: has_entries.then_some(Entries::Lent(entries)),
+                    });
+                    7
+                }
+                Field::Name => {
+                    record.name = Some(at_place());
+                    4
+                }
+                Field::Wait => {
+                    record.wait = Some(value[0]);
+                    1
+                }
+                Field::MessageIdentifier => {
+                    record.message_identifier = Some(be16(value, 0));
+                    2
+                }
+                Field::SerialNumber => {
+                    record.serial_number = Some(be16(value, 0));
+                    2
+                }
+                Field::WarningCause => {
+                    record.warning_cause = Some(value[0]);
+                    1
+                }
+                Field::Carried => {
+                    record.carried[i] = Some(at_place());
+                    4
+                }
+            };
+            if !zeros(&value[used..]) {
+                return None;
             }
-            Field::Carried => {
-                record.carried[i] = Some(at_place());
-                4
-            }
-        };
-        if !zeros(&value[used..]) {
+        }
+        if (!has_items && !items.is_empty()) || (!has_entries && !entries.is_empty()) {
             return None;
         }
+        Some(Taken { criticality: octets[1], record })
     }
-    if (!has_items && !items.is_empty()) || (!has_entries && !entries.is_empty()) {
-        return None;
+
+    /// Reads a message into a record for C: put with answers 0 and 5, whose place 10 takes.
+    #[inline]
+    pub fn read_record(&self, message: &[u8], record: &mut [u8]) -> Done {
+        let reading = match self.read(message) {
+            Read::TooLong => return bare(1),
+            Read::Faulty(fault) => return faulty(fault),
+            Read::NotOurs => return bare(4),
+            Read::Message(reading) => reading,
+        };
+        if record.len() < RECORD_OCTETS {
+            return bare(10);
+        }
+        put(&reading, message, record);
+        Done { reply: RECORD_OCTETS, ..bare(if reading.rejected.is_some() { 5 } else { 0 }) }
     }
-    Some(Taken { criticality: octets[1], record })
+
+    /// Writes the message of a record for C to the front of the room.
+    #[inline]
+    pub fn write_record(&self, record: &[u8], values: &[u8], room: &mut [u8]) -> Done {
+        let written = match &self.taken(record, values) {
+            Some(taken) => taken.write(room),
+            None => Err(Refused::Record),
+        };
+        match written {
+            Ok(reply) => Done { reply, ..bare(0) },
+            Err(refused) => bare(refused.answer()),
+        }
+    }
 }
 
-/// Reads a message into a record for C: put with answers 0 and 5, whose place 10 takes.
+/// What the octets of a record of M3AP say.
+pub fn taken<'a>(octets: &'a [u8], values: &'a [u8]) -> Option<Taken<'a>> {
+    M3AP.taken(octets, values)
+}
+
+/// What `m3ap_read` is.
 pub fn read_record(message: &[u8], record: &mut [u8]) -> Done {
-    let reading = match read(message) {
-        Read::TooLong => return bare(1),
-        Read::Faulty(fault) => return faulty(fault),
-        Read::NotOurs => return bare(4),
-        Read::Message(reading) => reading,
-    };
-    if record.len() < RECORD_OCTETS {
-        return bare(10);
-    }
-    put(&reading, message, record);
-    Done { reply: RECORD_OCTETS, ..bare(if reading.rejected.is_some() { 5 } else { 0 }) }
+    M3AP.read_record(message, record)
 }
 
-/// Writes the message of a record for C to the front of the room.
+/// What `m3ap_write` is.
 pub fn write_record(record: &[u8], values: &[u8], room: &mut [u8]) -> Done {
-    match taken(record, values).ok_or(Refused::Record).and_then(|taken| taken.write(room)) {
-        Ok(reply) => Done { reply, ..bare(0) },
-        Err(refused) => bare(refused.answer()),
-    }
+    M3AP.write_record(record, values, room)
 }
 
 /// The record of an M3 SETUP REQUEST, and the octets in which its values lie one after the other.

@@ -1,7 +1,8 @@
 //! M3AP at the coordination unit: reader, writer, unit call and setup call for eleven messages, their record
-//! for C, the shown name, and what a unit holds.
-//! Written from the scope paper (01), the change requests (02: 2026-01), their readings and TS 36.444 9.3.3
-//! to 9.3.7 alone.
+//! for C, the shown name, and what a unit holds. Warnings over SBc-AP: reader, writer and record for C of three
+//! messages, in two profiles, by the same functions.
+//! Written from the scope paper (01), the change requests (02: 2026-01, 2026-11), their readings, TS 36.444 9.3.3
+//! to 9.3.7 and TS 29.168 4.4.3 to 4.4.8 alone.
 #![deny(warnings)]
 #![forbid(unsafe_code)]
 
@@ -27,7 +28,7 @@ pub const MISSING: u8 = 1;
 
 pub const ID_ITEM: u16 = 14;
 
-// ---------------------------------------------------------------- tables (9.3.4)
+// ---------------------------------------------------------------- tables (TS 36.444 9.3.4, TS 29.168 4.4.4)
 
 #[derive(Clone, Copy, PartialEq, Eq, Debug)]
 pub enum Kind {
@@ -42,60 +43,19 @@ pub enum Kind {
     SetupRequest,
     SetupResponse,
     SetupFailure,
+    StopWarningRequest,
+    StopWarningResponse,
+    /// SBc-AP's Error Indication.
+    WarningErrorIndication,
 }
 
-/// In the order of their numbers in a record for C, from 1.
-pub const KINDS: [Kind; 11] = [
-    Kind::StartRequest,
-    Kind::StartResponse,
-    Kind::StartFailure,
-    Kind::StopRequest,
-    Kind::StopResponse,
-    Kind::Reset,
-    Kind::ResetAcknowledge,
-    Kind::ErrorIndication,
-    Kind::SetupRequest,
-    Kind::SetupResponse,
-    Kind::SetupFailure,
-];
-
 impl Kind {
-    /// Number of the choice in the frame, procedure code, criticality of the procedure.
-    pub fn frame(self) -> (u8, u8, u8) {
-        match self {
-            Kind::StartRequest => (0, 0, REJECT),
-            Kind::StartResponse => (1, 0, REJECT),
-            Kind::StartFailure => (2, 0, REJECT),
-            Kind::StopRequest => (0, 1, REJECT),
-            Kind::StopResponse => (1, 1, REJECT),
-            Kind::Reset => (0, 4, REJECT),
-            Kind::ResetAcknowledge => (1, 4, REJECT),
-            Kind::ErrorIndication => (0, 2, IGNORE),
-            Kind::SetupRequest => (0, 7, REJECT),
-            Kind::SetupResponse => (1, 7, REJECT),
-            Kind::SetupFailure => (2, 7, REJECT),
-        }
-    }
-
-    fn of(choice: u8, procedure: u8) -> Option<Kind> {
-        Some(match (choice, procedure) {
-            (0, 0) => Kind::StartRequest,
-            (1, 0) => Kind::StartResponse,
-            (2, 0) => Kind::StartFailure,
-            (0, 1) => Kind::StopRequest,
-            (1, 1) => Kind::StopResponse,
-            (0, 4) => Kind::Reset,
-            (1, 4) => Kind::ResetAcknowledge,
-            (0, 2) => Kind::ErrorIndication,
-            (0, 7) => Kind::SetupRequest,
-            (1, 7) => Kind::SetupResponse,
-            (2, 7) => Kind::SetupFailure,
-            _ => return None,
-        })
-    }
-
+    /// Its table in M3AP, or in the ordinary profile of SBc-AP.
     pub fn table(self) -> &'static Table {
-        &TABLES[self as usize]
+        match (self as usize).checked_sub(M3AP_TABLES.len()) {
+            None => &M3AP_TABLES[self as usize],
+            Some(warning) => &SBCAP_TABLES[warning],
+        }
     }
 }
 
@@ -113,6 +73,10 @@ pub enum Field {
     Name,
     /// Time to Wait.
     Wait,
+    MessageIdentifier,
+    SerialNumber,
+    /// SBc-AP's Cause: a number, and no choice.
+    WarningCause,
     Carried,
 }
 
@@ -124,17 +88,31 @@ pub struct Row {
     pub field: Field,
 }
 
+/// A message of a profile.
+#[derive(Debug)]
 pub struct Table {
+    pub kind: Kind,
+    /// Its number in a record for C.
+    pub number: u8,
+    /// Number of the choice in the frame, procedure code, criticality of the procedure.
+    pub frame: (u8, u8, u8),
+    /// How a message opens: the bit of its first octet that announces an extension container behind the elements,
+    /// or 0 if it can have none.
+    pub container: u8,
+    /// How many values a triggering message has.
+    pub triggers: u8,
     pub rows: &'static [Row],
     /// Row of each element id, `UNKNOWN` where the message has none.
-    by_id: [u8; 26],
+    by_id: [u8; IDS],
     /// Rows whose absence rejects the message (and is listed): mandatory and of reject.
-    /// No row of 9.3.4 is of notify, so the two sets are one.
+    /// No row of a table is of notify, so the two sets are one.
     needed: u16,
 }
 
 const UNKNOWN: u8 = 0xff;
 const ROWS: usize = 12;
+/// Ids of elements that tables have: 0 to 27.
+const IDS: usize = 28;
 
 const fn row(id: u16, mandatory: bool, criticality: u8, field: Field) -> Row {
     Row { id, mandatory, criticality, field }
@@ -198,8 +176,30 @@ const SETUP_FAILURE: &[Row] = &[
     row(8, O, IGNORE, Field::Diagnostics),
 ];
 
-const fn table(rows: &'static [Row]) -> Table {
-    let mut by_id = [UNKNOWN; 26];
+const STOP_WARNING_REQUEST: &[Row] = &[
+    row(5, M, REJECT, Field::MessageIdentifier),
+    row(11, M, REJECT, Field::SerialNumber),
+    row(14, O, REJECT, Field::Carried),
+    row(15, O, IGNORE, Field::Carried),
+    row(19, O, IGNORE, Field::Carried),
+    row(26, O, IGNORE, Field::Carried),
+    row(27, O, REJECT, Field::Carried),
+];
+const STOP_WARNING_RESPONSE: &[Row] = &[
+    row(5, M, REJECT, Field::MessageIdentifier),
+    row(11, M, REJECT, Field::SerialNumber),
+    row(1, M, REJECT, Field::WarningCause),
+    row(2, O, IGNORE, Field::Diagnostics),
+    row(22, O, IGNORE, Field::Carried),
+];
+const WARNING_ERROR_INDICATION: &[Row] = &[
+    row(1, O, IGNORE, Field::WarningCause),
+    row(2, O, IGNORE, Field::Diagnostics),
+];
+
+/// A message of M3AP.
+const fn table(kind: Kind, number: u8, frame: (u8, u8, u8), rows: &'static [Row]) -> Table {
+    let mut by_id = [UNKNOWN; IDS];
     let mut needed = 0;
     let mut i = 0;
     while i < rows.len() {
@@ -209,22 +209,77 @@ const fn table(rows: &'static [Row]) -> Table {
         }
         i += 1;
     }
-    Table { rows, by_id, needed }
+    Table { kind, number, frame, container: 0, triggers: 3, rows, by_id, needed }
 }
 
-static TABLES: [Table; 11] = [
-    table(START_REQUEST),
-    table(RESPONSE),
-    table(START_FAILURE),
-    table(STOP_REQUEST),
-    table(RESPONSE),
-    table(RESET),
-    table(RESET_ACKNOWLEDGE),
-    table(ERROR_INDICATION),
-    table(SETUP_REQUEST),
-    table(SETUP_RESPONSE),
-    table(SETUP_FAILURE),
+/// A message of SBc-AP: its triggering message has a fourth value, outcome.
+const fn warning(kind: Kind, number: u8, frame: (u8, u8, u8), container: u8, rows: &'static [Row]) -> Table {
+    Table { container, triggers: 4, ..table(kind, number, frame, rows) }
+}
+
+/// In the order of their numbers in a record for C.
+static M3AP_TABLES: [Table; 11] = [
+    table(Kind::StartRequest, 1, (0, 0, REJECT), START_REQUEST),
+    table(Kind::StartResponse, 2, (1, 0, REJECT), RESPONSE),
+    table(Kind::StartFailure, 3, (2, 0, REJECT), START_FAILURE),
+    table(Kind::StopRequest, 4, (0, 1, REJECT), STOP_REQUEST),
+    table(Kind::StopResponse, 5, (1, 1, REJECT), RESPONSE),
+    table(Kind::Reset, 6, (0, 4, REJECT), RESET),
+    table(Kind::ResetAcknowledge, 7, (1, 4, REJECT), RESET_ACKNOWLEDGE),
+    table(Kind::ErrorIndication, 8, (0, 2, IGNORE), ERROR_INDICATION),
+    table(Kind::SetupRequest, 9, (0, 7, REJECT), SETUP_REQUEST),
+    table(Kind::SetupResponse, 10, (1, 7, REJECT), SETUP_RESPONSE),
+    table(Kind::SetupFailure, 11, (2, 7, REJECT), SETUP_FAILURE),
 ];
+static SBCAP_TABLES: [Table; 3] = warnings(STOP_WARNING_REQUEST);
+static LAB_TABLES: [Table; 3] = warnings(STOP_WARNING_REQUEST.split_at(2).0);
+
+/// Likewise, with these rows of a Stop-Warning Request.
+const fn warnings(request: &'static [Row]) -> [Table; 3] {
+    [
+        warning(Kind::StopWarningRequest, 1, (0, 1, REJECT), 0x40, request),
+        warning(Kind::StopWarningResponse, 2, (1, 1, REJECT), 0x40, STOP_WARNING_RESPONSE),
+        warning(Kind::WarningErrorIndication, 3, (0, 2, IGNORE), 0, WARNING_ERROR_INDICATION),
+    ]
+}
+
+/// The messages that a reader and a writer go by.
+#[derive(Debug)]
+pub struct Profile {
+    /// In the order of their numbers in a record for C, from 1.
+    pub tables: &'static [Table],
+    /// By procedure code and choice: the number of the message, 0 where there is none.
+    by_frame: [[u8; 3]; 8],
+}
+
+const fn profile(tables: &'static [Table]) -> Profile {
+    let mut by_frame = [[0; 3]; 8];
+    let mut i = 0;
+    while i < tables.len() {
+        let (choice, procedure, _) = tables[i].frame;
+        by_frame[procedure as usize][choice as usize] = i as u8 + 1;
+        i += 1;
+    }
+    Profile { tables, by_frame }
+}
+
+pub static M3AP: Profile = profile(&M3AP_TABLES);
+/// SBc-AP's ordinary profile.
+pub static SBCAP: Profile = profile(&SBCAP_TABLES);
+/// Its lab profile: of a Stop-Warning Request, all but Message Identifier and Serial Number is unknown.
+pub static SBCAP_LAB: Profile = profile(&LAB_TABLES);
+
+impl Profile {
+    /// The message of a frame.
+    fn table(&self, choice: u8, procedure: u8) -> Option<&'static Table> {
+        self.numbered(self.by_frame.get(procedure as usize)?[choice as usize])
+    }
+
+    /// The message of a number in a record for C.
+    fn numbered(&self, number: u8) -> Option<&'static Table> {
+        self.tables.get((number as usize).checked_sub(1)?)
+    }
+}
 
 impl Table {
     fn row_of(&self, id: u16) -> u8 {
@@ -429,7 +484,7 @@ pub struct Diagnostics<'a> {
 /// `carried` holds the octets of carried elements at the number of their row.
 #[derive(Clone, Debug)]
 pub struct Record<'a> {
-    pub kind: Kind,
+    pub table: &'static Table,
     pub mme: Option<u16>,
     pub mce: Option<u16>,
     pub tmgi: Option<Tmgi>,
@@ -442,6 +497,9 @@ pub struct Record<'a> {
     pub name: Option<&'a [u8]>,
     /// Time to Wait, its number 0 to 5.
     pub wait: Option<u8>,
+    pub message_identifier: Option<u16>,
+    pub serial_number: Option<u16>,
+    pub warning_cause: Option<u8>,
     pub carried: [Option<&'a [u8]>; ROWS],
 }
 
@@ -460,8 +518,12 @@ pub fn name_allowed(name: &[u8]) -> bool {
 
 impl Record<'_> {
     pub fn new(kind: Kind) -> Self {
+        Record::of(kind.table())
+    }
+
+    pub fn of(table: &'static Table) -> Self {
         Record {
-            kind,
+            table,
             mme: None,
             mce: None,
             tmgi: None,
@@ -472,6 +534,9 @@ impl Record<'_> {
             diagnostics: None,
             name: None,
             wait: None,
+            message_identifier: None,
+            serial_number: None,
+            warning_cause: None,
             carried: [None; ROWS],
         }
     }
@@ -522,17 +587,20 @@ pub struct Rejection {
 /// unknown elements of reject or notify in message order, then missing rows in table order.
 #[derive(Clone, Debug)]
 pub struct Noted<'a> {
-    /// Elements that count and may hold unknown ones to list.
-    elements: &'a [u8],
-    unknown: usize,
+    table: &'static Table,
+    /// Elements that count and may hold unknown ones to list, behind them the container.
+    octets: &'a [u8],
+    /// How many of the octets, the last, are extensions, which are unknown whatever their ids.
+    /// Narrow, as the other numbers are: a record has room for a list, and is copied.
+    beside: u16,
+    unknown: u16,
     missing: u16,
-    table: Kind,
-    left: usize,
+    left: u16,
 }
 
 impl Noted<'_> {
     pub fn len(&self) -> usize {
-        self.left
+        self.left as usize
     }
 
     pub fn is_empty(&self) -> bool {
@@ -548,21 +616,25 @@ impl Iterator for Noted<'_> {
             return None;
         }
         self.left -= 1;
-        let table = self.table.table();
         if self.unknown > 0 {
             self.unknown -= 1;
             loop {
-                let o = self.elements;
+                // The number of extensions stands before them; no element is as short as it.
+                if self.octets.len() == self.beside as usize + 2 {
+                    self.octets = &self.octets[2..];
+                }
+                let o = self.octets;
                 let id = be16(o, 0);
                 let criticality = o[2] >> 6;
                 let size = if o[3] < 0x80 { 4 + o[3] as usize } else { 5 + (be16(o, 3) & 0x3fff) as usize };
-                self.elements = &o[size..];
-                if criticality != IGNORE && table.row_of(id) == UNKNOWN {
+                self.octets = &o[size..];
+                let known = o.len() > self.beside as usize && self.table.row_of(id) != UNKNOWN;
+                if criticality != IGNORE && !known {
                     return Some(Entry { criticality, id, error: NOT_UNDERSTOOD });
                 }
             }
         }
-        let row = &table.rows[self.missing.trailing_zeros() as usize];
+        let row = &self.table.rows[self.missing.trailing_zeros() as usize];
         self.missing &= self.missing - 1;
         Some(Entry { criticality: row.criticality, id: row.id, error: MISSING })
     }
@@ -640,7 +712,7 @@ fn ends(at: usize, end: usize) -> Result<(), Fault> {
 }
 
 #[inline]
-fn identity(o: &[u8], at: usize, end: usize) -> Result<u16, Fault> {
+fn two_octets(o: &[u8], at: usize, end: usize) -> Result<u16, Fault> {
     if end - at < 2 {
         return Err(Encoding(at));
     }
@@ -710,11 +782,11 @@ fn items(o: &[u8], at: usize, end: usize) -> Result<Items<'_>, Fault> {
         }
         at += 1;
         if b & 0x40 != 0 {
-            identity(o, at, stop)?;
+            two_octets(o, at, stop)?;
             at += 2;
         }
         if b & 0x20 != 0 {
-            identity(o, at, stop)?;
+            two_octets(o, at, stop)?;
             at += 2;
         }
         ends(at, stop)?;
@@ -744,9 +816,10 @@ fn reset_type(o: &[u8], at: usize, end: usize) -> Result<ResetType<'_>, Fault> {
     Ok(ResetType::Part(items(o, at + 1, end)?))
 }
 
-fn diagnostics(o: &[u8], at: usize, end: usize) -> Result<Diagnostics<'_>, Fault> {
+/// Criticality Diagnostics with so many triggering messages.
+fn diagnostics(o: &[u8], at: usize, end: usize, triggers: u8) -> Result<Diagnostics<'_>, Fault> {
     let octet = |at: usize| if at < end { Ok(o[at]) } else { Err(Encoding(at)) };
-    let two = |bits: u8, at: usize| if bits & 3 < 3 { Ok(Some(bits & 3)) } else { Err(Encoding(at)) };
+    let two = |bits: u8, limit: u8, at: usize| if bits & 3 < limit { Ok(Some(bits & 3)) } else { Err(Encoding(at)) };
     let b = o[at];
     if b & 0x84 != 0 {
         return Err(Extension(at));
@@ -764,16 +837,16 @@ fn diagnostics(o: &[u8], at: usize, end: usize) -> Result<Diagnostics<'_>, Fault
             let c = octet(next)?;
             let pad = match has {
                 (true, true) => {
-                    trigger = two(c >> 6, next)?;
-                    criticality = two(c >> 4, next)?;
+                    trigger = two(c >> 6, triggers, next)?;
+                    criticality = two(c >> 4, 3, next)?;
                     c & 0x0f
                 }
                 (true, false) => {
-                    trigger = two(c >> 6, next)?;
+                    trigger = two(c >> 6, triggers, next)?;
                     c & 0x3f
                 }
                 _ => {
-                    criticality = two(c >> 6, next)?;
+                    criticality = two(c >> 6, 3, next)?;
                     c & 0x3f
                 }
             };
@@ -786,12 +859,12 @@ fn diagnostics(o: &[u8], at: usize, end: usize) -> Result<Diagnostics<'_>, Fault
         match has {
             (false, false) if b & 3 != 0 => return Err(Encoding(at)),
             (false, false) => {}
-            (true, false) => trigger = two(b, at)?,
-            (false, true) => criticality = two(b, at)?,
+            (true, false) => trigger = two(b, triggers, at)?,
+            (false, true) => criticality = two(b, 3, at)?,
             (true, true) => {
-                trigger = two(b, at)?;
+                trigger = two(b, triggers, at)?;
                 let c = octet(next)?;
-                criticality = two(c >> 6, next)?;
+                criticality = two(c >> 6, 3, next)?;
                 if c & 0x3f != 0 {
                     return Err(Encoding(next));
                 }
@@ -877,13 +950,61 @@ fn wait(o: &[u8], at: usize, end: usize) -> Result<u8, Fault> {
     Ok(number)
 }
 
-/// Reads the message that begins at `start` and ends with the octets, and judges its elements.
-fn inside(o: &[u8], start: usize, kind: Kind, frame: u8) -> Result<Reading<'_>, Fault> {
+/// Unknown elements: how many are listed, and whether one rejects.
+#[derive(Default)]
+struct Unknown {
+    listed: u16,
+    reject: bool,
+}
+
+impl Unknown {
+    #[inline]
+    fn met(&mut self, criticality: u8) {
+        self.listed += (criticality != IGNORE) as u16;
+        self.reject |= criticality == REJECT;
+    }
+}
+
+/// An element or an extension at `at`: its id, its criticality, and the value's begin and end.
+#[inline]
+fn element(o: &[u8], at: usize, end: usize) -> Result<(u16, u8, usize, usize), Fault> {
+    if end - at < 2 {
+        return Err(Encoding(at));
+    }
+    let (criticality, start, stop) = envelope(o, at + 2, end)?;
+    Ok((be16(o, at), criticality, start, stop))
+}
+
+/// The container that begins at `at` and ends with the message: the number of extensions less 1, and they. Each is an
+/// unknown element, if anything there still counts. How many octets they have.
+fn extensions(o: &[u8], at: usize, unknown: &mut Unknown, counts: bool) -> Result<usize, Fault> {
     let end = o.len();
-    if o[start] & 0x80 != 0 {
+    let last = two_octets(o, at, end)?;
+    // There are at most 65,535.
+    if last == u16::MAX {
+        return Err(Encoding(at));
+    }
+    let first = at + 2;
+    let mut at = first;
+    for _ in 0..=last {
+        let (_, criticality, _, value_end) = element(o, at, end)?;
+        at = value_end;
+        if counts {
+            unknown.met(criticality);
+        }
+    }
+    ends(at, end)?;
+    Ok(end - first)
+}
+
+/// Reads the message that begins at `start` and ends with the octets, and judges its elements.
+fn inside<'a>(o: &'a [u8], start: usize, table: &'static Table, frame: u8) -> Result<Reading<'a>, Fault> {
+    let end = o.len();
+    let opening = o[start];
+    if opening & 0x80 != 0 {
         return Err(Extension(start));
     }
-    if o[start] != 0 {
+    if opening & !table.container != 0 {
         return Err(Encoding(start));
     }
     if end - start < 3 {
@@ -891,26 +1012,19 @@ fn inside(o: &[u8], start: usize, kind: Kind, frame: u8) -> Result<Reading<'_>, 
     }
     let count = be16(o, start + 1) as usize;
     let first = start + 3;
-    let table = kind.table();
-    let mut record = Record::new(kind);
+    let mut record = Record::of(table);
     let mut at = first;
     let mut place = None;
     let mut next_row = 0;
     let mut seen = 0u16;
-    let mut unknown = 0;
-    let mut unknown_reject = false;
+    let mut unknown = Unknown::default();
     for number in 0..count {
-        if end - at < 2 {
-            return Err(Encoding(at));
-        }
-        let id = be16(o, at);
-        let (criticality, value, value_end) = envelope(o, at + 2, end)?;
+        let (id, criticality, value, value_end) = element(o, at, end)?;
         at = value_end;
         let row = table.row_of(id);
         if row == UNKNOWN {
-            if place.is_none() && criticality != IGNORE {
-                unknown += 1;
-                unknown_reject |= criticality == REJECT;
+            if place.is_none() {
+                unknown.met(criticality);
             }
             continue;
         }
@@ -924,14 +1038,14 @@ fn inside(o: &[u8], start: usize, kind: Kind, frame: u8) -> Result<Reading<'_>, 
         }
         match table.rows[row as usize].field {
             Field::Mme => {
-                let v = identity(o, value, value_end)?;
+                let v = two_octets(o, value, value_end)?;
                 ends(value + 2, value_end)?;
                 if counts {
                     record.mme = Some(v);
                 }
             }
             Field::Mce => {
-                let v = identity(o, value, value_end)?;
+                let v = two_octets(o, value, value_end)?;
                 ends(value + 2, value_end)?;
                 if counts {
                     record.mce = Some(v);
@@ -968,7 +1082,7 @@ fn inside(o: &[u8], start: usize, kind: Kind, frame: u8) -> Result<Reading<'_>, 
                 }
             }
             Field::Diagnostics => {
-                let v = diagnostics(o, value, value_end)?;
+                let v = diagnostics(o, value, value_end, table.triggers)?;
                 if counts {
                     record.diagnostics = Some(v);
                 }
@@ -985,6 +1099,26 @@ fn inside(o: &[u8], start: usize, kind: Kind, frame: u8) -> Result<Reading<'_>, 
                     record.wait = Some(v);
                 }
             }
+            Field::MessageIdentifier => {
+                let v = two_octets(o, value, value_end)?;
+                ends(value + 2, value_end)?;
+                if counts {
+                    record.message_identifier = Some(v);
+                }
+            }
+            Field::SerialNumber => {
+                let v = two_octets(o, value, value_end)?;
+                ends(value + 2, value_end)?;
+                if counts {
+                    record.serial_number = Some(v);
+                }
+            }
+            Field::WarningCause => {
+                ends(value + 1, value_end)?;
+                if counts {
+                    record.warning_cause = Some(o[value]);
+                }
+            }
             Field::Carried => {
                 if counts {
                     record.carried[row as usize] = Some(&o[value..value_end]);
@@ -992,37 +1126,50 @@ fn inside(o: &[u8], start: usize, kind: Kind, frame: u8) -> Result<Reading<'_>, 
             }
         }
     }
-    ends(at, end)?;
+    let beside = if opening == 0 {
+        ends(at, end)?;
+        0
+    } else {
+        extensions(o, at, &mut unknown, place.is_none())?
+    };
 
     let missing = if place.is_some() { 0 } else { table.needed & !seen };
     let rejected = if place.is_some() {
         Some(Rejection { cause: FALSELY_CONSTRUCTED, place })
-    } else if unknown_reject || missing != 0 {
+    } else if unknown.reject || missing != 0 {
         Some(Rejection { cause: SYNTAX_REJECT, place: None })
     } else {
         None
     };
-    let left = (unknown + missing.count_ones() as usize).min(MOST);
-    let noted = Noted { elements: &o[first..], unknown, missing, table: kind, left };
+    let left = (unknown.listed + missing.count_ones() as u16).min(MOST as u16);
+    let noted = Noted { table, octets: &o[first..], beside: beside as u16, unknown: unknown.listed, missing, left };
     Ok(Reading { frame, record, noted, rejected })
 }
 
-/// Reads one message.
+impl Profile {
+    /// Reads one message.
+    #[inline]
+    pub fn read<'a>(&self, o: &'a [u8]) -> Read<'a> {
+        if o.len() > LIMIT {
+            return Read::TooLong;
+        }
+        let frame = match frame(o) {
+            Ok(frame) => frame,
+            Err(fault) => return Read::Faulty(fault),
+        };
+        let Some(table) = self.table(frame.choice, frame.procedure) else {
+            return Read::NotOurs;
+        };
+        match inside(o, frame.start, table, frame.criticality) {
+            Ok(reading) => Read::Message(reading),
+            Err(fault) => Read::Faulty(fault),
+        }
+    }
+}
+
+/// Reads one message of M3AP.
 pub fn read(o: &[u8]) -> Read<'_> {
-    if o.len() > LIMIT {
-        return Read::TooLong;
-    }
-    let frame = match frame(o) {
-        Ok(frame) => frame,
-        Err(fault) => return Read::Faulty(fault),
-    };
-    let Some(kind) = Kind::of(frame.choice, frame.procedure) else {
-        return Read::NotOurs;
-    };
-    match inside(o, frame.start, kind, frame.criticality) {
-        Ok(reading) => Read::Message(reading),
-        Err(fault) => Read::Faulty(fault),
-    }
+    M3AP.read(o)
 }
 
 // ---------------------------------------------------------------- writing
@@ -1067,8 +1214,8 @@ fn items_size(items: &Items) -> Result<usize, Refused> {
     Ok(size)
 }
 
-fn diagnostics_size(d: &Diagnostics) -> Result<usize, Refused> {
-    if d.trigger.is_some_and(|v| v > 2) || d.criticality.is_some_and(|v| v > 2) {
+fn diagnostics_size(d: &Diagnostics, triggers: u8) -> Result<usize, Refused> {
+    if d.trigger.is_some_and(|v| v >= triggers) || d.criticality.is_some_and(|v| v > 2) {
         return Err(Refused::Record);
     }
     let twos = d.trigger.is_some() as usize + d.criticality.is_some() as usize;
@@ -1086,7 +1233,7 @@ fn diagnostics_size(d: &Diagnostics) -> Result<usize, Refused> {
 impl Record<'_> {
     /// Whether it is an M3 SETUP REQUEST with a name that is not allowed.
     fn misnamed(&self) -> bool {
-        self.kind == Kind::SetupRequest && self.name.is_some_and(|name| !name_allowed(name))
+        self.table.kind == Kind::SetupRequest && self.name.is_some_and(|name| !name_allowed(name))
     }
 
     /// Octets of the value of a row, none if it is absent.
@@ -1110,7 +1257,7 @@ impl Record<'_> {
                 None => None,
             },
             Field::Diagnostics => match &self.diagnostics {
-                Some(d) => Some(diagnostics_size(d)?),
+                Some(d) => Some(diagnostics_size(d, self.table.triggers)?),
                 None => None,
             },
             // Judged before.
@@ -1119,6 +1266,9 @@ impl Record<'_> {
                 Some(n) if n as usize >= SECONDS.len() => return Err(Refused::Record),
                 n => n.map(|_| 1),
             },
+            Field::MessageIdentifier => self.message_identifier.map(|_| 2),
+            Field::SerialNumber => self.serial_number.map(|_| 2),
+            Field::WarningCause => self.warning_cause.map(|_| 1),
             Field::Carried => match self.carried[number] {
                 Some(octets) if octets.is_empty() || octets.len() > LIMIT => return Err(Refused::Record),
                 octets => octets.map(<[u8]>::len),
@@ -1209,7 +1359,7 @@ pub fn write(record: &Record, room: &mut [u8]) -> Result<usize, Refused> {
     if record.misnamed() {
         return Err(Refused::Name);
     }
-    let rows = record.kind.table().rows;
+    let rows = record.table.rows;
     let mut sizes = [0; ROWS];
     let (mut body, mut count) = (3, 0);
     for (i, row) in rows.iter().enumerate() {
@@ -1231,7 +1381,7 @@ pub fn write(record: &Record, room: &mut [u8]) -> Result<usize, Refused> {
         return Err(Refused::Room);
     }
 
-    let (choice, procedure, criticality) = record.kind.frame();
+    let (choice, procedure, criticality) = record.table.frame;
     let mut out = Out { room: &mut room[..total], at: 0 };
     out.octets(&[choice << 5, procedure, criticality << 6]);
     out.length(body);
@@ -1284,6 +1434,9 @@ pub fn write(record: &Record, room: &mut [u8]) -> Result<usize, Refused> {
                 }
             }
             Field::Wait => out.octet(record.wait.unwrap_or(0) << 4),
+            Field::MessageIdentifier => out.number(record.message_identifier.unwrap_or(0)),
+            Field::SerialNumber => out.number(record.serial_number.unwrap_or(0)),
+            Field::WarningCause => out.octet(record.warning_cause.unwrap_or(0)),
             Field::Carried => out.octets(record.carried[i].unwrap_or(&[])),
         }
     }
@@ -1441,7 +1594,7 @@ fn faulty(fault: Fault) -> Done {
 /// Writes a reply, with diagnostics if something is listed or it is answer 5's ERROR INDICATION;
 /// in an ERROR INDICATION they tell what was received in the frame.
 fn finish<'a>(answer: u8, mut reply: Record<'a>, frame: &Frame, listed: Option<Entries<'a>>, room: &mut [u8]) -> Done {
-    let indication = reply.kind == Kind::ErrorIndication;
+    let indication = reply.table.kind == Kind::ErrorIndication;
     if listed.is_some() || (indication && answer == 5) {
         reply.diagnostics = Some(Diagnostics {
             code: indication.then_some(frame.procedure),
@@ -1469,14 +1622,18 @@ pub fn call(unit: &mut [u8], message: &[u8], offered: u16, room: &mut [u8]) -> D
         Ok(frame) => frame,
         Err(fault) => return faulty(fault),
     };
-    let kind = match Kind::of(frame.choice, frame.procedure) {
-        Some(Kind::SetupRequest) | None => return bare(4),
-        Some(kind @ (Kind::SetupResponse | Kind::SetupFailure)) if held.open => kind,
-        Some(Kind::SetupResponse | Kind::SetupFailure) => return bare(14),
-        Some(kind) if frame.choice == 0 => kind,
-        Some(_) => return bare(4),
+    let Some(table) = M3AP.table(frame.choice, frame.procedure) else {
+        return bare(4);
     };
-    let Reading { record, noted, rejected, .. } = match inside(message, frame.start, kind, frame.criticality) {
+    let kind = table.kind;
+    match kind {
+        Kind::SetupRequest => return bare(4),
+        Kind::SetupResponse | Kind::SetupFailure if held.open => {}
+        Kind::SetupResponse | Kind::SetupFailure => return bare(14),
+        _ if frame.choice == 0 => {}
+        _ => return bare(4),
+    }
+    let Reading { record, noted, rejected, .. } = match inside(message, frame.start, table, frame.criticality) {
         Ok(reading) => reading,
         Err(fault) => return faulty(fault),
     };
@@ -1614,7 +1771,7 @@ pub fn setup(unit: &mut [u8], record: &[u8], values: &[u8], room: &mut [u8]) -> 
     if held.open {
         return bare(13);
     }
-    let written = match taken.filter(|taken| taken.record.kind == Kind::SetupRequest) {
+    let written = match taken.filter(|taken| taken.record.table.kind == Kind::SetupRequest) {
         Some(taken) => taken.write(room),
         None => Err(Refused::Record),
     };
@@ -1644,11 +1801,10 @@ fn place_in(part: &[u8], octets: &[u8]) -> usize {
 /// else the first 150 octets at most of the label.
 pub fn shown(request: &[u8], label: &[u8]) -> Part {
     match read(request) {
-        Read::Message(Reading {
-            record: Record { kind: Kind::SetupRequest, name: Some(name), .. },
-            rejected: None,
-            ..
-        }) => Part { of_label: false, from: place_in(name, request), octets: name.len() },
+        // No other message has a name.
+        Read::Message(Reading { record: Record { name: Some(name), .. }, rejected: None, .. }) => {
+            Part { of_label: false, from: place_in(name, request), octets: name.len() }
+        }
         _ => Part { of_label: true, from: 0, octets: label.len().min(NAME_MOST) },
     }
 }

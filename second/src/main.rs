@@ -8,7 +8,7 @@ use std::process::ExitCode;
 
 const USAGE: &str = "usage:
   second check WITNESSES.txt|VECTORS.jsonl ..
-  second make SEED COUNT reads|calls|calls-unit|calls-binary
+  second make SEED COUNT reads|warnings|calls|calls-unit|calls-binary
   second judge < LINES
   second capture FILE";
 
@@ -50,7 +50,7 @@ fn check_all(paths: &[&str]) -> Done {
     for (word, count) in check::WORDS.iter().zip(result.witnesses) {
         println!("{word} witnesses: {count}");
     }
-    println!("messages: {} ({} over the limit)", result.messages, result.over);
+    println!("messages: {} ({} over the limit, {} answered 3)", result.messages, result.over, result.extended);
     println!("differences: {}", result.differences.len());
     Ok(result.differences.is_empty())
 }
@@ -61,6 +61,7 @@ fn make_all(seed: &str, count: &str, kind: &str) -> Done {
     let mut out = BufWriter::new(io::stdout().lock());
     match kind {
         "reads" => make::reads(seed, count, &mut out),
+        "warnings" => make::warnings(seed, count, &mut out),
         "calls" => make::calls(seed, count, make::Form::Text, &mut out),
         "calls-unit" => make::calls(seed, count, make::Form::Digest, &mut out),
         "calls-binary" => make::calls(seed, count, make::Form::Binary, &mut out),

@@ -1,9 +1,10 @@
-//! Seeded cases: messages, mostly damaged, runs of unit calls and setup calls, and records for C.
+//! Seeded cases: messages, mostly damaged, of M3AP and of SBc-AP, runs of unit calls and setup calls, and records for C.
 //! The messages are put together bit by bit here, without the writer.
 
-use crate::layout::{read_record, RECORD_OCTETS};
-use crate::text::{call_verdict, hex, read_verdict, setup_verdict, Plate};
-use crate::{call, setup, Field, Item, Kind, CAUSES, ID_ITEM, KINDS, LIMIT, OPEN_AT, ROW_OCTETS, UNIT_OCTETS};
+use crate::layout::RECORD_OCTETS;
+use crate::text::{call_verdict, hex, read_verdict, read_verdict_by, setup_verdict, Plate};
+use crate::{call, setup, Field, Item, Kind, Profile, Table, CAUSES, ID_ITEM, LIMIT, M3AP, OPEN_AT, ROW_OCTETS};
+use crate::{SBCAP, SBCAP_LAB, UNIT_OCTETS};
 use std::collections::VecDeque;
 use std::io::{self, Write};
 
@@ -41,6 +42,11 @@ impl Rng {
 
     pub fn pick<T: Copy>(&mut self, from: &[T]) -> T {
         from[self.below(from.len())]
+    }
+
+    /// A message of a profile.
+    fn table(&mut self, profile: &Profile) -> &'static Table {
+        &profile.tables[self.below(profile.tables.len())]
     }
 
     fn octets(&mut self, n: usize) -> Vec<u8> {
@@ -283,7 +289,7 @@ impl Maker<'_> {
         }
     }
 
-    fn diagnostics(&mut self) -> Vec<u8> {
+    fn diagnostics(&mut self, table: &Table) -> Vec<u8> {
         let mut bits = Bits::default();
         let has: [bool; 4] = std::array::from_fn(|_| self.rng.percent(50));
         self.field(&mut bits, 0, 1);
@@ -296,9 +302,9 @@ impl Maker<'_> {
             let code = self.rng.pick(&[0, 1, 2, 4, 7, 255]);
             self.field(&mut bits, code, 8);
         }
-        for there in &has[1..3] {
-            if *there {
-                let value = self.rng.below(3) as u64;
+        for (there, limit) in [(has[1], table.triggers), (has[2], 3)] {
+            if there {
+                let value = self.rng.below(limit as usize) as u64;
                 self.field(&mut bits, value, 2);
             }
         }
@@ -323,7 +329,7 @@ impl Maker<'_> {
         self.end(bits)
     }
 
-    fn value(&mut self, kind: Kind, field: Field, want: &Want) -> Vec<u8> {
+    fn value(&mut self, table: &Table, field: Field, want: &Want) -> Vec<u8> {
         let mut bits = Bits::default();
         match field {
             Field::Mme => {
@@ -374,7 +380,7 @@ impl Maker<'_> {
                 let items = self.pool.items(self.rng);
                 self.items(&mut bits, &items, 1);
             }
-            Field::Diagnostics => return self.diagnostics(),
+            Field::Diagnostics => return self.diagnostics(table),
             Field::Name => {
                 let mut name = self.rng.name();
                 let odd = if self.rng.one_in(6) { self.rng.below(8) } else { 8 };
@@ -405,21 +411,28 @@ impl Maker<'_> {
                 self.field(&mut bits, extended as u64, 1);
                 self.field(&mut bits, number as u64, 3);
             }
+            Field::MessageIdentifier | Field::SerialNumber => {
+                let number = self.pool.identity(self.rng);
+                self.field(&mut bits, number as u64, 16);
+            }
+            Field::WarningCause => {
+                let number = self.rng.pick(&[0, 1, 16, 18, 19, 127, 128, 255]);
+                self.field(&mut bits, number, 8);
+            }
             Field::Carried => {
                 let n = match self.rng.below(50) {
                     0 => self.rng.between(120, 140),
                     1 => self.rng.between(256, 600),
                     _ => self.rng.between(1, 9),
                 };
-                let short = kind == Kind::StartRequest && self.style.wild == 0;
+                let short = table.kind == Kind::StartRequest && self.style.wild == 0;
                 return self.rng.octets(if short { n.min(3) } else { n });
             }
         }
         self.end(bits)
     }
 
-    fn unknown(&mut self, kind: Kind) -> Element {
-        let rows = kind.table().rows;
+    fn unknown(&mut self, table: &Table) -> Element {
         let id = loop {
             let id = match self.rng.below(4) {
                 0 => self.rng.below(26) as u16,
@@ -427,7 +440,7 @@ impl Maker<'_> {
                 2 => 99,
                 _ => self.rng.word() as u16,
             };
-            if rows.iter().all(|row| row.id != id) {
+            if table.rows.iter().all(|row| row.id != id) {
                 break id;
             }
         };
@@ -436,13 +449,13 @@ impl Maker<'_> {
         Element { id, criticality, value: self.rng.octets(n) }
     }
 
-    fn elements(&mut self, kind: Kind, want: &Want) -> Vec<Element> {
+    fn elements(&mut self, table: &Table, want: &Want) -> Vec<Element> {
         let mut elements = Vec::new();
-        for row in kind.table().rows {
+        for row in table.rows {
             if if row.mandatory { self.rng.percent(self.style.missing) } else { self.rng.percent(50) } {
                 continue;
             }
-            let value = self.value(kind, row.field, want);
+            let value = self.value(table, row.field, want);
             let other = self.style.order > 0 && self.rng.percent(10);
             let criticality = if other { self.rng.below(3) as u8 } else { row.criticality };
             elements.push(Element { id: row.id, criticality, value });
@@ -452,9 +465,9 @@ impl Maker<'_> {
             let from = self.rng.below(elements.len());
             if self.rng.percent(60) {
                 let id = elements[from].id;
-                let field = kind.table().rows.iter().find(|row| row.id == id).map(|row| row.field);
+                let field = table.rows.iter().find(|row| row.id == id).map(|row| row.field);
                 let value = match field {
-                    Some(field) if self.rng.percent(70) => self.value(kind, field, want),
+                    Some(field) if self.rng.percent(70) => self.value(table, field, want),
                     _ => elements[from].value.clone(),
                 };
                 let criticality = self.rng.below(3) as u8;
@@ -468,7 +481,7 @@ impl Maker<'_> {
         if self.rng.percent(self.style.unknown) {
             let n = if self.rng.one_in(50) { self.rng.between(250, 300) } else { self.rng.between(1, 4) };
             for _ in 0..n {
-                let mut element = self.unknown(kind);
+                let mut element = self.unknown(table);
                 if n > 4 {
                     element.value.truncate(1);
                     if self.rng.percent(90) {
@@ -482,9 +495,37 @@ impl Maker<'_> {
         elements
     }
 
-    fn body(&mut self, elements: &[Element]) -> Vec<u8> {
+    /// Extensions beside the elements, if the message may have a container: of any id, also one of its table.
+    fn extensions(&mut self, table: &Table) -> Vec<Element> {
+        if table.container == 0 || self.rng.percent(60) {
+            return Vec::new();
+        }
+        let n = if self.rng.one_in(25) { self.rng.between(250, 300) } else { self.rng.between(1, 4) };
+        let mut extensions = Vec::new();
+        for _ in 0..n {
+            let id = match self.rng.below(4) {
+                0 => table.rows[self.rng.below(table.rows.len())].id,
+                1 => self.rng.below(40) as u16,
+                2 => self.rng.pick(&[0, 99, 0xffff]),
+                _ => self.rng.word() as u16,
+            };
+            let criticality = if self.style.reject { self.rng.below(3) as u8 } else { self.rng.between(1, 2) as u8 };
+            let size = match self.rng.below(30) {
+                0 if n < 5 => self.rng.between(126, 129),
+                1 if n < 5 => self.rng.between(255, 600),
+                _ => self.rng.between(1, 4),
+            };
+            extensions.push(Element { id, criticality, value: self.rng.octets(size) });
+        }
+        extensions
+    }
+
+    fn body(&mut self, table: &Table, elements: &[Element], extensions: &[Element]) -> Vec<u8> {
         let mut bits = Bits::default();
         self.field(&mut bits, 0, 1);
+        if table.container != 0 {
+            self.field(&mut bits, !extensions.is_empty() as u64, 1);
+        }
         self.pad(&mut bits);
         let n = elements.len();
         let n = if self.wild() { self.rng.pick(&[n + 1, n.saturating_sub(1), 0, n + 256]) } else { n };
@@ -492,11 +533,19 @@ impl Maker<'_> {
         for element in elements {
             self.envelope(&mut bits, element.id, element.criticality, &element.value);
         }
+        if let Some(last) = extensions.len().checked_sub(1) {
+            let others = [last + 1, last.saturating_sub(1), last + 256, 0xfffe, 0xffff, 0xffff];
+            let last = if self.wild() { self.rng.pick(&others) } else { last };
+            self.field(&mut bits, last as u64, 16);
+            for extension in extensions {
+                self.envelope(&mut bits, extension.id, extension.criticality, &extension.value);
+            }
+        }
         bits.octets
     }
 
-    fn frame(&mut self, kind: Kind, body: &[u8]) -> Vec<u8> {
-        let (choice, procedure, criticality) = kind.frame();
+    fn frame(&mut self, table: &Table, body: &[u8]) -> Vec<u8> {
+        let (choice, procedure, criticality) = table.frame;
         let criticality = if self.rng.percent(15) { self.rng.below(3) as u8 } else { criticality };
         let mut bits = Bits::default();
         self.field(&mut bits, 0, 1);
@@ -509,26 +558,41 @@ impl Maker<'_> {
         bits.octets
     }
 
-    fn message(&mut self, kind: Kind, want: &Want) -> Vec<u8> {
-        let elements = self.elements(kind, want);
-        let body = self.body(&elements);
-        self.frame(kind, &body)
+    fn message(&mut self, table: &Table, want: &Want) -> Vec<u8> {
+        let elements = self.elements(table, want);
+        let extensions = self.extensions(table);
+        let body = self.body(table, &elements, &extensions);
+        self.frame(table, &body)
     }
 
-    /// A whole number of octets near the limit, filled by an element that is not read.
-    fn big(&mut self, kind: Kind) -> Vec<u8> {
+    /// A message whose inside has from `least` to `most` octets, filled by an element or an extension that is not read and
+    /// has at least `filler` octets.
+    fn filled(&mut self, table: &Table, filler: usize, least: usize, most: usize) -> Vec<u8> {
         self.style.wild = 0;
-        let mut elements = self.elements(kind, &Want::default());
-        let at = self.rng.below(elements.len() + 1);
-        elements.insert(at, Element { id: 4711, criticality: 1, value: vec![0x55; 300] });
-        let body = self.body(&elements);
-        // Both lengths stay in two octets, so the rest of the frame is 5.
-        let Some(more) = (self.rng.between(LIMIT - 2, LIMIT + 3)).checked_sub(body.len() + 5) else {
-            return self.frame(kind, &body);
+        let mut elements = self.elements(table, &Want::default());
+        let mut extensions = self.extensions(table);
+        let beside = !extensions.is_empty() && self.rng.percent(50);
+        let list = if beside { &mut extensions } else { &mut elements };
+        let at = self.rng.below(list.len() + 1);
+        list.insert(at, Element { id: 4711, criticality: 1, value: vec![0x55; filler] });
+        let body = self.body(table, &elements, &extensions);
+        let Some(more) = self.rng.between(least, most).checked_sub(body.len()) else {
+            return self.frame(table, &body);
         };
-        elements[at].value = self.rng.octets(300 + more);
-        let body = self.body(&elements);
-        self.frame(kind, &body)
+        let list = if beside { &mut extensions } else { &mut elements };
+        list[at].value = self.rng.octets(filler + more);
+        let body = self.body(table, &elements, &extensions);
+        self.frame(table, &body)
+    }
+
+    /// A whole number of octets near the limit. Both lengths stay in two octets, so the rest of the frame is 5.
+    fn big(&mut self, table: &Table) -> Vec<u8> {
+        self.filled(table, 300, LIMIT - 2 - 5, LIMIT + 3 - 5)
+    }
+
+    /// About as many octets as make the frame's length one octet longer; the filler's stays in one.
+    fn middling(&mut self, table: &Table) -> Vec<u8> {
+        self.filled(table, 1, 126, 129)
     }
 }
 
@@ -558,11 +622,17 @@ fn damage(rng: &mut Rng, octets: &mut Vec<u8>) {
 /// Messages for the reader, without end.
 pub struct Reads {
     rng: Rng,
+    profile: &'static Profile,
 }
 
 impl Reads {
     pub fn new(seed: u64) -> Self {
-        Reads { rng: Rng::new(seed) }
+        Reads { rng: Rng::new(seed), profile: &M3AP }
+    }
+
+    /// Messages of SBc-AP, by the ordinary profile.
+    pub fn warnings(seed: u64) -> Self {
+        Reads { rng: Rng::new(seed), profile: &SBCAP }
     }
 }
 
@@ -571,7 +641,7 @@ impl Iterator for Reads {
 
     fn next(&mut self) -> Option<Vec<u8>> {
         let rng = &mut self.rng;
-        let kind = rng.pick(&KINDS);
+        let table = rng.table(self.profile);
         let pool = Pool::new(rng.pick(&SPANS));
         let plan = rng.below(100);
         if plan == 0 {
@@ -592,14 +662,19 @@ impl Iterator for Reads {
         };
         let mut maker = Maker { rng, pool: &pool, style };
         if plan == 99 && maker.rng.percent(40) {
-            return Some(maker.big(kind));
+            return Some(maker.big(table));
         }
-        let elements = maker.elements(kind, &Want::default());
-        let mut body = maker.body(&elements);
+        // M3AP's cases are kept as they are.
+        if plan == 99 && table.container != 0 {
+            return Some(maker.middling(table));
+        }
+        let elements = maker.elements(table, &Want::default());
+        let extensions = maker.extensions(table);
+        let mut body = maker.body(table, &elements, &extensions);
         if (45..70).contains(&plan) {
             damage(maker.rng, &mut body);
         }
-        let mut octets = maker.frame(kind, &body);
+        let mut octets = maker.frame(table, &body);
         if (65..80).contains(&plan) {
             damage(maker.rng, &mut octets);
         }
@@ -610,11 +685,17 @@ impl Iterator for Reads {
 /// Records for C, many damaged, with the octets in which their values lie, without end.
 pub struct Records {
     reads: Reads,
+    profile: &'static Profile,
 }
 
 impl Records {
     pub fn new(seed: u64) -> Self {
-        Records { reads: Reads::new(seed) }
+        Records { reads: Reads::new(seed), profile: &M3AP }
+    }
+
+    /// Records of SBc-AP, as a profile reads them.
+    pub fn warnings(seed: u64, profile: &'static Profile) -> Self {
+        Records { reads: Reads::warnings(seed), profile }
     }
 
     /// Octets that the layout has something to say of: the front, the lists' numbers, their first and last rows.
@@ -636,7 +717,7 @@ impl Iterator for Records {
         let mut record = vec![0; RECORD_OCTETS];
         let mut values = loop {
             let message = self.reads.next()?;
-            if matches!(read_record(&message, &mut record).answer, 0 | 5) {
+            if matches!(self.profile.read_record(&message, &mut record).answer, 0 | 5) {
                 break message;
             }
         };
@@ -732,7 +813,7 @@ impl Calls {
     }
 
     fn make(&mut self, kind: Kind, want: Want, style: Style) -> Vec<u8> {
-        Maker { rng: &mut self.rng, pool: &self.pool, style }.message(kind, &want)
+        Maker { rng: &mut self.rng, pool: &self.pool, style }.message(kind.table(), &want)
     }
 
     fn play(&mut self, offered: u16, room: usize, message: Vec<u8>) {
@@ -892,7 +973,7 @@ impl Calls {
             86..=87 => self.make(Kind::Reset, Want { all: true, ..want }, style),
             88..=92 => self.make(Kind::ErrorIndication, want, style),
             93..=97 => {
-                let kind = self.rng.pick(&KINDS);
+                let kind = self.rng.table(&M3AP).kind;
                 self.make(kind, want, style)
             }
             _ => {
@@ -1101,6 +1182,16 @@ fn both(mme: u16, mce: u16) -> Item {
 pub fn reads(seed: u64, count: usize, out: &mut impl Write) -> io::Result<()> {
     for octets in Reads::new(seed).take(count) {
         writeln!(out, "{} => {}", hex(&octets), read_verdict(&octets))?;
+    }
+    Ok(())
+}
+
+/// Writes lines `sbc HEX => verdict` and `lab HEX => verdict`, of `count` messages.
+pub fn warnings(seed: u64, count: usize, out: &mut impl Write) -> io::Result<()> {
+    for octets in Reads::warnings(seed).take(count) {
+        for (word, profile) in [("sbc", &SBCAP), ("lab", &SBCAP_LAB)] {
+            writeln!(out, "{word} {} => {}", hex(&octets), read_verdict_by(profile, &octets))?;
+        }
     }
     Ok(())
 }

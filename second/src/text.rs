@@ -1,8 +1,8 @@
 //! Verdicts as text, in the form of the readings' witnesses (see README.md).
 
-use crate::layout::{setup_request, write_record};
-use crate::{call, read, setup, shown, write, Done, Entries, Field, Items, Kind, Read, Record, ResetType};
-use crate::{LIMIT, OPEN_AT, UNIT_OCTETS};
+use crate::layout::{setup_request, RECORD_OCTETS};
+use crate::{call, setup, shown, Done, Entries, Field, Items, Kind, Profile, Read, Record, ResetType};
+use crate::{LIMIT, M3AP, OPEN_AT, SBCAP, SBCAP_LAB, UNIT_OCTETS};
 use std::fmt::Write;
 
 pub fn hex(octets: &[u8]) -> String {
@@ -62,7 +62,7 @@ fn push_entries(s: &mut String, entries: &Entries) {
 
 /// The elements of a record, ` id:value` each, in table order.
 pub fn push_record(s: &mut String, record: &Record) {
-    for (i, row) in record.kind.table().rows.iter().enumerate() {
+    for (i, row) in record.table.rows.iter().enumerate() {
         let start = s.len();
         let _ = write!(s, " {}:", row.id);
         let there = match row.field {
@@ -106,6 +106,9 @@ pub fn push_record(s: &mut String, record: &Record) {
             },
             Field::Name => record.name.map(|v| push_hex(s, v)).is_some(),
             Field::Wait => record.wait.map(|v| write!(s, "{v}")).is_some(),
+            Field::MessageIdentifier => record.message_identifier.map(|v| write!(s, "{v:04x}")).is_some(),
+            Field::SerialNumber => record.serial_number.map(|v| write!(s, "{v:04x}")).is_some(),
+            Field::WarningCause => record.warning_cause.map(|v| write!(s, "{v}")).is_some(),
             Field::Carried => record.carried[i].map(|v| push_hex(s, v)).is_some(),
         };
         if !there {
@@ -118,9 +121,14 @@ pub fn name(kind: Kind) -> String {
     format!("{kind:?}")
 }
 
-/// The verdict on a message by the reader alone.
+/// The verdict on a message by the reader of M3AP alone.
 pub fn read_verdict(octets: &[u8]) -> String {
-    let reading = match read(octets) {
+    read_verdict_by(&M3AP, octets)
+}
+
+/// Likewise by the reader of a profile.
+pub fn read_verdict_by(profile: &Profile, octets: &[u8]) -> String {
+    let reading = match profile.read(octets) {
         Read::TooLong => return "answer=1".into(),
         Read::Faulty(crate::Fault::Encoding(at)) => return format!("answer=2 offset={at}"),
         Read::Faulty(crate::Fault::Extension(at)) => return format!("answer=3 offset={at}"),
@@ -128,7 +136,7 @@ pub fn read_verdict(octets: &[u8]) -> String {
         Read::Message(reading) => reading,
     };
     let answer = if reading.rejected.is_some() { 5 } else { 0 };
-    let mut s = format!("answer={answer} {} frame={}", name(reading.record.kind), reading.frame);
+    let mut s = format!("answer={answer} {} frame={}", name(reading.record.table.kind), reading.frame);
     push_record(&mut s, &reading.record);
     s.push_str(" noted=");
     push_entries(&mut s, &Entries::Noted(reading.noted));
@@ -223,34 +231,37 @@ pub fn setup_parts(text: &str) -> Option<(usize, Plate)> {
     Some((room.parse().ok()?, Plate { global: value(global)?, name: value(name)?, areas: value(areas)? }))
 }
 
-/// What is written into the room, by `write`.
-fn written(room: usize, write: impl FnOnce(&mut [u8]) -> (u8, usize)) -> String {
+/// What the writer of a profile makes of a record for C in a room.
+fn written(profile: &Profile, record: &[u8], values: &[u8], room: usize) -> String {
     let mut room = vec![FILL; room];
-    let (answer, size) = write(&mut room);
-    assert!(room[size..].iter().all(|&b| b == FILL), "room touched behind the message");
-    format!("answer={answer} octets={}", hex(&room[..size]))
+    let done = profile.write_record(record, values, &mut room);
+    assert!(room[done.reply..].iter().all(|&b| b == FILL), "room touched behind the message");
+    format!("answer={} octets={}", done.answer, hex(&room[..done.reply]))
+}
+
+/// What the writer of one profile makes of a message that the reader of another has read with 0.
+fn rewritten(reader: &Profile, writer: &Profile, message: &[u8]) -> Option<String> {
+    let mut record = [0; RECORD_OCTETS];
+    let read = reader.read_record(message, &mut record).answer == 0;
+    read.then(|| written(writer, &record, message, LIMIT))
 }
 
 /// Runs a case on a unit: its verdict. None if the case is not understood. The cases:
 /// `read HEX`, `write HEX`, `written ROOM GLOBAL NAME AREAS`, `call OFFERED ROOM HEX`,
-/// `setup ROOM GLOBAL NAME AREAS`, `shown HEX LABEL`.
+/// `setup ROOM GLOBAL NAME AREAS`, `shown HEX LABEL`; of SBc-AP `sbc HEX`, `lab HEX`, `writesbc HEX`, `writelab HEX`.
 pub fn case_verdict(unit: &mut [u8], case: &str) -> Option<String> {
     let (word, text) = case.split_once(' ').unwrap_or((case, ""));
     Some(match word {
         "read" => read_verdict(&octets_of(text)?),
-        "write" => match read(&octets_of(text)?) {
-            Read::Message(reading) if reading.rejected.is_none() => {
-                written(LIMIT, |room| write(&reading.record, room).map_or_else(|no| (no.answer(), 0), |n| (0, n)))
-            }
-            _ => return None,
-        },
+        "sbc" => read_verdict_by(&SBCAP, &octets_of(text)?),
+        "lab" => read_verdict_by(&SBCAP_LAB, &octets_of(text)?),
+        "write" => rewritten(&M3AP, &M3AP, &octets_of(text)?)?,
+        "writesbc" => rewritten(&SBCAP, &SBCAP, &octets_of(text)?)?,
+        "writelab" => rewritten(&SBCAP, &SBCAP_LAB, &octets_of(text)?)?,
         "written" => {
             let (room, plate) = setup_parts(text)?;
             let (record, values) = plate.record();
-            written(room, |room| {
-                let done = write_record(&record, &values, room);
-                (done.answer, done.reply)
-            })
+            written(&M3AP, &record, &values, room)
         }
         "call" => {
             let (offered, room, octets) = call_parts(text)?;

@@ -2,9 +2,9 @@
 #![deny(warnings)]
 
 use second::make::{Calls, Reads, Step};
-use second::text::{hex, read_verdict, Plate};
+use second::text::{hex, read_verdict, read_verdict_by, Plate};
 use second::{call, count_in, marks, read, row_in, setup, shown, write};
-use second::{Association, Marks, Part, Read, Tmgi, UNIT_OCTETS};
+use second::{Association, Marks, Part, Profile, Read, Tmgi, M3AP, SBCAP, SBCAP_LAB, UNIT_OCTETS};
 
 type Pair = (Option<u16>, Option<u16>);
 type Note = (u8, u16, u8);
@@ -23,6 +23,8 @@ enum Value {
     /// Where the characters begin, and they.
     Name(usize, Vec<u8>),
     Wait(u8),
+    /// SBc-AP's Cause.
+    Number(u8),
     Carried(Vec<u8>),
 }
 
@@ -46,8 +48,25 @@ enum Verdict {
     Message(Message),
 }
 
+#[derive(Clone, Copy, PartialEq)]
+enum By {
+    M3ap,
+    Sbcap,
+    Lab,
+}
+
 /// kind, procedure, frame's criticality, name, elements (id, presence, criticality).
-const TABLES: [(u64, u64, u8, &str, &str); 11] = [
+type Table = (u64, u64, u8, &'static str, &'static str);
+
+fn tables(by: By) -> &'static [Table] {
+    match by {
+        By::M3ap => &M3AP_TABLES,
+        By::Sbcap => &SBCAP_TABLES,
+        By::Lab => &LAB_TABLES,
+    }
+}
+
+const M3AP_TABLES: [Table; 11] = [
     (0, 0, 0, "StartRequest", "0mr 2mr 3oi 4mr 5mr 6mr 16mr 7mr 21oi 23oi 24oi 25or"),
     (1, 0, 0, "StartResponse", "0mi 1mi 8oi"),
     (2, 0, 0, "StartFailure", "0mi 9mi 8oi"),
@@ -60,6 +79,12 @@ const TABLES: [(u64, u64, u8, &str, &str); 11] = [
     (1, 7, 0, "SetupResponse", "8oi"),
     (2, 7, 0, "SetupFailure", "9mi 12oi 8oi"),
 ];
+
+const RESPONSE: Table = (1, 1, 0, "StopWarningResponse", "5mr 11mr 1mr 2oi 22oi");
+const INDICATION: Table = (0, 2, 1, "WarningErrorIndication", "1oi 2oi");
+const SBCAP_TABLES: [Table; 3] =
+    [(0, 1, 0, "StopWarningRequest", "5mr 11mr 14or 15oi 19oi 26oi 27or"), RESPONSE, INDICATION];
+const LAB_TABLES: [Table; 3] = [(0, 1, 0, "StopWarningRequest", "5mr 11mr"), RESPONSE, INDICATION];
 
 fn rows(text: &str) -> Vec<(u16, bool, u8)> {
     text.split(' ')
@@ -177,6 +202,57 @@ fn pairs(c: &mut Cursor) -> Result<Vec<Pair>, Bad> {
     Ok(list)
 }
 
+/// Criticality Diagnostics with so many triggering messages.
+fn diagnostics(c: &mut Cursor, triggers: u64) -> Result<Value, Bad> {
+    c.extension()?;
+    let (code, trigger, criticality, list) = (c.take(1)?, c.take(1)?, c.take(1)?, c.take(1)?);
+    c.extension()?;
+    let mut parts = (None, None, None, None);
+    if code == 1 {
+        c.align()?;
+        parts.0 = Some(c.take(8)? as u8);
+    }
+    if trigger == 1 {
+        parts.1 = Some(c.below(2, triggers)?);
+    }
+    if criticality == 1 {
+        parts.2 = Some(c.below(2, 3)?);
+    }
+    if list == 1 {
+        c.align()?;
+        let mut entries = Vec::new();
+        for _ in 0..c.take(8)? + 1 {
+            c.extension()?;
+            c.extension()?;
+            let criticality = c.below(2, 3)?;
+            c.align()?;
+            let id = c.take(16)? as u16;
+            c.extension()?;
+            entries.push((criticality, id, c.take(1)? as u8));
+        }
+        parts.3 = Some(entries);
+    }
+    Ok(Value::Diagnostics(parts.0, parts.1, parts.2, parts.3))
+}
+
+fn carried(c: &mut Cursor) -> Value {
+    let octets = c.o[c.at()..c.end].to_vec();
+    c.bit = 8 * c.end;
+    Value::Carried(octets)
+}
+
+/// A value of SBc-AP.
+fn warning_value(id: u16, mut c: Cursor) -> Result<Value, Bad> {
+    let value = match id {
+        5 | 11 => Value::Identity(c.take(16)? as u16),
+        1 => Value::Number(c.take(8)? as u8),
+        2 => diagnostics(&mut c, 4)?,
+        _ => carried(&mut c),
+    };
+    c.finish()?;
+    Ok(value)
+}
+
 fn value(id: u16, mut c: Cursor) -> Result<Value, Bad> {
     let c = &mut c;
     let value = match id {
@@ -212,37 +288,7 @@ fn value(id: u16, mut c: Cursor) -> Result<Value, Bad> {
             }
         }
         15 => Value::Acknowledged(pairs(c)?),
-        8 => {
-            c.extension()?;
-            let (code, trigger, criticality, list) = (c.take(1)?, c.take(1)?, c.take(1)?, c.take(1)?);
-            c.extension()?;
-            let mut parts = (None, None, None, None);
-            if code == 1 {
-                c.align()?;
-                parts.0 = Some(c.take(8)? as u8);
-            }
-            if trigger == 1 {
-                parts.1 = Some(c.below(2, 3)?);
-            }
-            if criticality == 1 {
-                parts.2 = Some(c.below(2, 3)?);
-            }
-            if list == 1 {
-                c.align()?;
-                let mut entries = Vec::new();
-                for _ in 0..c.take(8)? + 1 {
-                    c.extension()?;
-                    c.extension()?;
-                    let criticality = c.below(2, 3)?;
-                    c.align()?;
-                    let id = c.take(16)? as u16;
-                    c.extension()?;
-                    entries.push((criticality, id, c.take(1)? as u8));
-                }
-                parts.3 = Some(entries);
-            }
-            Value::Diagnostics(parts.0, parts.1, parts.2, parts.3)
-        }
+        8 => diagnostics(c, 3)?,
         19 => {
             c.extension()?;
             let at = c.at();
@@ -267,18 +313,14 @@ fn value(id: u16, mut c: Cursor) -> Result<Value, Bad> {
             c.extension()?;
             Value::Wait(c.below(3, 6)?)
         }
-        _ => {
-            let octets = c.o[c.at()..c.end].to_vec();
-            c.bit = 8 * c.end;
-            Value::Carried(octets)
-        }
+        _ => carried(c),
     };
     c.finish()?;
     Ok(value)
 }
 
-/// What the reader says; with `open`, what a call says on a unit of that mark.
-fn model_read(o: &[u8], open: Option<bool>) -> Verdict {
+/// What the reader says; with `open`, what a call of M3AP says on a unit of that mark.
+fn model_read(by: By, o: &[u8], open: Option<bool>) -> Verdict {
     if o.len() > 8192 {
         return Verdict::Bare(1);
     }
@@ -298,7 +340,7 @@ fn model_read(o: &[u8], open: Option<bool>) -> Verdict {
         Ok(frame) => frame,
         Err(bad) => return Verdict::At(bad),
     };
-    let Some(&(.., own, name, table)) = TABLES.iter().find(|t| t.0 == kind && t.1 == procedure) else {
+    let Some(&(.., own, name, table)) = tables(by).iter().find(|t| t.0 == kind && t.1 == procedure) else {
         return Verdict::Bare(4);
     };
     if let Some(open) = open {
@@ -311,11 +353,12 @@ fn model_read(o: &[u8], open: Option<bool>) -> Verdict {
     }
     let rows = rows(table);
 
-    // All elements first, then judging.
+    // All elements first, and all that stands beside them; then judging.
     let elements = (|| {
         let mut c = message;
-        let mut list = Vec::new();
+        let (mut list, mut beside) = (Vec::new(), Vec::new());
         c.extension()?;
+        let container = by != By::M3ap && name != "WarningErrorIndication" && c.take(1)? == 1;
         c.align()?;
         for _ in 0..c.take(16)? {
             let id = c.take(16)? as u16;
@@ -323,15 +366,31 @@ fn model_read(o: &[u8], open: Option<bool>) -> Verdict {
             c.align()?;
             let open = c.open()?;
             let row = rows.iter().position(|row| row.0 == id);
-            list.push((id, criticality, row, match row {
-                Some(_) => Some(value(id, open)?),
+            let value = match row {
+                Some(_) if by == By::M3ap => Some(value(id, open)?),
+                Some(_) => Some(warning_value(id, open)?),
                 None => None,
-            }));
+            };
+            list.push((id, criticality, row, value));
+        }
+        if container {
+            let at = c.at();
+            let less_one = c.take(16)?;
+            if less_one == 65535 {
+                return Err((2, at));
+            }
+            for _ in 0..less_one + 1 {
+                let id = c.take(16)? as u16;
+                let criticality = c.below(2, 3)?;
+                c.align()?;
+                c.open()?;
+                beside.push((criticality, id, 0));
+            }
         }
         c.finish()?;
-        Ok(list)
+        Ok((list, beside))
     })();
-    let elements = match elements {
+    let (elements, beside) = match elements {
         Ok(elements) => elements,
         Err(bad) => return Verdict::At(bad),
     };
@@ -343,6 +402,7 @@ fn model_read(o: &[u8], open: Option<bool>) -> Verdict {
         before.iter().filter(|e| e.2.is_none() && e.1 != 1).map(|e| (e.1, e.0, 0)).collect();
     let absent: Vec<_> = rows.iter().filter(|row| row.1 && before.iter().all(|e| e.0 != row.0)).collect();
     if place.is_none() {
+        noted.extend(beside.iter().filter(|note: &&Note| note.0 != 1));
         noted.extend(absent.iter().filter(|row| row.2 == 0).map(|row| (0, row.0, 1)));
     }
     let rejected = match place {
@@ -351,7 +411,7 @@ fn model_read(o: &[u8], open: Option<bool>) -> Verdict {
         None => None,
     };
     noted.truncate(256);
-    let items_plain = {
+    let items_plain = by != By::M3ap || {
         // Criticalities of items: found by looking at the octets of the known elements again.
         let wanted = if kind == 0 { 0 } else { 0x40 };
         let mut plain = true;
@@ -373,6 +433,7 @@ fn model_read(o: &[u8], open: Option<bool>) -> Verdict {
     let plain = rejected.is_none()
         && own == criticality
         && absent.is_empty()
+        && beside.is_empty()
         && elements.iter().all(|e| e.2.is_some_and(|row| rows[row].2 == e.1))
         && items_plain;
     let elements = before.iter().filter_map(|e| e.3.clone().map(|value| (e.0, value))).collect();
@@ -419,7 +480,7 @@ fn show_value(value: &Value) -> String {
             format!("{{{},{},{},{}}}", show(*a), show(*b), show(*c), show(list))
         }
         Value::Name(_, o) => hex(o),
-        Value::Wait(n) => n.to_string(),
+        Value::Wait(n) | Value::Number(n) => n.to_string(),
         Value::Carried(o) => hex(o),
     }
 }
@@ -447,7 +508,7 @@ fn reads_agree() {
     let (mut rewritten, mut names) = (0, 0);
     for seed in 0..10 {
         for octets in Reads::new(seed).take(4000) {
-            let verdict = model_read(&octets, None);
+            let verdict = model_read(By::M3ap, &octets, None);
             assert_eq!(show_verdict(&verdict), read_verdict(&octets), "{}", hex(&octets));
             // The name that is shown, beside labels of 0 to 151 octets.
             let label = vec![0xff; octets.len() % 152];
@@ -466,25 +527,52 @@ fn reads_agree() {
             };
             assert_eq!(shown(&octets, &label), wanted, "{}", hex(&octets));
             names += part.is_some() as usize;
-            let (Verdict::Message(model), Read::Message(reading)) = (verdict, read(&octets)) else { continue };
-            let mut room = [0x77; 8192];
-            let written = write(&reading.record, &mut room);
-            if model.plain {
-                assert_eq!(written, Ok(octets.len()), "{}", hex(&octets));
-                assert_eq!(room[..octets.len()], octets, "{}", hex(&octets));
-                rewritten += 1;
-            } else if let Ok(size) = written {
-                // What was written reads as the same record.
-                let Read::Message(again) = read(&room[..size]) else { panic!("{}", hex(&octets)) };
-                let (mut a, mut b) = (String::new(), String::new());
-                second::text::push_record(&mut a, &reading.record);
-                second::text::push_record(&mut b, &again.record);
-                assert_eq!(a, b);
-                assert!(again.rejected.is_none() && again.noted.is_empty());
-            }
+            rewritten += rewrites(&M3AP, &octets, &verdict) as usize;
         }
     }
     assert!(rewritten > 3000 && names > 300, "{rewritten} {names}");
+}
+
+/// Writes what was read of a message. Whether it is the message again, as it must be if it is a plain one; else what
+/// was written reads as the same record.
+fn rewrites(profile: &Profile, octets: &[u8], verdict: &Verdict) -> bool {
+    let (Verdict::Message(model), Read::Message(reading)) = (verdict, profile.read(octets)) else { return false };
+    let mut room = [0x77; 8192];
+    let written = write(&reading.record, &mut room);
+    if model.plain {
+        assert_eq!(written, Ok(octets.len()), "{}", hex(octets));
+        assert_eq!(&room[..octets.len()], octets, "{}", hex(octets));
+    } else if let Ok(size) = written {
+        let Read::Message(again) = profile.read(&room[..size]) else { panic!("{}", hex(octets)) };
+        let (mut a, mut b) = (String::new(), String::new());
+        second::text::push_record(&mut a, &reading.record);
+        second::text::push_record(&mut b, &again.record);
+        assert_eq!(a, b);
+        assert!(again.rejected.is_none() && again.noted.is_empty());
+    }
+    model.plain
+}
+
+#[test]
+fn warnings_agree() {
+    for (by, profile) in [(By::Sbcap, &SBCAP), (By::Lab, &SBCAP_LAB)] {
+        // By answer; plain messages; those with an entry for an extension, and as many entries as there can be.
+        let (mut seen, mut rewritten, mut full) = ([0usize; 6], 0, 0);
+        for seed in 0..6 {
+            for octets in Reads::warnings(seed).take(4000) {
+                let verdict = model_read(by, &octets, None);
+                let shown = show_verdict(&verdict);
+                assert_eq!(shown, read_verdict_by(profile, &octets), "{}", hex(&octets));
+                seen[shown[7..8].parse::<usize>().unwrap()] += 1;
+                rewritten += rewrites(profile, &octets, &verdict) as usize;
+                full += matches!(verdict, Verdict::Message(m) if m.noted.len() == 256) as usize;
+            }
+        }
+        for (answer, least) in [(0, 3000), (1, 20), (2, 3000), (3, 300), (4, 100), (5, 3000)] {
+            assert!(seen[answer] > least, "answer {answer}: {seen:?}");
+        }
+        assert!(rewritten > 1000 && full > 20, "{rewritten} {full}");
+    }
 }
 
 /// An association: MME and MCE identity, TMGI, Session Identity.
@@ -604,7 +692,7 @@ fn acknowledged(items: &[Pair]) -> Vec<u8> {
 
 /// The model's call: answer, offset, reply, seconds to wait.
 fn model_call(unit: &mut State, offered: u16, room: usize, o: &[u8]) -> (u8, usize, Vec<u8>, u16) {
-    let m = match model_read(o, Some(unit.open)) {
+    let m = match model_read(By::M3ap, o, Some(unit.open)) {
         Verdict::Bare(answer) => return (answer, 0, vec![], 0),
         Verdict::At((answer, at)) => return (answer, at, vec![], 0),
         Verdict::Message(m) => m,
@@ -855,9 +943,11 @@ fn binary_form() {
 /// The cases that are kept are what README.md says.
 #[test]
 fn kept_cases() {
-    use second::make::{calls, reads, Form};
-    let (mut messages, mut runs) = (Vec::new(), Vec::new());
+    use second::make::{calls, reads, warnings, Form};
+    let (mut messages, mut runs, mut warned) = (Vec::new(), Vec::new(), Vec::new());
     reads(7, 400, &mut messages).unwrap();
     calls(3, 1500, Form::Text, &mut runs).unwrap();
+    warnings(5, 200, &mut warned).unwrap();
     assert!(messages == include_bytes!("../cases/reads.txt") && runs == include_bytes!("../cases/calls.txt"));
+    assert!(warned == include_bytes!("../cases/warnings.txt"));
 }

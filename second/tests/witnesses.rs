@@ -3,8 +3,9 @@
 
 use second::check;
 use second::layout::{read_record, setup_request, write_record, RECORD_OCTETS};
-use second::text::{call_verdict, hex, octets_of, read_verdict, unhex};
+use second::text::{call_verdict, hex, octets_of, read_verdict, read_verdict_by, unhex};
 use second::*;
+use std::slice::from_ref;
 
 #[test]
 fn witnesses() {
@@ -15,7 +16,7 @@ fn witnesses() {
     };
     let first = include_str!("../../tools/witnesses.txt");
     let second = include_str!("../../tools/witnesses-02.txt");
-    for (text, counts) in [(first, [53, 0, 0, 15, 0, 0]), (second, [13, 1, 4, 21, 24, 4])] {
+    for (text, counts) in [(first, [53, 0, 0, 15, 0, 0, 0, 0, 0, 0]), (second, [14, 1, 4, 21, 24, 4, 21, 3, 1, 2])] {
         let result = run(text);
         assert!(result.differences.is_empty(), "{:#?}", result.differences);
         assert_eq!(result.witnesses, counts);
@@ -47,11 +48,33 @@ fn vectors() {
         ("base", include_str!("../../tools/outside/base.jsonl")),
         ("big", include_str!("../../tools/outside/big.jsonl")),
         ("setup", include_str!("../../tools/outside/setup.jsonl")),
+        ("sbcap", include_str!("../../tools/outside/sbcap.jsonl")),
+        ("sbcap_ext", include_str!("../../tools/outside/sbcap_ext.jsonl")),
     ] {
         check::vectors(name, text, &mut result);
     }
     assert!(result.differences.is_empty(), "{:#?}", result.differences);
-    assert_eq!((result.messages, result.over), (484, 1));
+    assert_eq!((result.messages, result.over, result.extended), (734, 1, 57));
+    // What is changed is seen, on each line that is read: a field, an extension's id and criticality, an unknown element;
+    // and on each of its tag, a tag of another answer or place.
+    let text = include_str!("../../tools/outside/sbcap_ext.jsonl");
+    let read = |line: &str| !["addition", "diag-", "error-type"].iter().any(|tag| line.contains(tag));
+    for (from, to) in [
+        (r#""serial_number":"#, r#""serial_number":1"#),
+        (r#""extensions":[[256,2"#, r#""extensions":[[257,2"#),
+        (r#""extensions":[[256,2"#, r#""extensions":[[256,0"#),
+        (r#""unknown":true"#, r#""unknown":false"#),
+        (r#""tags":["message-container"]"#, r#""tags":["message-addition"]"#),
+        (r#""tags":["message-addition"]"#, r#""tags":["message-container"]"#),
+        (r#""tags":["diag-container"]"#, r#""tags":["diag-entry-container"]"#),
+        (r#""tags":["diag-entry-container"]"#, r#""tags":["diag-container"]"#),
+    ] {
+        let lines = text.lines().filter(|line| line.contains(from) && (from.contains("tags") || read(line)));
+        let lines: Vec<String> = lines.map(|line| line.replace(from, to)).collect();
+        let mut result = check::Result::default();
+        check::vectors("changed", &lines.join("\n"), &mut result);
+        assert!(!lines.is_empty() && result.differences.len() == lines.len(), "{from}: {result:#?}");
+    }
 }
 
 fn h(text: &str) -> Vec<u8> {
@@ -113,7 +136,7 @@ fn refused_records() {
     refused(&|r| r.reset = Some(ResetType::Part(Items::Given(&[]))));
     refused(&|r| r.reset = Some(ResetType::Part(Items::Given(&[Item { mme: None, mce: None }; 257]))));
     refused(&|r| {
-        r.kind = Kind::ResetAcknowledge;
+        r.table = Kind::ResetAcknowledge.table();
         r.acknowledged = Some(Items::Given(&[]));
     });
     let diagnostics = |d: Diagnostics<'static>| {
@@ -539,4 +562,259 @@ fn captures() {
     let answers: Vec<String> =
         play(&setups.concat()).split(' ').filter(|l| l.starts_with("answer")).map(String::from).collect();
     assert_eq!(answers, ["answer=14", "answer=14", "answer=4"]);
+}
+
+/// Stop-Warning Request with these elements behind Message Identifier 1 and Serial Number 2, and a container of these
+/// extensions if there are any.
+fn stop_warning(elements: &[Vec<u8>], extensions: &[Vec<u8>]) -> Vec<u8> {
+    let mut inside = vec![if extensions.is_empty() { 0 } else { 0x40 }];
+    inside.extend((elements.len() as u16 + 2).to_be_bytes());
+    inside.extend(h("0005 00 02 0001 000b 00 02 0002"));
+    inside.extend(elements.concat());
+    if !extensions.is_empty() {
+        inside.extend((extensions.len() as u16 - 1).to_be_bytes());
+        inside.extend(extensions.concat());
+    }
+    [&h("00 01 00")[..], &length(inside.len()), &inside].concat()
+}
+
+fn element(id: u16, criticality: u8, value: &[u8]) -> Vec<u8> {
+    [&id.to_be_bytes()[..], &[criticality << 6], &length(value.len()), value].concat()
+}
+
+const READ: &str = "answer=0 StopWarningRequest frame=0 5:0001 11:0002";
+const REJECTED: &str = "answer=5 StopWarningRequest frame=0 5:0001 11:0002";
+
+#[test]
+fn containers() {
+    let both = |message: &[u8]| [&SBCAP, &SBCAP_LAB].map(|profile| read_verdict_by(profile, message));
+    // Each criticality, alone and behind one that is listed; ids of the table, of none, and the largest.
+    for id in [0, 5, 11, 14, 27, 28, 99, 65535] {
+        for (criticality, alone, behind) in [
+            (REJECT, format!("{REJECTED} noted=[0.{id}.0] cause=3.1 place=-"), format!(",0.{id}.0] cause=3.1 place=-")),
+            (IGNORE, format!("{READ} noted=[]"), "]".into()),
+            (NOTIFY, format!("{READ} noted=[2.{id}.0]"), format!(",2.{id}.0]")),
+        ] {
+            let extension = element(id, criticality, &[0xaa]);
+            let read = both(&stop_warning(&[], from_ref(&extension)));
+            assert_eq!(read, [alone.clone(), alone]);
+            for first in [element(98, NOTIFY, &[0xaa; 127]), element(98, NOTIFY, &[0xaa; 128])] {
+                let front = if criticality == REJECT { REJECTED } else { READ };
+                let wanted = format!("{front} noted=[2.98.0{behind}");
+                // An unknown element in front, or another extension.
+                let read = both(&stop_warning(from_ref(&first), from_ref(&extension)));
+                assert_eq!(read, [wanted.clone(), wanted.clone()]);
+                let read = both(&stop_warning(&[], &[first, extension.clone()]));
+                assert_eq!(read, [wanted.clone(), wanted]);
+            }
+        }
+    }
+    // The first 256 are listed; what falls off the end still rejects.
+    for (unknown, beside) in [(255, 1), (256, 1), (0, 257), (100, 200)] {
+        let elements = vec![element(99, NOTIFY, &[1]); unknown];
+        let mut extensions = vec![element(98, NOTIFY, &[1]); beside];
+        extensions[beside - 1] = element(97, REJECT, &[1]);
+        let message = stop_warning(&elements, &extensions);
+        let Read::Message(reading) = SBCAP.read(&message) else { panic!() };
+        let ids: Vec<u16> = reading.noted.clone().map(|entry| entry.id).collect();
+        let mut wanted = vec![99; unknown];
+        wanted.extend(vec![98; beside - 1]);
+        wanted.push(97);
+        wanted.truncate(256);
+        assert_eq!((reading.noted.len(), ids), (wanted.len(), wanted));
+        assert_eq!(reading.rejected, Some(Rejection { cause: SYNTAX_REJECT, place: None }));
+    }
+    // Cut anywhere behind the opening, the frame's length with it: never read.
+    let whole = stop_warning(&[], &[element(99, IGNORE, &[1, 2]), element(98, IGNORE, &[3])]);
+    assert_eq!(both(&whole), [format!("{READ} noted=[]"), format!("{READ} noted=[]")]);
+    let at = whole.len() - 6 - 5 - 2;
+    for size in 5..whole.len() {
+        let mut cut = whole[..size].to_vec();
+        cut[3] = size as u8 - 4;
+        let read = read_verdict_by(&SBCAP, &cut);
+        assert!(read.starts_with("answer=2 "), "{size}: {read}");
+        // In the container: a number, an id, a criticality or a length faults where it begins, a value at its length.
+        if let Some(there) = size.checked_sub(at) {
+            let begins = [0, 0, 2, 2, 4, 5, 5, 5, 8, 8, 10, 11, 11];
+            assert_eq!(read, format!("answer=2 offset={}", at + begins[there]), "{size}");
+        }
+    }
+    // Octets left over; a number of 65,535 less 1, which is one, and of 65,536, which is none.
+    let mut left = [&whole[..], &[0]].concat();
+    left[3] += 1;
+    assert_eq!(read_verdict_by(&SBCAP, &left), format!("answer=2 offset={}", whole.len()));
+    for (last, place) in [(0xfffe, whole.len()), (0xffff, at)] {
+        let mut many = whole.clone();
+        many[at..at + 2].copy_from_slice(&(last as u16).to_be_bytes());
+        assert_eq!(read_verdict_by(&SBCAP, &many), format!("answer=2 offset={place}"));
+    }
+    // The bit without a container, and a container without the bit. In M3AP and in Error Indication the bit is pad.
+    for (message, wanted) in [
+        ("00 01 00 03 40 00 00", "answer=2 offset=7"),
+        ("00 01 00 0a 00 00 00 00 00 00 63 40 01 aa", "answer=2 offset=7"),
+        ("20 01 00 03 c0 00 00", "answer=3 offset=4"),
+        ("00 01 00 03 20 00 00", "answer=2 offset=4"),
+        ("00 02 40 03 40 00 00", "answer=2 offset=4"),
+    ] {
+        assert_eq!(both(&h(message)), [wanted, wanted], "{message}");
+        assert!(read_verdict(&h(message)).starts_with("answer=2 ") || message.contains("c0"));
+    }
+    // What a container adds does not come back: what is written is the message without it.
+    let mut record = [0; RECORD_OCTETS];
+    let mut room = [0; 100];
+    assert_eq!(SBCAP.read_record(&whole, &mut record).answer, 0);
+    let done = SBCAP.write_record(&record, &whole, &mut room);
+    assert_eq!(room[..done.reply], stop_warning(&[], &[]));
+}
+
+#[test]
+fn warnings_in_order() {
+    let answer = |message: &[u8]| {
+        let mut answers = Vec::new();
+        for profile in [&SBCAP, &SBCAP_LAB] {
+            for size in [0, RECORD_OCTETS - 1, RECORD_OCTETS, RECORD_OCTETS + 1] {
+                let mut room = vec![0xa5; size];
+                let done = profile.read_record(message, &mut room);
+                assert!(room[done.reply..].iter().all(|&b| b == 0xa5));
+                assert_eq!(done.reply, if matches!(done.answer, 0 | 5) { RECORD_OCTETS } else { 0 });
+                answers.push((done.answer, done.offset));
+            }
+        }
+        answers
+    };
+    // Not before 5, and for nothing else: 10 in the place of 0 and 5.
+    let good = stop_warning(&[], &[]);
+    let rejected = stop_warning(&[element(99, REJECT, &[1])], &[]);
+    for (message, n) in [(&good, 0), (&rejected, 5)] {
+        assert_eq!(answer(message), [(10, 0), (10, 0), (n, 0), (n, 0)].repeat(2));
+    }
+    // 1; the frame; 4; inside, the first again; 5.
+    let long = [&good[..], &vec![0; 9000]].concat();
+    for (message, wanted) in [
+        (long, (1, 0)),
+        (vec![], (2, 0)),
+        (h("a0 00 00 01 80 00"), (3, 0)),
+        (h("00 00 00 01 80 00"), (2, 5)),
+        (h("00 00 00 01 80"), (4, 0)),
+        (h("00 01 00 01 80"), (3, 4)),
+        (h("00 01 00 08 00 00 01 00 63 00 02 00"), (2, 10)),
+    ] {
+        assert_eq!(answer(&message), vec![wanted; 8], "{}", hex(&message[..message.len().min(20)]));
+    }
+    // All procedures and kinds: three messages.
+    for first in [0, 0x20, 0x40] {
+        for procedure in 0..=255 {
+            let message = [first, procedure, 0, 1, 0x80];
+            let ours = matches!((first, procedure), (0, 1 | 2) | (0x20, 1));
+            assert_eq!(answer(&message), vec![if ours { (3, 4) } else { (4, 0) }; 8], "{first} {procedure}");
+        }
+    }
+    // 8,192 and 8,193 octets in all, by a carried value and by an extension.
+    for (size, n) in [(8167, 0), (8168, 1)] {
+        let message = stop_warning(&[element(15, IGNORE, &vec![1; size])], &[]);
+        assert_eq!((message.len(), answer(&message)[3].0), (8192 + n as usize, n));
+        let message = stop_warning(&[], &[element(15, IGNORE, &vec![1; size - 2])]);
+        assert_eq!((message.len(), answer(&message)[3].0), (8192 + n as usize, n));
+    }
+}
+
+#[test]
+fn warning_records() {
+    let read = |message: &[u8]| {
+        let mut record = vec![0xa5; RECORD_OCTETS];
+        assert_eq!(SBCAP.read_record(message, &mut record).answer, 0);
+        record
+    };
+    let written = |profile: &Profile, record: &[u8], values: &[u8]| {
+        let mut room = vec![0xa5; 8192];
+        let done = profile.write_record(record, values, &mut room);
+        assert!(room[done.reply..].iter().all(|&b| b == 0xa5));
+        // Another answer than 10 does not look at the room.
+        let small = profile.write_record(record, values, &mut []).answer;
+        assert_eq!(small, if done.answer == 0 { 10 } else { done.answer });
+        (done.answer, room[..done.reply].to_vec())
+    };
+    let both = |record: &[u8], values: &[u8]| [&SBCAP, &SBCAP_LAB].map(|profile| written(profile, record, values).0);
+    let changed = |record: &[u8], at: usize, value: u8| {
+        let mut record = record.to_vec();
+        record[at] = value;
+        record
+    };
+    let request = stop_warning(&[], &[]);
+    let response =
+        h("20 01 00 1e 00 00 05 00 05 00 02 00 01 00 0b 00 02 00 02 00 01 00 01 ff 00 02 40 01 23 00 16 40 01 aa");
+    let indication = h("00 02 40 0d 00 00 02 00 01 40 01 12 00 02 40 01 00");
+    for (number, message) in [(1, &request), (2, &response), (3, &indication)] {
+        let record = read(message);
+        assert_eq!(record[0], number);
+        for profile in [&SBCAP, &SBCAP_LAB] {
+            assert_eq!(written(profile, &record, message), (0, message.clone()));
+        }
+        // Items, which no slot announces; entries likewise; no message; no criticality; another size.
+        for (at, value) in [(98, 1), (99, 1), (100, 1), (1635, 1), (1636, 1), (1637, 1), (1638, 1), (2661, 1)] {
+            assert_eq!(both(&changed(&record, at, value), message), [11, 11], "{number} {at}");
+        }
+        for value in [0].into_iter().chain(4..=255) {
+            assert_eq!(both(&changed(&record, 0, value), message), [11, 11], "{number} {value}");
+        }
+        for value in 0..=255 {
+            let wanted = if value < 3 { 0 } else { 11 };
+            assert_eq!(both(&changed(&record, 1, value), message), [wanted; 2], "{number} {value}");
+        }
+        let longer = [&record[..], &[0]].concat();
+        for record in [&record[..RECORD_OCTETS - 1], &longer, &[]] {
+            assert_eq!(both(record, message), [11, 11]);
+        }
+    }
+    // A flag, octets behind a value; what is mandatory.
+    let record = read(&request);
+    for (at, value) in [(2, 2), (5, 1), (9, 1), (10, 2), (13, 1), (2, 0), (10, 0)] {
+        assert_eq!(both(&changed(&record, at, value), &request), [11, 11], "{at}");
+    }
+    for slot in [0, 1] {
+        let mut absent = record.clone();
+        absent[2 + 8 * slot..10 + 8 * slot].fill(0);
+        assert_eq!(both(&absent, &request), [11, 11]);
+    }
+    // Carried values: the lab profile has none of a request; of no octets, or outside of the values.
+    for slot in 2..7 {
+        let at = 2 + 8 * slot;
+        let mut carried = record.clone();
+        carried[at..at + 5].copy_from_slice(&[1, 0, 4, 0, 3]);
+        assert_eq!(both(&carried, &request), [0, 11]);
+        for (at, value) in [(at + 4, 0), (at + 1, 255), (at + 2, 17), (at + 3, 32), (at + 5, 1), (at, 2)] {
+            assert_eq!(both(&changed(&carried, at, value), &request), [11, 11], "{slot} {at}");
+        }
+        for at in at..at + 8 {
+            assert_eq!(both(&changed(&record, at, 1), &request)[1], 11);
+        }
+    }
+    // No row behind the last.
+    for at in 2 + 8 * 7..98 {
+        assert_eq!(both(&changed(&record, at, 1), &request), [11, 11]);
+    }
+    // Cause is any number; the triggering message is 0 to 3, the criticality 0 to 2.
+    let record = read(&response);
+    let cause = 2 + 8 * 2 + 1;
+    let (trigger, criticality) = (2 + 8 * 3 + 4, 2 + 8 * 3 + 6);
+    for value in 0..=255 {
+        let (answer, message) = written(&SBCAP, &changed(&record, cause, value), &response);
+        assert_eq!((answer, message[23]), (0, value));
+        let wanted = if value < 4 { 0 } else { 11 };
+        assert_eq!(both(&changed(&record, trigger, value), &response), [wanted; 2], "{value}");
+        let with = changed(&record, criticality - 1, 1);
+        let wanted = if value < 3 { 0 } else { 11 };
+        assert_eq!(both(&changed(&with, criticality, value), &response), [wanted; 2], "{value}");
+    }
+    // What C is handed over, octet by octet: a request with a carried value, and a response.
+    let carried = stop_warning(&[element(19, IGNORE, &[7; 3])], &[]);
+    let mut wanted = h("01 00 01 0001 0000000000 01 0002 0000000000");
+    wanted.resize(2 + 8 * 4, 0);
+    wanted.extend(h("01 0017 0003 000000"));
+    wanted.resize(RECORD_OCTETS, 0);
+    assert_eq!(read(&carried), wanted);
+    let mut wanted =
+        h("02 00 01 0001 0000000000 01 0002 0000000000 01 ff 000000000000 01 0000 0103 0000 00 01 0021 0001 000000");
+    wanted.resize(RECORD_OCTETS, 0);
+    assert_eq!(read(&response), wanted);
 }

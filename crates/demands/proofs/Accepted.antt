@@ -36,7 +36,8 @@ use Rattle.editions.specs.declared.Message.{Message}
 use Rattle.editions.specs.declared.Message.the-variants as message
 use Rattle.editions.specs.declared.Edition.{Edition}
 use Rattle.editions.specs.declared.Edition.the-variants.{Release18}
-use Rattle.editions.specs.Editions.{release18, tableOf}
+use Rattle.editions.specs.Editions.{printed, tableOf, containerOf}
+use Rattle.editions.proofs.Names.{only-m3ap}
 use Rattle.meaning.specs.Value as value
 use Rattle.meaning.specs.Value.{Value, given, absent}
 use Rattle.meaning.specs.Ranges.{valueKind}
@@ -60,7 +61,7 @@ use Rattle.requests.specs.declared.Wanted.{Wanted}
 use Rattle.requests.specs.declared.Wanted.the-variants as wanted
 use Rattle.requests.specs.Requests.{seen, startOf, stopOf, resetOf, requestOf, askOf, asks}
 use Rattle.demands.proofs.Seen.{IsMme, IsMce, IsTmgi, IsReset, Has, seen-has}
-use Rattle.demands.proofs.Verdicts.{only-passed, judging}
+use Rattle.demands.proofs.Verdicts.{only-passed, judging, understood-m3ap}
 use Rattle.demands.proofs.Sound.{front-each, of-read}
 
 -- ---- what is said
@@ -110,9 +111,9 @@ module _ (t : List Row) (s : List ℕ) where
   abbrev Readable : Head → Type 0
   Readable h = got tt ≡ valueAt (kindOf t (h .id)) (take (h .value .to) s) (h .value .from)
 
-  each-readable : (at : ℕ) (hs : List Head) → Scanned t s at hs → Each Readable hs
-  each-readable at [] q = tt
-  each-readable at (h ∷ hs) q = (q .1, each-readable (h .value .to) hs (q .2))
+  each-readable : (end at : ℕ) (hs : List Head) → Scanned t s end at hs → Each Readable hs
+  each-readable end at [] q = tt
+  each-readable end at (h ∷ hs) q = (q .1, each-readable end (h .value .to) hs (q .2))
 
   -- each row that has a value has one that can be read
   abbrev Rows : List Span → Type 0
@@ -191,7 +192,7 @@ value-at (r ∷ t) s [] k n b = absurd (omega arith)
 value-at (r ∷ t) s (v ∷ l) zero n b = refl
 value-at (r ∷ t) s (v ∷ l) (suc k) n b = value-at t s l k (omega arith) (omega arith)
 
-module _ (t : List Row) (s : List ℕ) (n at : ℕ) (q : got tt ≡ scanAt t s n at) where
+module _ (t : List Row) (s : List ℕ) (n at : ℕ) (xs : List Head) {end : ℕ} (q : got end ≡ scanAt t s n at) where
   abbrev counted : List Head
   counted = front t 0 (headsAt s n at)
 
@@ -200,22 +201,24 @@ module _ (t : List Row) (s : List ℕ) (n at : ℕ) (q : got tt ≡ scanAt t s n
 
   rows-readable : Rows t s spans
   rows-readable =
-      let z = scanned t s n at q .1 in
-      read-rows-readable t s (replicate (length t) noSpan) counted (front-each (Readable t s) t 0 (headsAt s n at) (each-readable t s at (headsAt s n at) z)) (none-readable t s (length t))
+      let z = scanned t s end n at q .1 in
+      read-rows-readable t s (replicate (length t) noSpan) counted (front-each (Readable t s) t 0 (headsAt s n at) (each-readable t s end at (headsAt s n at) z)) (none-readable t s (length t))
 
-  none-missing : outcomeBy n (elements.judgedOf t n (headsAt s n at)) ≡ outcome.Accepted → some rejects (missingOf t spans) ≡ false
+  none-missing : outcomeBy n (elements.judgedOf t n (headsAt s n at) xs) ≡ outcome.Accepted → some rejects (missingOf t spans) ≡ false
   unfolding elements.judgedOf
   none-missing a =
-      let z = accepted-tests n (elements.judgedOf t n (headsAt s n at)) a in
+      let z = accepted-tests n (elements.judgedOf t n (headsAt s n at) xs) a in
       let b = z .0 in
       let c = front-length t 0 (headsAt s n at) in
-      let d = scanned t s n at q .0 in
+      let d = scanned t s end n at q .0 in
       let e : eqb (length counted) n ≡ true = eq-eqb (length counted) n (omega arith) in
-      let f : some rejects (unknownOf t counted ++ missingOf t spans) ≡ false = rw e at (z .1) in
-      or-right (some rejects (unknownOf t counted)) _ (sym (some-append rejects (unknownOf t counted) (missingOf t spans)) ∙ f)
+      let more = unknownOf [] xs ++ missingOf t spans in
+      let f : some rejects (unknownOf t counted ++ more) ≡ false = rw e at (z .1) in
+      let g = or-right (some rejects (unknownOf t counted)) (some rejects more) (sym (some-append rejects (unknownOf t counted) more) ∙ f) in
+      or-right (some rejects (unknownOf [] xs)) (some rejects (missingOf t spans)) (sym (some-append rejects (unknownOf [] xs) (missingOf t spans)) ∙ g)
 
   -- a mandatory row of reject has a value, and it is seen
-  row-seen : outcomeBy n (elements.judgedOf t n (headsAt s n at)) ≡ outcome.Accepted → (k : ℕ) → k < length t → getD t k noRow .mandatory ≡ true → getD t k noRow .crit ≡ 0
+  row-seen : outcomeBy n (elements.judgedOf t n (headsAt s n at) xs) ≡ outcome.Accepted → (k : ℕ) → k < length t → getD t k noRow .mandatory ≡ true → getD t k noRow .crit ≡ 0
       → Has (getD t k noRow .kind) (seen (valuesIn t s spans))
   unfolding valueIn
   row-seen a k b x y =
@@ -232,39 +235,48 @@ module _ (t : List Row) (s : List ℕ) (n at : ℕ) (q : got tt ≡ scanAt t s n
 not-asked : {A : Type 0} → false ≡ true → A
 not-asked q = let z : _≡_ {A = ℕ} 0 1 = cc in absurd (omega arith)
 
--- which rows the rules look at, in each edition
-complete : (e : Edition) (m : Message) (s : List ℕ) (n at : ℕ) → asks m ≡ true → got tt ≡ scanAt (tableOf e m) s n at
-    → outcomeBy n (elements.judgedOf (tableOf e m) n (headsAt s n at)) ≡ outcome.Accepted
-    → Complete (requestOf (askOf m) (seen (valuesIn (tableOf e m) s (elements.readOf (tableOf e m) (front (tableOf e m) 0 (headsAt s n at))))))
-unfolding release18
-complete Release18 message.StartRequest s n at a q o =
-    let r = row-seen (tableOf Release18 message.StartRequest) s n at q o in
+-- which rows the rules look at
+complete : (m : Message) (s : List ℕ) (n at : ℕ) (xs : List Head) → asks m ≡ true → {end : ℕ} → got end ≡ scanAt (tableOf Release18 m) s n at
+    → outcomeBy n (elements.judgedOf (tableOf Release18 m) n (headsAt s n at) xs) ≡ outcome.Accepted
+    → Complete (requestOf (askOf m) (seen (valuesIn (tableOf Release18 m) s (elements.readOf (tableOf Release18 m) (front (tableOf Release18 m) 0 (headsAt s n at))))))
+unfolding printed
+complete message.StartRequest s n at xs a q o =
+    let r = row-seen (tableOf Release18 message.StartRequest) s n at xs q o in
     let x : Seen = seen (valuesIn (tableOf Release18 message.StartRequest) s (elements.readOf (tableOf Release18 message.StartRequest) (front (tableOf Release18 message.StartRequest) 0 (headsAt s n at)))) in
     start-complete (x .mme) (x .tmgi) (x .session) (r 0 (omega arith) refl refl) (r 1 (omega arith) refl refl)
-complete Release18 message.StopRequest s n at a q o =
-    let r = row-seen (tableOf Release18 message.StopRequest) s n at q o in
+complete message.StopRequest s n at xs a q o =
+    let r = row-seen (tableOf Release18 message.StopRequest) s n at xs q o in
     let x : Seen = seen (valuesIn (tableOf Release18 message.StopRequest) s (elements.readOf (tableOf Release18 message.StopRequest) (front (tableOf Release18 message.StopRequest) 0 (headsAt s n at)))) in
     stop-complete (x .mme) (x .mce) (r 0 (omega arith) refl refl) (r 1 (omega arith) refl refl)
-complete Release18 message.Reset s n at a q o =
+complete message.Reset s n at xs a q o =
     let x : Seen = seen (valuesIn (tableOf Release18 message.Reset) s (elements.readOf (tableOf Release18 message.Reset) (front (tableOf Release18 message.Reset) 0 (headsAt s n at)))) in
-    reset-complete (x .reset) (row-seen (tableOf Release18 message.Reset) s n at q o 1 (omega arith) refl refl)
-complete Release18 message.ErrorIndication s n at a q o = tt
-complete Release18 message.StartResponse s n at a q o = not-asked a
-complete Release18 message.StartFailure s n at a q o = not-asked a
-complete Release18 message.StopResponse s n at a q o = not-asked a
-complete Release18 message.ResetAcknowledge s n at a q o = not-asked a
-complete Release18 message.SetupRequest s n at a q o = not-asked a
-complete Release18 message.SetupResponse s n at a q o = tt
-complete Release18 message.SetupFailure s n at a q o = tt
+    reset-complete (x .reset) (row-seen (tableOf Release18 message.Reset) s n at xs q o 1 (omega arith) refl refl)
+complete message.ErrorIndication s n at xs a q o = tt
+complete message.StartResponse s n at xs a q o = not-asked a
+complete message.StartFailure s n at xs a q o = not-asked a
+complete message.StopResponse s n at xs a q o = not-asked a
+complete message.ResetAcknowledge s n at xs a q o = not-asked a
+complete message.SetupRequest s n at xs a q o = not-asked a
+complete message.SetupResponse s n at xs a q o = tt
+complete message.SetupFailure s n at xs a q o = tt
+complete message.StopWarningRequest s n at xs a q o = not-asked a
+complete message.StopWarningResponse s n at xs a q o = not-asked a
+complete message.WarningErrorIndication s n at xs a q o = not-asked a
+
+complete-18 : (s : List ℕ) (u : Understood) → readOf Release18 asks s ≡ understood u → u .outcome ≡ outcome.Accepted
+    → Complete (requestOf (askOf (u .what .message)) (seen (u .what .values)))
+unfolding elements.judgedOf
+complete-18 s u q =
+    let w = opened Release18 asks s u q in
+    let m : Message = u .what .message in
+    let t : List Row = tableOf Release18 m in
+    let j = judging t (containerOf Release18 m) s (u .frame .from) (w .read) in
+    subst (λ (x : Understood). x .outcome ≡ outcome.Accepted → Complete (requestOf (askOf (x .what .message)) (seen (x .what .values)))) (w .is)
+    (subst (λ (y : Opening). y .outcome ≡ outcome.Accepted → Complete (requestOf (askOf m) (seen (valuesIn t s (y .spans))))) (j .is)
+    (λ o. complete m s (j .opens .elements) (u .frame .from + 3) (j .extensions) (only-passed Release18 asks s u q) (j .scan) o))
 
 pub accepted-complete : (e : Edition) (s : List ℕ) (u : Understood) → readOf e asks s ≡ understood u → u .outcome ≡ outcome.Accepted
     → Complete (requestOf (askOf (u .what .message)) (seen (u .what .values)))
-unfolding elements.judgedOf
 accepted-complete e s u q =
-    let w = opened e asks s u q in
-    let m : Message = u .what .message in
-    let t : List Row = tableOf e m in
-    let j = judging t s (u .frame .from) (w .read) in
-    subst (λ (x : Understood). x .outcome ≡ outcome.Accepted → Complete (requestOf (askOf (x .what .message)) (seen (x .what .values)))) (w .is)
-    (subst (λ (y : Opening). y .outcome ≡ outcome.Accepted → Complete (requestOf (askOf m) (seen (valuesIn t s (y .spans))))) (j .is)
-    (λ o. complete e m s (j .count) (u .frame .from + 3) (only-passed e asks s u q) (j .scan) o))
+    subst (λ (x : Edition). readOf x asks s ≡ understood u → u .outcome ≡ outcome.Accepted → Complete (requestOf (askOf (u .what .message)) (seen (u .what .values))))
+    (only-m3ap e (understood-m3ap e s u q)) (complete-18 s u) q

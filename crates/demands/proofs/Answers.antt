@@ -1,6 +1,6 @@
 -- The table call answers and replies as 01's table of answers says: the first that is due, or 10 where the reply does not fit.
 -- Assumes nothing.
-use Prim.Native.Nat.{ℕ}
+use Prim.Native.Nat.{ℕ, _+_, _+_}
 use mathlib.Core.Path.{_≡_, _∙_, refl, sym, ap, subst}
 use mathlib.Core.Bool.{Bool, true, false, not, _&&_, true≢false}
 use mathlib.Core.List.{List, []}
@@ -16,24 +16,25 @@ use Rattle.identity.specs.declared.Mce.{Mce}
 use Rattle.identity.specs.declared.Mce.the-variants as mce
 use Rattle.identity.specs.declared.Session.{Session}
 use Rattle.values.specs.declared.Cause.{Cause}
-use Rattle.entries.specs.declared.Entry.{Entry}
 use Rattle.rows.specs.declared.Row.{Row}
-use Rattle.elements.specs.Judge as elements
+use Rattle.octets.proofs.Chain.{past}
+use Rattle.elements.specs.Judge.{judgedOf}
+use Rattle.envelopes.specs.declared.Head.{Head}
 use Rattle.envelopes.specs.Envelope.{headsAt}
 use Rattle.editions.specs.declared.Message.{Message}
 use Rattle.editions.specs.declared.Named.{Named}
 use Rattle.editions.specs.declared.Named.the-variants as named
 use Rattle.editions.specs.declared.Edition.{Edition}
-use Rattle.editions.specs.Editions.{tableOf, namedBy}
+use Rattle.editions.specs.Editions.{tableOf, containerOf, namedBy}
+use Rattle.frames.specs.declared.Count.{Count}
 use Rattle.frames.specs.declared.Frame.{Frame}
-use Rattle.frames.specs.Frame.{frameAt, countAt}
+use Rattle.frames.specs.Frame.{frameAt}
 use Rattle.meaning.specs.Value.{Said, saidBy}
 use Rattle.meaning.specs.Reading.{valuesIn}
 use Rattle.verdicts.specs.declared.Outcome.{Outcome}
 use Rattle.verdicts.specs.declared.Outcome.the-variants as outcome
 use Rattle.verdicts.specs.declared.Refusal.the-variants as refusal
-use Rattle.verdicts.specs.Verdict.{Opening, openedAt, Understood, Verdict, refused, understood, understoodBy, verdictOf, ofThose, framed, readOf}
-use Rattle.round_trips.specs.Ties.{ReadAs}
+use Rattle.verdicts.specs.Verdict.{Opening, outcomeBy, openedAt, Understood, Verdict, refused, understoodBy, verdictOf, ofThose, framed, readOf}
 use Rattle.table.specs.Table.{full, holdsMme, holdsMce, holdsPair}
 use Rattle.units.specs.Unit.{Unit, MaybeUnit, isUnit, noUnit, readUnit}
 use Rattle.requests.specs.declared.MaybeTmgi.{MaybeTmgi}
@@ -46,15 +47,14 @@ use Rattle.requests.specs.declared.Seen.{Seen}
 use Rattle.requests.specs.declared.MaybeWait.{MaybeWait}
 use Rattle.requests.specs.Requests.{askOf, asks, isAsked, answersSetup, requestOf, seen}
 use Rattle.replies.specs.Replies.{Replied, silent, says, replied, replyOctets}
-use Rattle.carry.specs.declared.Decision.{Decision}
 use Rattle.carry.specs.declared.Answer.the-variants as answer
 use Rattle.carry.specs.Carry.{rejection, ruling, started, stopped}
 use Rattle.answers.specs.Answers.{numbered}
 use Rattle.calls.specs.Judged.{ruled, judgedBy, judged, verdict, setupAnswer, framedAnswer, isAnswer}
 use Rattle.calls.specs.Decided.{Decided, keeps, decided}
-use Rattle.calls.specs.Call.{Call, Back, replyOf, answerOf, repliedIn, settledIf, fits, settled, onUnit, call, decidedOn}
+use Rattle.calls.specs.Call.{Call, Back, answerOf, repliedIn, settledIf, fits, settled, onUnit, call, decidedOn}
 use Rattle.demands.specs.Answered.{Handed}
-use Rattle.demands.specs.Due.{Reply, none, sends, Due, noRoom, MaybeInside, inside, nowhere, judgedIn, insideOf, insideBy, rejectedReply, countedBy, dueFor, due, dueOn, AnswersAs, ReplyIs, RepliesAs}
+use Rattle.demands.specs.Due.{Reply, none, sends, Due, noRoom, MaybeInside, inside, judgedIn, insideOf, insideBy, rejectedReply, countedBy, extensionsBy, dueFor, due, dueOn, AnswersAs, ReplyIs, RepliesAs}
 use Rattle.demands.proofs.Settle.{none-said}
 use Rattle.demands.proofs.Verdicts.{judging}
 use Rattle.demands.proofs.Accepted.{Complete, accepted-complete}
@@ -78,14 +78,24 @@ dueAs d = record { number = d .number; reply = d .reply }
 
 -- ---- what is inside, where it can be read to the end
 module _ (e : Edition) (s : List ℕ) (f : Frame) (m : Message) (name : namedBy e (f .kind) (f .code) ≡ named.Is m) where
-  pub inside-is : (o : Opening) → openedAt (tableOf e m) s (f .from) ≡ got o
+  -- with these extensions
+  abbrev insideWith : Count → List Head → MaybeInside
+  insideWith k xs =
+      let n = k .elements in
+      let t : List Row = tableOf e m in
+      let x = judgedOf t n (headsAt s n (f .from + 3)) xs in
+      inside (record { ask = askOf m; opened = openedAt t (containerOf e m) s (f .from); outcome = outcomeBy n x; seen = seen (valuesIn t s (x .spans)) })
+
+  pub inside-is : (o : Opening) → openedAt (tableOf e m) (containerOf e m) s (f .from) ≡ got o
       → insideBy e s (got f) ≡ inside (record { ask = askOf m; opened = got o; outcome = o .outcome; seen = seen (valuesIn (tableOf e m) s (o .spans)) })
   inside-is o q =
       let t : List Row = tableOf e m in
-      let j = judging t s (f .from) (sym q) in
+      let b : Bool = containerOf e m in
+      let j = judging t b s (f .from) (sym q) in
       ap (insideOf e s f) name
-      ∙ (ap (λ (r : Read ℕ). inside (judgedIn t s (f .from) (countedBy r) (askOf m))) (sym (j .counted))
-      ∙ (λ i. inside (record { ask = askOf m; opened = q i; outcome = ap (λ (y : Opening). y .outcome) (j .is) i; seen = seen (valuesIn t s (ap (λ (y : Opening). y .spans) (j .is) i)) })))
+      ∙ (ap (λ (r : Read Count). inside (judgedIn t b s (f .from) (countedBy r) (askOf m))) (sym (j .counted))
+      ∙ (ap (λ (r : Read (List Head)). insideWith (j .opens) (extensionsBy r)) (sym (past _ (j .end) (j .scan) (j .behind)))
+      ∙ (λ i. inside (record { ask = askOf m; opened = q i; outcome = ap (λ (y : Opening). y .outcome) (j .is) i; seen = seen (valuesIn t s (ap (λ (y : Opening). y .spans) (j .is) i)) }))))
 
 -- ---- the rules, on a unit u; of a message of at most 8,192 octets with a frame
 module _ (e : Edition) (u : Unit) (c : MceId) (s : List ℕ) (f : Frame) where
@@ -168,7 +178,7 @@ module _ (e : Edition) (u : Unit) (c : MceId) (s : List ℕ) (f : Frame) where
       abbrev rows : List Row
       rows = tableOf e m
 
-      opened-due : (o : Read Opening) → openedAt rows s (f .from) ≡ o → verdict e s ≡ verdictOf rows m f s o → given-by (verdictOf rows m f s o) ≡ due-of (insideBy e s (got f))
+      opened-due : (o : Read Opening) → openedAt rows (containerOf e m) s (f .from) ≡ o → verdict e s ≡ verdictOf rows m f s o → given-by (verdictOf rows m f s o) ≡ due-of (insideBy e s (got f))
       unfolding decided judgedBy
       opened-due (got o) q v =
           let w : Understood = understoodBy rows m f s o in
@@ -177,10 +187,10 @@ module _ (e : Edition) (u : Unit) (c : MceId) (s : List ℕ) (f : Frame) where
       opened-due (stop (Extension p)) q v = rw (name, small, asking, heeded, q)
 
     asking-due : (m : Message) → namedBy e (f .kind) (f .code) ≡ named.Is m → (answersSetup (askOf m) && not (u .isOpen)) ≡ false → (b : Bool) → asks m ≡ b
-        → verdict e s ≡ pick b (verdictOf (tableOf e m) m f s (openedAt (tableOf e m) s (f .from))) (refused refusal.NotAmong)
-        → given-by (pick b (verdictOf (tableOf e m) m f s (openedAt (tableOf e m) s (f .from))) (refused refusal.NotAmong)) ≡ due-of (insideBy e s (got f))
+        → verdict e s ≡ pick b (verdictOf (tableOf e m) m f s (openedAt (tableOf e m) (containerOf e m) s (f .from))) (refused refusal.NotAmong)
+        → given-by (pick b (verdictOf (tableOf e m) m f s (openedAt (tableOf e m) (containerOf e m) s (f .from))) (refused refusal.NotAmong)) ≡ due-of (insideBy e s (got f))
     unfolding decided judgedBy
-    asking-due m name heeded true i q = opened-due m name i heeded (openedAt (tableOf e m) s (f .from)) refl q
+    asking-due m name heeded true i q = opened-due m name i heeded (openedAt (tableOf e m) (containerOf e m) s (f .from)) refl q
     asking-due m name heeded false i q = rw (name, small, i)
 
     named-due : (n : Named) → namedBy e (f .kind) (f .code) ≡ n → (isAnswer e n && not (u .isOpen)) ≡ false → verdict e s ≡ ofThose e asks s f n → given-by (ofThose e asks s f n) ≡ due-of (insideBy e s (got f))

@@ -21,10 +21,10 @@ use Rattle.kinds.specs.Kinds.{valueAt}
 use Rattle.rows.specs.Table.{find}
 use Rattle.envelopes.specs.Envelope.{criticalityAt, envelopeAt, scanAt, headsAt}
 use Rattle.elements.specs.Judge as elements
-use Rattle.elements.specs.Judge.{front, readInto, unknownOf, missingOf, elementsAt}
+use Rattle.elements.specs.Judge.{front, readInto, unknownOf, missingOf, extensionsAt, elementsAt}
 use Rattle.editions.specs.declared.Edition.the-variants.{Release18}
-use Rattle.editions.specs.Editions.{release18, firstOf, namedBy}
-use Rattle.frames.specs.Frame.{kindAt, frameAt, countAt}
+use Rattle.editions.specs.Editions.{printed, firstOf, namedBy}
+use Rattle.frames.specs.Frame.{kindAt, frameAt, containerAt, countAt}
 use Rattle.meaning.specs.Reading.{readAs, valueIn, valuesIn}
 use Rattle.meaning.specs.Written.{octetsOf, hasOctets, elementsOctets, howMany, insideOctets, messageOctets, elementsGood, encoded}
 use Rattle.verdicts.specs.Verdict.{openedAt, readOf}
@@ -78,7 +78,7 @@ silently l s v g a r t d =
     ∙ settled-silently (unitOctets (opened l)) d (decidedOn Release18 (opened l) (of s)) a r t
 
 pub bench-calls : BenchCalls
-unfolding decidedOn setupAnswer decided judgedBy unitOctets readOf frameAt kindAt countAt openedAt elementsAt elements.judgedOf front find readInto unknownOf missingOf scanAt headsAt envelopeAt criticalityAt valueAt resetAt causeAt waitAt readAs valueIn valuesIn seen listsOf release18 firstOf namedBy flagAt plainAt choiceAt padAt numberAt openAt lengthAt longLengthAt endsAt sameAt bitsOf cutShort noMeaning leftOver extended _>>=_ numberOctets replyOctets encoded replied listOnly valueOf elementsGood elementsOctets messageOctets insideOctets howMany lengthOctets packedIn itemsAt several.many itemElementAt itemAt marksAt without named hasOctets octetsOf itemsOctets itemElementOctets itemOctets
+unfolding decidedOn setupAnswer decided judgedBy unitOctets readOf frameAt kindAt containerAt countAt openedAt extensionsAt elementsAt elements.judgedOf front find readInto unknownOf missingOf scanAt headsAt envelopeAt criticalityAt valueAt resetAt causeAt waitAt readAs valueIn valuesIn seen listsOf printed firstOf namedBy flagAt plainAt choiceAt padAt numberAt openAt lengthAt longLengthAt endsAt sameAt bitsOf cutShort noMeaning leftOver extended _>>=_ numberOctets replyOctets encoded replied listOnly valueOf elementsGood elementsOctets messageOctets insideOctets howMany lengthOctets packedIn itemsAt several.many itemElementAt itemAt marksAt without named hasOctets octetsOf itemsOctets itemElementOctets itemOctets
 bench-calls = record {
   named = does (pair 1 2 ∷ []) partialReset [] (one-good 1 2 (omega arith) (omega arith)) refl refl refl;
   unknown = does [] partialReset [] none-good refl refl refl;

@@ -2,7 +2,7 @@
 -- Their elements suit their tables, so they are read back as what they say: one line for each edition and message.
 -- Assumes nothing.
 use Prim.Native.Nat.{ℕ, _<_}
-use mathlib.Core.Path.{_≡_, refl, ap, _∙_}
+use mathlib.Core.Path.{_≡_, refl, ap, subst, _∙_}
 use mathlib.Core.Bool.{true}
 use mathlib.Core.List.{List, [], _∷_}
 use native.Mathlib.Omega.{arith}
@@ -26,7 +26,8 @@ use Rattle.editions.specs.declared.Message.the-variants as message
 use Rattle.editions.specs.declared.Edition.{Edition}
 use Rattle.editions.specs.declared.Edition.the-variants.{Release18}
 use Rattle.editions.specs.Ids.{id-MME-MBMS-M3AP-ID, id-MCE-MBMS-M3AP-ID, id-TMGI, id-MBMS-Session-ID, id-MBMS-E-RAB-QoS-Parameters, id-MBMS-Session-Duration, id-MBMS-Service-Area, id-TNL-Information, id-Cause, id-ResetType, id-MinimumTimeToMBMSDataTransfer}
-use Rattle.editions.specs.Editions.{release18, tableOf}
+use Rattle.editions.specs.Editions.{printed, tableOf, ofM3ap, firstOf, numberedBy}
+use Rattle.editions.proofs.Names.{only-m3ap, numbered-listed}
 use Rattle.meaning.specs.Value as value
 use Rattle.meaning.specs.Value.{given, Said}
 use Rattle.meaning.specs.Written.{octetsOf, hasOctets, messageOctets}
@@ -68,28 +69,33 @@ asked-so e os w q b a h =
 abbrev resetElements : Cause → List Item → List Element
 resetElements k items = id-Cause is value.cause k ∷ id-ResetType is value.reset (part items) ∷ []
 
-reset-suits : (e : Edition) (k : Cause) (items : List Item) → GoodCause k → GoodItems items → Taken (tableOf e message.Reset) (saying e message.Reset (resetElements k items) .values) 2317
-unfolding release18 valueOf hasOctets octetsOf resetOctets
-reset-suits Release18 k items g h =
+reset-suits : (k : Cause) (items : List Item) → GoodCause k → GoodItems items → Taken (tableOf Release18 message.Reset) (saying Release18 message.Reset (resetElements k items) .values) 2317
+unfolding printed valueOf hasOctets octetsOf resetOctets
+reset-suits k items g h =
     let n = items-size reject items (h .1) in
     taken-more (takes-cause k refl g)
     (taken-more (takes-value (value.reset (part items)) 2306 refl (h .2) (counted-good (length items) (h .0) (h .1)) (omega arith)) taken-none)
 
-reset-asks : (e : Edition) (k : Cause) (items : List Item)
-    → (requestOf ask.Reset (seen (saying e message.Reset (resetElements k items) .values)) ≡ wanted.Is request.Part) × (listsOf (saying e message.Reset (resetElements k items) .values) .items ≡ items)
-unfolding release18 valueOf seen listsOf
-reset-asks Release18 k items = (refl, refl)
+reset-asks : (k : Cause) (items : List Item)
+    → (requestOf ask.Reset (seen (saying Release18 message.Reset (resetElements k items) .values)) ≡ wanted.Is request.Part) × (listsOf (saying Release18 message.Reset (resetElements k items) .values) .items ≡ items)
+unfolding printed valueOf seen listsOf
+reset-asks k items = (refl, refl)
 
 module _ (e : Edition) (k : Cause) (items : List Item) (g : GoodCause k) where
   pub reset-octets : Octets (resetMessage e k items)
   reset-octets = message-octets (resetElements k items) (value-cause k g, (value-part items, tt)) e message.Reset
 
-  pub reset-carries : GoodItems items → PartialReset (judged e (resetMessage e k items)) items
-  reset-carries h =
-      let w : Said = saying e message.Reset (resetElements k items) in
-      let q = reset-asks e k items in
-      let a = asked-so e (resetMessage e k items) w request.Part (taken-back e w 2317 (reset-suits e k items g h) (omega arith)) refl (q .0) in
+  reset-carries-18 : GoodItems items → PartialReset (judged Release18 (resetMessage Release18 k items)) items
+  unfolding numberedBy firstOf printed
+  reset-carries-18 h =
+      let w : Said = saying Release18 message.Reset (resetElements k items) in
+      let q = reset-asks k items in
+      let d = numbered-listed Release18 6 message.Reset refl in
+      let a = asked-so Release18 (resetMessage Release18 k items) w request.Part (taken-back Release18 w d 2317 (reset-suits k items g h) (omega arith)) refl (q .0) in
       record { asks = a .0; items = a .1 ∙ q .1 }
+
+  pub reset-carries : ofM3ap e ≡ true → GoodItems items → PartialReset (judged e (resetMessage e k items)) items
+  reset-carries j h = subst (λ (x : Edition). PartialReset (judged x (resetMessage x k items)) items) (only-m3ap e j) (reset-carries-18 h)
 
 -- ---- starts
 
@@ -126,23 +132,23 @@ module _ (m : MmeId) (t : Tmgi) where
       ∷ id-MinimumTimeToMBMSDataTransfer is value.carried (0 ∷ [])
       ∷ id-TNL-Information is value.carried (0 ∷ []) ∷ sessionIf v
 
-  start-suits : (e : Edition) (v : Session) → m .0 < 65536 → InRange (value.tmgi t) → GoodSession v
-      → Taken (tableOf e message.StartRequest) (saying e message.StartRequest (startElements v) .values) 55
-  unfolding release18 valueOf
-  start-suits Release18 (session.Is v) g h f =
+  start-suits : (v : Session) → m .0 < 65536 → InRange (value.tmgi t) → GoodSession v
+      → Taken (tableOf Release18 message.StartRequest) (saying Release18 message.StartRequest (startElements v) .values) 55
+  unfolding printed valueOf
+  start-suits (session.Is v) g h f =
       taken-more (takes-mme m refl g) (taken-more (takes-tmgi t refl h) (taken-more (takes-one v refl f)
       (taken-more (takes-carried refl) (taken-more (takes-carried refl) (taken-more (takes-carried refl) (taken-more (takes-carried refl) (taken-more (takes-carried refl)
       (taken-more (takes-absent 0 refl) (taken-more (takes-absent 0 refl) (taken-more (takes-absent 0 refl) (taken-more (takes-absent 0 refl) taken-none)))))))))))
-  start-suits Release18 session.Absent g h f =
+  start-suits session.Absent g h f =
       taken-more (takes-mme m refl g) (taken-more (takes-tmgi t refl h) (taken-more (takes-absent 6 refl)
       (taken-more (takes-carried refl) (taken-more (takes-carried refl) (taken-more (takes-carried refl) (taken-more (takes-carried refl) (taken-more (takes-carried refl)
       (taken-more (takes-absent 0 refl) (taken-more (takes-absent 0 refl) (taken-more (takes-absent 0 refl) (taken-more (takes-absent 0 refl) taken-none)))))))))))
 
-  start-asks : (e : Edition) (v : Session)
-      → requestOf ask.Start (seen (saying e message.StartRequest (startElements v) .values)) ≡ wanted.Is (request.Start m t v)
-  unfolding release18 valueOf seen
-  start-asks Release18 (session.Is v) = refl
-  start-asks Release18 session.Absent = refl
+  start-asks : (v : Session)
+      → requestOf ask.Start (seen (saying Release18 message.StartRequest (startElements v) .values)) ≡ wanted.Is (request.Start m t v)
+  unfolding printed valueOf seen
+  start-asks (session.Is v) = refl
+  start-asks session.Absent = refl
 
   all-session : (v : Session) → Each AllElement (sessionIf v)
   all-session (session.Is v) = (value-one v, tt)
@@ -158,10 +164,17 @@ module _ (e : Edition) (m : MmeId) (t : Tmgi) (v : Session) where
         let c = value-carried 0 (omega arith) in
         message-octets (startElements m t v) (value-mme m, (value-tmgi t h, (c, (c, (c, (c, (c, all-session m t v))))))) e message.StartRequest
 
-    pub start-carries : Asks (judged e startMessage) (request.Start m t v)
-    start-carries =
-        let w : Said = saying e message.StartRequest (startElements m t v) in
-        asked-so e startMessage w (request.Start m t v) (taken-back e w 55 (start-suits m t e v g h f) (omega arith)) refl (start-asks m t e v) .0
+-- in Release 18, and so in whichever edition of M3AP
+module _ (m : MmeId) (t : Tmgi) (v : Session) (g : m .0 < 65536) (h : InRange (value.tmgi t)) (f : GoodSession v) where
+  start-carries-18 : Asks (judged Release18 (startMessage Release18 m t v)) (request.Start m t v)
+  unfolding numberedBy firstOf printed
+  start-carries-18 =
+      let w : Said = saying Release18 message.StartRequest (startElements m t v) in
+      let d = numbered-listed Release18 1 message.StartRequest refl in
+      asked-so Release18 (startMessage Release18 m t v) w (request.Start m t v) (taken-back Release18 w d 55 (start-suits m t v g h f) (omega arith)) refl (start-asks m t v) .0
+
+  pub start-carries : (e : Edition) → ofM3ap e ≡ true → Asks (judged e (startMessage e m t v)) (request.Start m t v)
+  start-carries e j = subst (λ (x : Edition). Asks (judged x (startMessage x m t v)) (request.Start m t v)) (only-m3ap e j) start-carries-18
 
 -- ---- stops
 
@@ -169,13 +182,13 @@ module _ (m : MmeId) (c : MceId) where
   abbrev stopElements : List Element
   stopElements = id-MME-MBMS-M3AP-ID is value.mme m ∷ id-MCE-MBMS-M3AP-ID is value.mce c ∷ []
 
-  stop-suits : (e : Edition) → m .0 < 65536 → c .0 < 65536 → Taken (tableOf e message.StopRequest) (saying e message.StopRequest stopElements .values) 14
-  unfolding release18 valueOf
-  stop-suits Release18 g h = taken-more (takes-mme m refl g) (taken-more (takes-mce c refl h) (taken-more (takes-absent 0 refl) taken-none))
+  stop-suits : m .0 < 65536 → c .0 < 65536 → Taken (tableOf Release18 message.StopRequest) (saying Release18 message.StopRequest stopElements .values) 14
+  unfolding printed valueOf
+  stop-suits g h = taken-more (takes-mme m refl g) (taken-more (takes-mce c refl h) (taken-more (takes-absent 0 refl) taken-none))
 
-  stop-asks : (e : Edition) → requestOf ask.Stop (seen (saying e message.StopRequest stopElements .values)) ≡ wanted.Is (request.Stop m c)
-  unfolding release18 valueOf seen
-  stop-asks Release18 = refl
+  stop-asks : requestOf ask.Stop (seen (saying Release18 message.StopRequest stopElements .values)) ≡ wanted.Is (request.Stop m c)
+  unfolding printed valueOf seen
+  stop-asks = refl
 
 module _ (e : Edition) (m : MmeId) (c : MceId) where
   abbrev pub stopMessage : List ℕ
@@ -184,7 +197,13 @@ module _ (e : Edition) (m : MmeId) (c : MceId) where
   pub stop-octets : Octets stopMessage
   stop-octets = message-octets (stopElements m c) (value-mme m, (value-mce c, tt)) e message.StopRequest
 
-  pub stop-carries : m .0 < 65536 → c .0 < 65536 → Asks (judged e stopMessage) (request.Stop m c)
-  stop-carries g h =
-      let w : Said = saying e message.StopRequest (stopElements m c) in
-      asked-so e stopMessage w (request.Stop m c) (taken-back e w 14 (stop-suits m c e g h) (omega arith)) refl (stop-asks m c e) .0
+module _ (m : MmeId) (c : MceId) (g : m .0 < 65536) (h : c .0 < 65536) where
+  stop-carries-18 : Asks (judged Release18 (stopMessage Release18 m c)) (request.Stop m c)
+  unfolding numberedBy firstOf printed
+  stop-carries-18 =
+      let w : Said = saying Release18 message.StopRequest (stopElements m c) in
+      let d = numbered-listed Release18 4 message.StopRequest refl in
+      asked-so Release18 (stopMessage Release18 m c) w (request.Stop m c) (taken-back Release18 w d 14 (stop-suits m c g h) (omega arith)) refl (stop-asks m c) .0
+
+  pub stop-carries : (e : Edition) → ofM3ap e ≡ true → Asks (judged e (stopMessage e m c)) (request.Stop m c)
+  stop-carries e j = subst (λ (x : Edition). Asks (judged x (stopMessage x m c)) (request.Stop m c)) (only-m3ap e j) stop-carries-18

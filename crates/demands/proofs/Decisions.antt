@@ -21,6 +21,7 @@ use Rattle.identity.specs.declared.Item.{Item}
 use Rattle.values.specs.declared.Cause.{Cause}
 use Rattle.values.specs.Written.{GoodCause}
 use Rattle.editions.specs.declared.Edition.{Edition}
+use Rattle.editions.specs.Editions.{ofM3ap}
 use Rattle.verdicts.specs.declared.Outcome.{Outcome}
 use Rattle.verdicts.specs.declared.Outcome.the-variants as outcome
 use Rattle.verdicts.specs.Verdict.{Verdict, refused, understood, Understood}
@@ -206,20 +207,20 @@ module _ (u : units.Unit) (t : GoodUnit u) where
     carried-good request.SetupResponse g = (tt, tt)
     carried-good (request.SetupFailure w) g = (tt, tt)
 
-    ruled-sure : (e : Edition) (w : Understood) → Sound w → (r : Ruling) → GoodRuling r → Sure e (decided e u c (ruled e w r))
+    ruled-sure : (e : Edition) → ofM3ap e ≡ true → (w : Understood) → Sound w → (r : Ruling) → GoodRuling r → Sure e (decided e u c (ruled e w r))
     unfolding decided
-    ruled-sure e w z (Granted q) g =
+    ruled-sure e j w z (Granted q) g =
         let d : Decision = carriedOut (standing (asked c q) (u .held)) c q in
         let k = carried-good q g in
         changed-sure e (itemsIn (w .what)) (replied e (w .frame) (keep hasIdentity (itemsIn (w .what))) (w .noted) (d .reply))
-        (spoken e (w .frame) (z .frame) (itemsIn (w .what)) (z .items .list) (w .noted) (z .noted) (d .reply) (k .0)) (d .change) (k .1)
-    ruled-sure e w z (Refused r) g = spoken e (w .frame) (z .frame) [] (record { few = omega arith; each = tt }) (w .noted) (z .noted) r g
+        (spoken (w .frame) (z .frame) (itemsIn (w .what)) (z .items .list) (w .noted) (z .noted) e j (d .reply) (k .0)) (d .change) (k .1)
+    ruled-sure e j w z (Refused r) g = spoken (w .frame) (z .frame) [] (record { few = omega arith; each = tt }) (w .noted) (z .noted) e j r g
 
-pub decided-sure : (e : Edition) (u : units.Unit) (c : MceId) (v : Verdict) → GoodUnit u → c .0 < 65536 → ((w : Understood) → v ≡ understood w → Sound w) → Sure e (decided e u c (judgedBy e v))
+pub decided-sure : (e : Edition) (u : units.Unit) (c : MceId) (v : Verdict) → GoodUnit u → c .0 < 65536 → ((w : Understood) → v ≡ understood w → Sound w × (ofM3ap e ≡ true)) → Sure e (decided e u c (judgedBy e v))
 unfolding decided judgedBy
 decided-sure e u c (refused x) t o s = tt
 decided-sure e u c (understood w) t o s =
-    let z = s w refl in
+    let z = s w refl .0 in
     let a : Ask = askOf (w .what .message) in
     let x : Seen = seen (w .what .values) in
-    ruled-sure u t c o e w z (ruling a x (w .outcome)) (ruling-good a x (w .outcome) (z .seen))
+    ruled-sure u t c o e (s w refl .1) w z (ruling a x (w .outcome)) (ruling-good a x (w .outcome) (z .seen))

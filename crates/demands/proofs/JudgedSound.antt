@@ -1,6 +1,7 @@
 -- What is accepted was understood, with nothing lacking; and it is in range.
 -- Assumes nothing.
 use Prim.Native.Nat.{ℕ, _<_}
+use mathlib.Core.Bool.{true}
 use mathlib.Core.Path.{_≡_, refl, subst, ap}
 use mathlib.Core.List.{List}
 use native.Mathlib.Omega.{arith}
@@ -12,9 +13,8 @@ use Rattle.identity.specs.declared.Mce.{Mce}
 use Rattle.identity.specs.declared.Mce.the-variants as mce
 use Rattle.identity.specs.declared.Session.{Session}
 use Rattle.identity.specs.declared.Item.{Item}
-use Rattle.entries.specs.declared.Entry.{Entry}
-use Rattle.frames.specs.declared.Frame.{Frame}
 use Rattle.editions.specs.declared.Edition.{Edition}
+use Rattle.editions.specs.Editions.{ofM3ap}
 use Rattle.verdicts.specs.declared.Outcome.{Outcome}
 use Rattle.verdicts.specs.declared.Outcome.the-variants as outcome
 use Rattle.verdicts.specs.Verdict.{Verdict, refused, understood, Understood}
@@ -33,6 +33,7 @@ use Rattle.requests.specs.Requests.{askOf, asks, startOf, stopOf, resetOf, requ
 use Rattle.replies.specs.declared.Reply.the-variants as reply
 use Rattle.carry.specs.Carry.{ruledBy}
 use Rattle.calls.specs.Judged.{Accepted, accepts, judgedBy, judged}
+use Rattle.demands.proofs.Verdicts.{understood-m3ap}
 use Rattle.demands.proofs.Written.{GoodEntries, GoodFrame, GoodList}
 use Rattle.demands.proofs.Sound.{read-sound}
 use Rattle.demands.proofs.Decisions.{GoodRequest, GoodRuling, asked-good}
@@ -106,6 +107,10 @@ pub record SoundRequest (w : Accepted) : Type 0 where
   pub frame : GoodFrame (w .frame)
   pub noted : GoodEntries (w .noted)
   pub request : GoodRequest (w .request)
+
+-- what is accepted is of M3AP
+pub asked-m3ap : (e : Edition) (s : List ℕ) {w : Accepted} → judged e s ≡ accepts w → ofM3ap e ≡ true
+asked-m3ap e s {w} q = let a = accepted-of e _ w q in understood-m3ap e s (a .what) (a .read)
 
 pub judged-sound : (e : Edition) (s : List ℕ) → Octets s → (w : Accepted) → judged e s ≡ accepts w → SoundRequest w
 judged-sound e s o w q =

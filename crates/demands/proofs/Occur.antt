@@ -22,11 +22,11 @@ use Rattle.kinds.specs.Kinds.{valueAt}
 use Rattle.rows.specs.Table.{find}
 use Rattle.envelopes.specs.Envelope.{criticalityAt, envelopeAt, scanAt, headsAt}
 use Rattle.elements.specs.Judge as elements
-use Rattle.elements.specs.Judge.{front, readInto, unknownOf, missingOf, elementsAt}
+use Rattle.elements.specs.Judge.{front, readInto, unknownOf, missingOf, extensionsAt, elementsAt}
 use Rattle.editions.specs.declared.Edition.{Edition}
 use Rattle.editions.specs.declared.Edition.the-variants.{Release18}
-use Rattle.editions.specs.Editions.{release18, firstOf, namedBy}
-use Rattle.frames.specs.Frame.{kindAt, frameAt, countAt}
+use Rattle.editions.specs.Editions.{printed, firstOf, namedBy}
+use Rattle.frames.specs.Frame.{kindAt, frameAt, containerAt, countAt}
 use Rattle.meaning.specs.Reading.{readAs, valueIn, valuesIn}
 use Rattle.meaning.specs.Written.{elementsOctets, howMany, insideOctets, messageOctets, elementsGood, encoded}
 use Rattle.verdicts.specs.Verdict.{openedAt, readOf}
@@ -132,7 +132,7 @@ room-number s k d h =
 
 -- the rest is computed
 pub every-answer : EveryAnswer
-unfolding many decidedOn setupAnswer decided judgedBy rejection started stopped full readOf frameAt kindAt countAt openedAt elementsAt elements.judgedOf front find readInto unknownOf missingOf scanAt headsAt envelopeAt criticalityAt valueAt mmeAt mceAt tmgiAt resetAt readAs valueIn valuesIn seen listsOf release18 firstOf namedBy flagAt plainAt choiceAt padAt numberAt stringAt openAt lengthAt longLengthAt endsAt bitsOf cutShort noMeaning leftOver extended _>>=_ readUnit unitOctets same rowsOf rowsOctets numberOctets distinctHeld replyOctets encoded replied listOnly valueOf elementsGood elementsOctets messageOctets insideOctets howMany lengthOctets packedIn
+unfolding many decidedOn setupAnswer decided judgedBy rejection started stopped full readOf frameAt kindAt containerAt countAt openedAt extensionsAt elementsAt elements.judgedOf front find readInto unknownOf missingOf scanAt headsAt envelopeAt criticalityAt valueAt mmeAt mceAt tmgiAt resetAt readAs valueIn valuesIn seen listsOf printed firstOf namedBy flagAt plainAt choiceAt padAt numberAt stringAt openAt lengthAt longLengthAt endsAt bitsOf cutShort noMeaning leftOver extended _>>=_ readUnit unitOctets same rowsOf rowsOctets numberOctets distinctHeld replyOctets encoded replied listOnly valueOf elementsGood elementsOctets messageOctets insideOctets howMany lengthOctets packedIn
 every-answer = record {
   carried-out = gives [] start none-good refl refl;
   too-long = long-number;

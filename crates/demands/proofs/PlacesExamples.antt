@@ -65,8 +65,8 @@ one-item = (omega arith, omega arith, ((omega arith, tt), tt))
 example-start : SomeNeighbours Release18 (unitOctets two) two (request.Start (record { 0 = 3 }) (pair 3 13 .tmgi) session.Absent) items
 unfolding named
 example-start =
-    changing-places-is-real Release18 .starts (unitOctets two) two (pair 3 13) items lent (record { mme = omega arith; mce = omega arith }) (row-octets 3 13) (omega arith) refl refl one-item refl
+    changing-places-is-real Release18 refl .starts (unitOctets two) two (pair 3 13) items lent (record { mme = omega arith; mce = omega arith }) (row-octets 3 13) (omega arith) refl refl one-item refl
 
 example-stop : SomeNeighbours Release18 (unitOctets two) two (request.Stop (record { 0 = 2 }) (record { 0 = 12 })) items
 unfolding named
-example-stop = changing-places-is-real Release18 .stops (unitOctets two) two (pair 2 12) items lent (List·Memᴰ·tail (List·Memᴰ·head refl)) one-item refl
+example-stop = changing-places-is-real Release18 refl .stops (unitOctets two) two (pair 2 12) items lent (List·Memᴰ·tail (List·Memᴰ·head refl)) one-item refl

@@ -24,6 +24,7 @@ use Rattle.identity.specs.declared.Session.the-variants as session
 use Rattle.identity.specs.declared.Item.{Item}
 use Rattle.items.specs.Written.{GoodItems}
 use Rattle.editions.specs.declared.Edition.{Edition}
+use Rattle.editions.specs.Editions.{ofM3ap}
 use Rattle.meaning.specs.Value as value
 use Rattle.meaning.specs.Ranges as ranges
 use Rattle.table.specs.declared.Association.{Association}
@@ -36,7 +37,7 @@ use Rattle.requests.specs.declared.Request.the-variants as request
 use Rattle.replies.specs.declared.Reply.the-variants as reply
 use Rattle.replies.specs.Replies.{Replied}
 use Rattle.carry.specs.Carry.{started, stopped}
-use Rattle.calls.specs.Judged.{Accepted, judged}
+use Rattle.calls.specs.Judged.{Accepted}
 use Rattle.calls.specs.Decided.{changes}
 use Rattle.calls.specs.Call.{Call, call, decidedOn}
 use Rattle.demands.specs.Words.{Lends, resetBy, someNamed, AllAccepted}
@@ -100,7 +101,7 @@ module _ (items : List Item) (a : Association) (n : named items a ≡ false) whe
 own-pair : (a : Association) → hasPair (a .mme) (a .mce) a ≡ true
 own-pair a = rw (eq-eqb (a .mme .0) (a .mme .0) refl, eq-eqb (a .mce .0) (a .mce .0) refl)
 
-module _ (e : Edition) where
+module _ (e : Edition) (j : ofM3ap e ≡ true) where
   -- both orders are accepted, where the session's message is accepted in both units
   module _ {t : List ℕ} {u : Unit} (h : Lends t u) (items : List Item) (i : GoodItems items) (s : Call) (b : 8192 ≤ length (s .room))
       (f : State → State) {r r′ : Replied} (x : decidedOn e u s ≡ changes (withHeld f u) r)
@@ -108,7 +109,7 @@ module _ (e : Edition) where
     both : AllAccepted e t (s ∷ someCall e items ∷ []) × AllAccepted e t (someCall e items ∷ s ∷ [])
     both =
         let p : Call = someCall e items in
-        let q = reset-carries e someCause items (omega arith) i in
+        let q = reset-carries e someCause items (omega arith) j i in
         let v = granted e t s u (h .read) b x refl in
         let d = rw x at (done e t s u (h .read) v .unit) in
         let k : readUnit (call e t s .unit) ≡ isUnit (withHeld f u) = ap readUnit d ∙ one-unit .back (withHeld f u) g in
@@ -130,7 +131,7 @@ module _ (e : Edition) where
   starts t u a items h r o b q f i n =
       let m : List ℕ = startMessage e (a .mme) (a .tmgi) (a .session) in
       let s : Call = record { message = m; offered = a .mce; room = room } in
-      let c = start-carries e (a .mme) (a .tmgi) (a .session) (r .mme) (tmgi-range a o) (session-range a o) in
+      let c = start-carries (a .mme) (a .tmgi) (a .session) (r .mme) (tmgi-range a o) (session-range a o) e j in
       let w : Accepted = c .what in
       let k = always .reset-size items (u .held) in
       let x = start-decided e u s c ∙ start-fits u w a b q f in
@@ -151,7 +152,7 @@ module _ (e : Edition) where
             offered = r .mce;
           };
           session = (c .accepted, rw (c .request) tt, refl);
-          reset = (reset-carries e someCause items (omega arith) i, refl);
+          reset = (reset-carries e someCause items (omega arith) j i, refl);
           offered = refl;
           accepted = both h items i s large (starting a) x y (record { held = starting-good (u .held) (lent-good h .held) a r q f });
           spared = (rw (c .request, n), rw (c .request, n));
@@ -171,7 +172,7 @@ module _ (e : Edition) where
       let o : List ℕ = stopMessage e (a .mme) (a .mce) in
       let s : Call = record { message = o; offered = record { 0 = 0 }; room = room } in
       let r = lent-good h .held .each a m in
-      let c = stop-carries e (a .mme) (a .mce) (r .mme) (r .mce) in
+      let c = stop-carries (a .mme) (a .mce) (r .mme) (r .mce) e j in
       let w : Accepted = c .what in
       let x = stop-decided e u s c ∙ stop-fits u w (a .mme) (a .mce) (some-at (hasPair (a .mme) (a .mce)) m (own-pair a)) in
       let y = stop-decided e (resetBy items u) s c
@@ -187,7 +188,7 @@ module _ (e : Edition) where
           unit = h;
           handed = record { unit = h .octets; message = stop-octets e (a .mme) (a .mce); offered = omega arith };
           session = (c .accepted, rw (c .request) tt, refl);
-          reset = (reset-carries e someCause items (omega arith) i, refl);
+          reset = (reset-carries e someCause items (omega arith) j i, refl);
           offered = refl;
           accepted = both h items i s large (stopping (a .mme) (a .mce)) x y (record { held = stopping-good (u .held) (lent-good h .held) (a .mme) (a .mce) });
           spared = (rw (c .request) (none-named items a n (u .held)), rw (c .request) (none-named items a n (without items (u .held))));

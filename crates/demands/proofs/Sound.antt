@@ -2,14 +2,14 @@
 -- Assumes nothing.
 use Prim.Native.Nat.{ℕ, zero, suc, _+_, _^_, _<_}
 use mathlib.Core.Path.{_≡_, refl, sym, subst}
-use mathlib.Core.Bool.{Bool}
+use mathlib.Core.Bool.{Bool, true, false}
 use mathlib.Core.List.{List, [], _∷_}
 use native.Mathlib.Omega.{arith}
 use lib.Dec.{ltb, eqb}
 use lib.ListN.{length, take, length-take}
 use Rattle.lists.proofs.Tests.{on-pick}
 use Rattle.octets.specs.Read.{Read, got, stop, _>>=_}
-use Rattle.octets.specs.Field.{plainAt, choiceAt, padAt, numberAt, openAt, endsAt}
+use Rattle.octets.specs.Field.{plainAt, choiceAt, padAt, numberAt, belowAt, openAt, endsAt}
 use Rattle.octets.specs.Stands.{Octets}
 use Rattle.octets.specs.declared.Span.{Span}
 use Rattle.octets.specs.Span.{present}
@@ -30,12 +30,12 @@ use Rattle.rows.specs.declared.Kind.the-variants as kind
 use Rattle.rows.specs.declared.Row.{Row}
 use Rattle.rows.specs.Table.{find, known, meanings}
 use Rattle.envelopes.specs.declared.Head.{Head}
-use Rattle.envelopes.specs.Envelope.{criticalityAt, envelopeAt, onHead, headsAt}
+use Rattle.envelopes.specs.Envelope.{criticalityAt, envelopeAt, onHead, scanAt, headsAt}
 use Rattle.elements.specs.Judge as elements
 use Rattle.elements.specs.Judge.{Found, front, ignored, unknownEntry, unknownOf, missingEntry, missingOf}
 use Rattle.editions.specs.declared.Message.{Message}
 use Rattle.editions.specs.declared.Edition.{Edition}
-use Rattle.editions.specs.Editions.{tableOf}
+use Rattle.editions.specs.Editions.{tableOf, containerOf}
 use Rattle.frames.specs.declared.Frame.{Frame}
 use Rattle.frames.specs.Frame.{kindAt, frameAt}
 use Rattle.meaning.specs.Value as value
@@ -148,12 +148,22 @@ missing-good (r ∷ t) (v ∷ l) g =
     (on-pick (Each GoodEntry) (ignored (r .crit)) tt (record { crit = g .0 .crit; id = g .0 .id; error = omega arith }, tt)) tt))
     (missing-good t l (g .1))
 
-listed-entries : (t : List Row) (n : ℕ) (hs : List Head) → Each Fits t → Each GoodHead hs → Each GoodEntry (elements.judgedOf t n hs .listed)
+-- the extensions are elements of the message too
+extensions-good : (s : List ℕ) → Octets s → (container : Bool) (at : ℕ) {xs : List Head} → got xs ≡ elements.extensionsAt container s at → Each GoodHead xs
+unfolding elements.extensionsAt
+extensions-good s o false at q = subst (Each GoodHead) (sym (same-got (then-got (endsAt s at) _ q .2))) tt
+extensions-good s o true at q =
+    let a = then-got (belowAt 65535 s at) _ q in
+    let b = then-got (scanAt [] s (a .0 + 1) (at + 2)) _ (a .2) in
+    subst (Each GoodHead) (sym (same-got (then-got (endsAt s (b .0)) _ (b .2) .2))) (heads-good s o (a .0 + 1) (at + 2))
+
+listed-entries : (t : List Row) (n : ℕ) (hs xs : List Head) → Each Fits t → Each GoodHead hs → Each GoodHead xs → Each GoodEntry (elements.judgedOf t n hs xs .listed)
 unfolding elements.judgedOf
-listed-entries t n hs l g =
+listed-entries t n hs xs l g h =
     let f : List Head = front t 0 hs in
     each-append GoodEntry (unknownOf t f) _ (unknown-good t f (front-each GoodHead t 0 hs g))
-    (on-pick (Each GoodEntry) (eqb (length f) n) (missing-good t (elements.readOf t f) l) tt)
+    (on-pick (Each GoodEntry) (eqb (length f) n)
+    (each-append GoodEntry (unknownOf [] xs) _ (unknown-good [] xs h) (missing-good t (elements.readOf t f) l)) tt)
 
 -- ---- values of the record
 
@@ -198,17 +208,18 @@ module _ (s : List ℕ) (o : Octets s) where
 -- ---- verdicts
 
 module _ (e : Edition) (s : List ℕ) (o : Octets s) where
-  noted-good : (m : Message) (from : ℕ) {x : Opening} → Judging (tableOf e m) s from x → GoodEntries (x .noted)
+  noted-good : (m : Message) (from : ℕ) {x : Opening} → Judging (tableOf e m) (containerOf e m) s from x → GoodEntries (x .noted)
   noted-good m from {x} j =
       let t : List Row = tableOf e m in
-      let f : Found = elements.judgedOf t (j .count) (headsAt s (j .count) (from + 3)) in
+      let n = j .opens .elements in
+      let f : Found = elements.judgedOf t n (headsAt s n (from + 3)) (j .extensions) in
       let l = length-take 256 (f .listed) in
       subst (λ (y : Opening). GoodEntries (y .noted)) (j .is) (record {
         few = omega arith;
-        each = each-take GoodEntry 256 (f .listed) (listed-entries t (j .count) (headsAt s (j .count) (from + 3)) (rows-fit e m) (heads-good s o (j .count) (from + 3)));
+        each = each-take GoodEntry 256 (f .listed) (listed-entries t n (headsAt s n (from + 3)) (j .extensions) (rows-fit e m) (heads-good s o n (from + 3)) (extensions-good s o (j .opens .container) (j .end) (j .behind)));
       })
 
-  opened-sound : (m : Message) (f : Frame) (x : Opening) → GoodFrame f → Judging (tableOf e m) s (f .from) x → Sound (understoodBy (tableOf e m) m f s x)
+  opened-sound : (m : Message) (f : Frame) (x : Opening) → GoodFrame f → Judging (tableOf e m) (containerOf e m) s (f .from) x → Sound (understoodBy (tableOf e m) m f s x)
   opened-sound m f x g j =
       let v = values-good s o (tableOf e m) (x .spans) in
       record {
@@ -221,4 +232,4 @@ module _ (e : Edition) (s : List ℕ) (o : Octets s) where
   pub read-sound : (among : Message → Bool) (u : Understood) → readOf e among s ≡ understood u → Sound u
   read-sound among u q =
       let w = opened e among s u q in
-      subst Sound (w .is) (opened-sound (u .what .message) (u .frame) (w .opening) (frame-good s o (w .framed)) (judging (tableOf e (u .what .message)) s (u .frame .from) (w .read)))
+      subst Sound (w .is) (opened-sound (u .what .message) (u .frame) (w .opening) (frame-good s o (w .framed)) (judging (tableOf e (u .what .message)) (containerOf e (u .what .message)) s (u .frame .from) (w .read)))

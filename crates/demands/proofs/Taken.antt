@@ -3,7 +3,7 @@
 use Prim.Native.Nat.{ℕ, _+_, _≤_}
 use mathlib.Core.Path.{_≡_, refl}
 use mathlib.Core.Bool.{true, false}
-use mathlib.Core.List.{List, [], _∷_, _++_}
+use mathlib.Core.List.{List, [], _∷_, _++_, List·Memᴰ}
 use native.Mathlib.Omega.{arith}
 use borrow.Author.Tests.{le-leb}
 use lib.Dec.{ltb}
@@ -14,7 +14,7 @@ use Rattle.octets.specs.Write.{numberOctets, lengthOctets}
 use Rattle.octets.proofs.Back.{length-number}
 use Rattle.rows.specs.declared.Row.{Row}
 use Rattle.editions.specs.declared.Edition.{Edition}
-use Rattle.editions.specs.Editions.{tableOf}
+use Rattle.editions.specs.Editions.{messagesOf, tableOf}
 use Rattle.meaning.specs.Value.{Value, Given, given, absent, Said}
 use Rattle.meaning.specs.Written.{octetsOf, hasOctets, elementOctets, elementsOctets, howMany, insideOctets, messageOctets, elementGood, elementsGood, isWritten, octets, encoded}
 use Rattle.meaning.specs.Ranges.{valueKind, InRange, RowRange, Ranged}
@@ -83,13 +83,13 @@ module _ (e : Edition) (w : Said) where
       let d = length-size (length (insideOctets t (w .values))) in
       omega arith
 
-  module _ (n : ℕ) (g : Taken (tableOf e (w .message)) (w .values) n) where
+  module _ (d : List·Memᴰ (w .message) (messagesOf e)) (n : ℕ) (g : Taken (tableOf e (w .message)) (w .values) n) where
     is-written : n ≤ 8184 → isWritten e w ≡ true
     is-written b = let s = message-size in let k = g .size in rw (g .good) (le-leb (length (messageOctets e w)) 8192 (omega arith))
 
     -- values that suit the rows, in few octets, are read back
     pub taken-back : n ≤ 8184 → ReadAs e (messageOctets e w) w
-    taken-back b = message-back e w (g .range) (is-written b)
+    taken-back b = message-back e w (record { message = d; values = g .range }) (is-written b)
 
   -- what is written, and its octets, which are read with answer 0 and nothing to note, and say the same
   pub record Written : Type 0 where
@@ -99,10 +99,10 @@ module _ (e : Edition) (w : Said) where
     pub size : length (replyOctets e (says w)) ≤ 3200
     pub back : ReadAs e (replyOctets e (says w)) w
 
-  module _ (n : ℕ) (g : Taken (tableOf e (w .message)) (w .values) n) (b : n ≤ 3192) where
+  module _ (d : List·Memᴰ (w .message) (messagesOf e)) (n : ℕ) (g : Taken (tableOf e (w .message)) (w .values) n) (b : n ≤ 3192) where
     has-octets : encoded e w ≡ octets (messageOctets e w)
     unfolding encoded
-    has-octets = let k = is-written n g (omega arith) in rw k
+    has-octets = let k = is-written d n g (omega arith) in rw k
 
     is-reply : replyOctets e (says w) ≡ messageOctets e w
     unfolding replyOctets
@@ -110,9 +110,9 @@ module _ (e : Edition) (w : Said) where
 
     pub written : Written
     written = record {
-      types = g .range;
+      types = record { message = d; values = g .range };
       octets = has-octets;
       reply = is-reply;
       size = let s = message-size in let k = g .size in rw is-reply (omega arith);
-      back = rw is-reply (taken-back n g (omega arith));
+      back = rw is-reply (taken-back d n g (omega arith));
     }

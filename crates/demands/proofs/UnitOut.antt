@@ -20,6 +20,7 @@ use Rattle.calls.specs.Judged.{verdict, setupAnswer}
 use Rattle.calls.specs.Decided.{Decided, keeps, changes, fails}
 use Rattle.calls.specs.Call.{Call, Back, settledIf, fits, settled, onUnit, call, decidedOn}
 use Rattle.demands.specs.Answered.{Handed, UnitOut}
+use Rattle.demands.proofs.Verdicts.{understood-m3ap}
 use Rattle.demands.proofs.Sound.{read-sound}
 use Rattle.demands.proofs.Decisions.{Sure, decided-sure}
 
@@ -36,7 +37,7 @@ module _ (e : Edition) where
   pub decided-on-sure : (u : Unit) (c : Call) → GoodUnit u → Octets (c .message) → c .offered .0 < 65536 → Sure e (decidedOn e u c)
   unfolding decidedOn
   decided-on-sure u c g m o =
-      on-pick (Sure e) (setupAnswer e (c .message) && not (u .isOpen)) tt (decided-sure e u (c .offered) (verdict e (c .message)) g o (read-sound e (c .message) m asks))
+      on-pick (Sure e) (setupAnswer e (c .message) && not (u .isOpen)) tt (decided-sure e u (c .offered) (verdict e (c .message)) g o (λ w q. (read-sound e (c .message) m asks w q, understood-m3ap e (c .message) w q)))
 
   pub sure : (t : List ℕ) (c : Call) (u : Unit) → Handed t c → readUnit t ≡ isUnit u → Sure e (decidedOn e u c)
   sure t c u h q = decided-on-sure u c (one-unit .good t u q) (h .message) (h .offered)

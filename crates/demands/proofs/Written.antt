@@ -2,9 +2,9 @@
 -- Its elements suit the rows of its message's table: one line for each edition and reply.
 -- Assumes nothing.
 use Prim.Native.Nat.{ℕ, _+_, _*_, _-_, _<_, _≤_}
-use mathlib.Core.Path.{_≡_, _∙_, refl, sym}
+use mathlib.Core.Path.{_≡_, _∙_, refl, sym, subst}
 use mathlib.Core.Bool.{Bool, true, false}
-use mathlib.Core.List.{List, [], _∷_, _++_}
+use mathlib.Core.List.{List, [], _∷_, _++_, List·Memᴰ}
 use native.Mathlib.Omega.{arith}
 use borrow.Author.Tests.{lt-ltb, ltb-true, ltb-false}
 use lib.Dec.{eqb}
@@ -44,7 +44,9 @@ use Rattle.editions.specs.declared.Message.the-variants as message
 use Rattle.editions.specs.declared.Edition.{Edition}
 use Rattle.editions.specs.declared.Edition.the-variants.{Release18}
 use Rattle.editions.specs.Ids.{id-MME-MBMS-M3AP-ID, id-MCE-MBMS-M3AP-ID, id-Cause, id-CriticalityDiagnostics, id-MBMS-Service-associatedLogicalM3-ConnectionListResAck}
-use Rattle.editions.specs.Editions.{release18, tableOf}
+use Rattle.editions.specs.Editions.{printed, messagesOf, tableOf, numberOf, ofM3ap, firstOf, numberedBy}
+use Rattle.editions.specs.declared.Named.the-variants as named
+use Rattle.editions.proofs.Names.{only-m3ap, numbered-listed}
 use Rattle.frames.specs.declared.Frame.{Frame}
 use Rattle.meaning.specs.Value as value
 use Rattle.meaning.specs.Value.{Given, given, absent}
@@ -184,20 +186,20 @@ abbrev Suit : Edition → Message → List Element → ℕ → Type 0
 Suit e m xs n = Taken (tableOf e m) (saying e m xs .values) n
 
 module _ (es : List Entry) (n : GoodEntries es) where
-  response-suits : (e : Edition) (m : MmeId) (c : MceId) → m .0 < 65536 → c .0 < 65536
-      → Suit e message.StartResponse (id-MME-MBMS-M3AP-ID is value.mme m ∷ id-MCE-MBMS-M3AP-ID is value.mce c ∷ listOnly es) 792
-  unfolding release18 valueOf
-  response-suits Release18 m c g h = taken-more (takes-mme m refl g) (taken-more (takes-mce c refl h) (taken-more (takes-only es refl refl n) taken-none))
+  response-suits : (m : MmeId) (c : MceId) → m .0 < 65536 → c .0 < 65536
+      → Suit Release18 message.StartResponse (id-MME-MBMS-M3AP-ID is value.mme m ∷ id-MCE-MBMS-M3AP-ID is value.mce c ∷ listOnly es) 792
+  unfolding printed valueOf
+  response-suits m c g h = taken-more (takes-mme m refl g) (taken-more (takes-mce c refl h) (taken-more (takes-only es refl refl n) taken-none))
 
-  stopped-suits : (e : Edition) (m : MmeId) (c : MceId) → m .0 < 65536 → c .0 < 65536
-      → Suit e message.StopResponse (id-MME-MBMS-M3AP-ID is value.mme m ∷ id-MCE-MBMS-M3AP-ID is value.mce c ∷ listOnly es) 792
-  unfolding release18 valueOf
-  stopped-suits Release18 m c g h = taken-more (takes-mme m refl g) (taken-more (takes-mce c refl h) (taken-more (takes-only es refl refl n) taken-none))
+  stopped-suits : (m : MmeId) (c : MceId) → m .0 < 65536 → c .0 < 65536
+      → Suit Release18 message.StopResponse (id-MME-MBMS-M3AP-ID is value.mme m ∷ id-MCE-MBMS-M3AP-ID is value.mce c ∷ listOnly es) 792
+  unfolding printed valueOf
+  stopped-suits m c g h = taken-more (takes-mme m refl g) (taken-more (takes-mce c refl h) (taken-more (takes-only es refl refl n) taken-none))
 
-  failure-suits : (e : Edition) (m : MmeId) (why : Cause) → m .0 < 65536 → GoodCause why
-      → Suit e message.StartFailure (id-MME-MBMS-M3AP-ID is value.mme m ∷ id-Cause is value.cause why ∷ listOnly es) 791
-  unfolding release18 valueOf
-  failure-suits Release18 m why g h = taken-more (takes-mme m refl g) (taken-more (takes-cause why refl h) (taken-more (takes-only es refl refl n) taken-none))
+  failure-suits : (m : MmeId) (why : Cause) → m .0 < 65536 → GoodCause why
+      → Suit Release18 message.StartFailure (id-MME-MBMS-M3AP-ID is value.mme m ∷ id-Cause is value.cause why ∷ listOnly es) 791
+  unfolding printed valueOf
+  failure-suits m why g h = taken-more (takes-mme m refl g) (taken-more (takes-cause why refl h) (taken-more (takes-only es refl refl n) taken-none))
 
   -- an id that the list of diagnostics does not have
   other-absent : (id : ℕ) → eqb id-CriticalityDiagnostics id ≡ false → valueOf (listOnly es) id ≡ absent
@@ -205,9 +207,9 @@ module _ (es : List Entry) (n : GoodEntries es) where
   other-absent id q = on-pick (λ (xs : List Element). valueOf xs id ≡ absent) (someOf es) (rw q) refl
 
   -- a list of items, if there are any
-  listed-suits : (e : Edition) (kept : List Item) → GoodList kept → Suit e message.ResetAcknowledge (listing kept ++ listOnly es) 3088
-  unfolding release18 valueOf
-  listed-suits Release18 kept g = by (someOf kept) refl
+  listed-suits : (kept : List Item) → GoodList kept → Suit Release18 message.ResetAcknowledge (listing kept ++ listOnly es) 3088
+  unfolding printed valueOf
+  listed-suits kept g = by (someOf kept) refl
     where
       by : (t : Bool) → someOf kept ≡ t
           → Suit Release18 message.ResetAcknowledge (pick t (id-MBMS-Service-associatedLogicalM3-ConnectionListResAck is value.list kept ∷ []) [] ++ listOnly es) 3088
@@ -220,16 +222,16 @@ record Diagnosing (d : List Element) : Type 0 where
   mce : valueOf d id-MCE-MBMS-M3AP-ID ≡ absent
   list : (r : Row) → kind.Diagnostics Three ≡ r .kind → r .mandatory ≡ false → Takes r (valueOf d id-CriticalityDiagnostics) 778
 
-error-suits : (e : Edition) (x : Mme) (y : Mce) (why : Cause) (d : List Element) → GoodMme x → GoodMce y → GoodCause why → Diagnosing d
-    → Suit e message.ErrorIndication (mmeIf x ++ (mceIf y ++ (id-Cause is value.cause why ∷ d))) 798
-unfolding release18 valueOf
-error-suits Release18 (mme.Is m) (mce.Is c) why d g h k t =
+error-suits : (x : Mme) (y : Mce) (why : Cause) (d : List Element) → GoodMme x → GoodMce y → GoodCause why → Diagnosing d
+    → Suit Release18 message.ErrorIndication (mmeIf x ++ (mceIf y ++ (id-Cause is value.cause why ∷ d))) 798
+unfolding printed valueOf
+error-suits (mme.Is m) (mce.Is c) why d g h k t =
     taken-more (takes-mme m refl g) (taken-more (takes-mce c refl h) (taken-more (takes-cause why refl k) (taken-more (t .list _ refl refl) taken-none)))
-error-suits Release18 (mme.Is m) mce.Absent why d g h k t =
+error-suits (mme.Is m) mce.Absent why d g h k t =
     taken-more (takes-mme m refl g) (taken-more (takes-none 7 (t .mce) refl) (taken-more (takes-cause why refl k) (taken-more (t .list _ refl refl) taken-none)))
-error-suits Release18 mme.Absent (mce.Is c) why d g h k t =
+error-suits mme.Absent (mce.Is c) why d g h k t =
     taken-more (takes-none 7 (t .mme) refl) (taken-more (takes-mce c refl h) (taken-more (takes-cause why refl k) (taken-more (t .list _ refl refl) taken-none)))
-error-suits Release18 mme.Absent mce.Absent why d g h k t =
+error-suits mme.Absent mce.Absent why d g h k t =
     taken-more (takes-none 7 (t .mme) refl) (taken-more (takes-none 7 (t .mce) refl) (taken-more (takes-cause why refl k) (taken-more (t .list _ refl refl) taken-none)))
 
 frame-diagnosing : (f : Frame) (es : List Entry) → GoodFrame f → GoodEntries es → Diagnosing (ofFrame f es)
@@ -255,17 +257,28 @@ Spoken e (says w) = Written e w
 kept-good : (items : List Item) → GoodList items → GoodList (keep hasIdentity items)
 kept-good items g = let k = length-keep hasIdentity items in let b = g .few in record { few = omega arith; each = each-keep GoodItem hasIdentity items (g .each) }
 
-module _ (e : Edition) (f : Frame) (u : GoodFrame f) (items : List Item) (i : GoodList items) (es : List Entry) (n : GoodEntries es) where
-  pub spoken : (r : Reply) → GoodReply r → Spoken e (replied e f (keep hasIdentity items) es r)
-  unfolding replied
-  spoken reply.None g = tt
-  spoken (reply.StartResponse m c) g = written e _ 792 (response-suits es n e m c (g .0) (g .1)) (omega arith)
-  spoken (reply.StartFailure m why) g = written e _ 791 (failure-suits es n e m why (g .0) (g .1)) (omega arith)
-  spoken (reply.StopResponse m c) g = written e _ 792 (stopped-suits es n e m c (g .0) (g .1)) (omega arith)
-  spoken reply.Acknowledge g = written e _ 3088 (listed-suits es n e [] (record { few = omega arith; each = tt })) (omega arith)
-  spoken reply.AcknowledgeItems g = written e _ 3088 (listed-suits es n e (keep hasIdentity items) (kept-good items i)) (omega arith)
-  spoken (reply.Rejection x y why) g = written e _ 798 (error-suits e x y why (ofFrame f es) (g .0) (g .1) (g .2) (frame-diagnosing f es u n)) (omega arith)
-  spoken (reply.PairNotHeld m c) g =
-      written e _ 798
-      (error-suits e (mme.Is m) (mce.Is c) unknownPair (pick (someOf es) (ofFrame f es) []) (g .0) (g .1) (omega arith)
+-- a message of Release 18, by its number
+mine : (m : Message) → numberedBy Release18 (numberOf Release18 m) ≡ named.Is m → List·Memᴰ m (messagesOf Release18)
+mine m q = numbered-listed Release18 (numberOf Release18 m) m q
+
+module _ (f : Frame) (u : GoodFrame f) (items : List Item) (i : GoodList items) (es : List Entry) (n : GoodEntries es) where
+  abbrev Replies : Edition → Reply → Type 0
+  Replies e r = Spoken e (replied e f (keep hasIdentity items) es r)
+
+  spoken-18 : (r : Reply) → GoodReply r → Replies Release18 r
+  unfolding replied numberedBy firstOf printed
+  spoken-18 reply.None g = tt
+  spoken-18 (reply.StartResponse m c) g = written Release18 _ (mine message.StartResponse refl) 792 (response-suits es n m c (g .0) (g .1)) (omega arith)
+  spoken-18 (reply.StartFailure m why) g = written Release18 _ (mine message.StartFailure refl) 791 (failure-suits es n m why (g .0) (g .1)) (omega arith)
+  spoken-18 (reply.StopResponse m c) g = written Release18 _ (mine message.StopResponse refl) 792 (stopped-suits es n m c (g .0) (g .1)) (omega arith)
+  spoken-18 reply.Acknowledge g = written Release18 _ (mine message.ResetAcknowledge refl) 3088 (listed-suits es n [] (record { few = omega arith; each = tt })) (omega arith)
+  spoken-18 reply.AcknowledgeItems g = written Release18 _ (mine message.ResetAcknowledge refl) 3088 (listed-suits es n (keep hasIdentity items) (kept-good items i)) (omega arith)
+  spoken-18 (reply.Rejection x y why) g = written Release18 _ (mine message.ErrorIndication refl) 798 (error-suits x y why (ofFrame f es) (g .0) (g .1) (g .2) (frame-diagnosing f es u n)) (omega arith)
+  spoken-18 (reply.PairNotHeld m c) g =
+      written Release18 _ (mine message.ErrorIndication refl) 798
+      (error-suits (mme.Is m) (mce.Is c) unknownPair (pick (someOf es) (ofFrame f es) []) (g .0) (g .1) (omega arith)
       (on-pick Diagnosing (someOf es) (frame-diagnosing f es u n) none-diagnosing)) (omega arith)
+
+  -- in whichever edition of M3AP
+  pub spoken : (e : Edition) → ofM3ap e ≡ true → (r : Reply) → GoodReply r → Replies e r
+  spoken e j r g = subst (λ (x : Edition). Replies x r) (only-m3ap e j) (spoken-18 r g)

@@ -14,14 +14,16 @@ use Rattle.identity.specs.declared.Mme.{Mme}
 use Rattle.identity.specs.declared.Mme.the-variants as mme
 use Rattle.identity.specs.declared.Mce.the-variants as mce
 use Rattle.rows.specs.declared.Row.{Row}
+use Rattle.envelopes.specs.declared.Head.{Head}
 use Rattle.envelopes.specs.Envelope.{headsAt}
-use Rattle.elements.specs.Judge.{Found, judgedOf}
+use Rattle.elements.specs.Judge.{Found, judgedOf, extensionsBehind}
 use Rattle.editions.specs.declared.Edition.{Edition}
 use Rattle.editions.specs.declared.Message.{Message}
 use Rattle.editions.specs.declared.Message.the-variants as message
 use Rattle.editions.specs.declared.Named.{Named}
 use Rattle.editions.specs.declared.Named.the-variants as named
-use Rattle.editions.specs.Editions.{tableOf, namedBy}
+use Rattle.editions.specs.Editions.{tableOf, containerOf, namedBy}
+use Rattle.frames.specs.declared.Count.{Count}
 use Rattle.frames.specs.declared.Frame.{Frame}
 use Rattle.frames.specs.Frame.{frameAt, countAt}
 use Rattle.meaning.specs.Reading.{valuesIn}
@@ -77,14 +79,19 @@ pub record Inside : Type 0 where
   pub outcome : Outcome
   pub seen : Seen
 
-abbrev pub countedBy : Read ℕ → ℕ
+abbrev pub countedBy : Read Count → Count
 countedBy (got n) = n
-countedBy (stop x) = 0
+countedBy (stop x) = record { elements = 0; container = false }
 
-abbrev pub judgedIn : List Row → List ℕ → ℕ → ℕ → Ask → Inside
-judgedIn t s from n q =
-    let x : Found = judgedOf t n (headsAt s n (from + 3)) in
-    record { ask = q; opened = openedAt t s from; outcome = outcomeBy n x; seen = seen (valuesIn t s (x .spans)) }
+abbrev pub extensionsBy : Read (List Head) → List Head
+extensionsBy (got xs) = xs
+extensionsBy (stop x) = []
+
+abbrev pub judgedIn : List Row → Bool → List ℕ → ℕ → Count → Ask → Inside
+judgedIn t c s from k q =
+    let n = k .elements in
+    let x : Found = judgedOf t n (headsAt s n (from + 3)) (extensionsBy (extensionsBehind t (k .container) s n (from + 3))) in
+    record { ask = q; opened = openedAt t c s from; outcome = outcomeBy n x; seen = seen (valuesIn t s (x .spans)) }
 
 pub data MaybeInside : Type 0 where
   inside : Inside → MaybeInside
@@ -93,7 +100,7 @@ pub data MaybeInside : Type 0 where
 module _ (e : Edition) (s : List ℕ) where
   -- of one of the messages, whether or not it asks
   abbrev pub insideOf : Frame → Named → MaybeInside
-  insideOf f (named.Is m) = inside (judgedIn (tableOf e m) s (f .from) (countedBy (countAt s (f .from))) (askOf m))
+  insideOf f (named.Is m) = inside (judgedIn (tableOf e m) (containerOf e m) s (f .from) (countedBy (countAt (containerOf e m) s (f .from))) (askOf m))
   insideOf f named.Other = nowhere
 
   abbrev pub insideBy : Read Frame → MaybeInside

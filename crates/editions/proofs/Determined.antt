@@ -8,6 +8,8 @@ use Rattle.editions.proofs.code_of.Kinds as code-of'
 use Rattle.editions.proofs.code_of.Reads as code-of
 use Rattle.editions.proofs.number_of.Kinds as number-of'
 use Rattle.editions.proofs.number_of.Reads as number-of
+use Rattle.editions.proofs.has_container.Kinds as has-container'
+use Rattle.editions.proofs.has_container.Reads as has-container
 use Rattle.editions.proofs.message_of.Kinds as message-of'
 use Rattle.editions.proofs.message_of.Reads as message-of
 use Rattle.editions.proofs.numbered.Kinds as numbered'
@@ -21,6 +23,9 @@ code-of-is κs a p x y e f = (e same f) & refl
 
 pub number-of-is : Determined number-of'.ps number-of'.r number-of.Asked number-of.Learnt
 number-of-is κs a p x y e f = (e same f) & refl
+
+pub has-container-is : Determined has-container'.ps has-container'.r has-container.Asked has-container.Learnt
+has-container-is κs a p x y e f = (e same f) & refl
 
 pub message-of-is : Determined message-of'.ps message-of'.r message-of.Asked message-of.Learnt
 message-of-is κs a p x y e f = (e same f) & refl

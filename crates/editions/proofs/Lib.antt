@@ -1,4 +1,4 @@
-pub mod Only
+pub mod Forms
 pub mod Search
 pub mod Listed
 pub mod Names

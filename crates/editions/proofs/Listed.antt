@@ -1,38 +1,47 @@
--- Each message is named by its own number (number-names), by computing: a line for each. So it stands among those of its edition (listed),
--- and a test that none of them fails, each passes (every).
+-- Every message stands among all (listed), by computing: a line for each. So a test that none of them fails, each passes (every).
+--     first-listed      the first that passes a test is one of those it was sought among
 -- Assumes nothing.
 use mathlib.Core.Path.{_≡_, refl}
-use mathlib.Core.Bool.{Bool, true, false, not}
-use mathlib.Core.List.{List, [], _∷_, List·Memᴰ, List·Memᴰ·head, List·Memᴰ·tail}
+use mathlib.Core.Bool.{Bool, true, false, not, _&&_}
+use mathlib.Core.List.{List, [], _∷_, _++_, List·Memᴰ, List·Memᴰ·head, List·Memᴰ·tail}
 use Prim.Native.Nat.{ℕ}
 use native.Mathlib.Omega.{arith}
 use borrow.Author.Tests.{not-false}
 use lib.Dec.{eqb}
 use Rattle.lists.specs.Lists.{pick, some}
 use Rattle.lists.proofs.Some.{none-at}
-use Rattle.editions.specs.declared.Edition.{Edition}
-use Rattle.editions.specs.declared.Edition.the-variants.{Release18}
+use Rattle.editions.specs.declared.Edition.the-variants.{Release18, Warnings}
 use Rattle.editions.specs.declared.Message.{Message}
 use Rattle.editions.specs.declared.Message.the-variants as message
 use Rattle.editions.specs.declared.Named.the-variants.{Is}
-use Rattle.editions.specs.Editions.{release18, messagesOf, numberOf, firstOf, numberedBy}
+use Rattle.editions.specs.Editions.{printed, messagesOf, firstOf}
 
-pub number-names : (e : Edition) (m : Message) → numberedBy e (numberOf e m) ≡ Is m
-unfolding numberedBy firstOf release18
-number-names Release18 message.StartRequest = refl
-number-names Release18 message.StartResponse = refl
-number-names Release18 message.StartFailure = refl
-number-names Release18 message.StopRequest = refl
-number-names Release18 message.StopResponse = refl
-number-names Release18 message.Reset = refl
-number-names Release18 message.ResetAcknowledge = refl
-number-names Release18 message.ErrorIndication = refl
-number-names Release18 message.SetupRequest = refl
-number-names Release18 message.SetupResponse = refl
-number-names Release18 message.SetupFailure = refl
+abbrev pub allMessages : List Message
+allMessages = messagesOf Release18 ++ messagesOf Warnings
+
+-- of one number, kind and code
+abbrev same : Message → Message → Bool
+same m x = eqb (printed m .number) (printed x .number) && (eqb (printed m .code .kind) (printed x .code .kind) && eqb (printed m .code .code) (printed x .code .code))
+
+found : (m : Message) → firstOf (same m) allMessages ≡ Is m
+unfolding firstOf printed
+found message.StartRequest = refl
+found message.StartResponse = refl
+found message.StartFailure = refl
+found message.StopRequest = refl
+found message.StopResponse = refl
+found message.Reset = refl
+found message.ResetAcknowledge = refl
+found message.ErrorIndication = refl
+found message.SetupRequest = refl
+found message.SetupResponse = refl
+found message.SetupFailure = refl
+found message.StopWarningRequest = refl
+found message.StopWarningResponse = refl
+found message.WarningErrorIndication = refl
 
 -- the first that passes is one of them
-first-listed : (p : Message → Bool) (m : Message) (ms : List Message) → firstOf p ms ≡ Is m → List·Memᴰ m ms
+pub first-listed : (p : Message → Bool) (m : Message) (ms : List Message) → firstOf p ms ≡ Is m → List·Memᴰ m ms
 unfolding firstOf
 first-listed p m [] q = let z : _≡_ {A = ℕ} 0 1 = cc in absurd (omega arith)
 first-listed p m (x ∷ ms) q = by (p x) (first-listed p m ms) q
@@ -41,9 +50,8 @@ first-listed p m (x ∷ ms) q = by (p x) (first-listed p m ms) q
     by true go q = let h : m ≡ x = cc in List·Memᴰ·head h
     by false go q = List·Memᴰ·tail (go q)
 
-pub listed : (e : Edition) (m : Message) → List·Memᴰ m (messagesOf e)
-unfolding numberedBy
-listed e m = first-listed (λ (x : Message). eqb (numberOf e m) (numberOf e x)) m (messagesOf e) (number-names e m)
+listed : (m : Message) → List·Memᴰ m allMessages
+listed m = first-listed (same m) m allMessages (found m)
 
-pub every : (e : Edition) (p : Message → Bool) → some (λ (m : Message). not (p m)) (messagesOf e) ≡ false → (m : Message) → p m ≡ true
-every e p h m = not-false (p m) (none-at (λ (x : Message). not (p x)) (listed e m) h)
+pub every : (p : Message → Bool) → some (λ (m : Message). not (p m)) allMessages ≡ false → (m : Message) → p m ≡ true
+every p h m = not-false (p m) (none-at (λ (x : Message). not (p x)) (listed m) h)

@@ -1,5 +1,6 @@
--- A message is named by its own frame and by its own number, and by no other: frames of an edition are apart, by computing; numbers are in Listed.
+-- A message of an edition is named by its own frame and by its own number, and by no other: frames and numbers of an edition are apart, by computing.
 --     code-names, number-names      forth;   named-code, numbered-number   back
+--     named-listed, numbered-listed what is named is a message of the edition
 --     bounds                        what the frame and the number fit in
 -- Assumes nothing.
 use Prim.Native.Nat.{ℕ, _<_}
@@ -13,12 +14,11 @@ use Rattle.lists.specs.Lists.{pick, some, apart}
 use Rattle.lists.proofs.Some.{none-at}
 use Rattle.lists.proofs.Tests.{and-left, and-right}
 use Rattle.editions.specs.declared.Edition.{Edition}
-use Rattle.editions.specs.declared.Edition.the-variants.{Release18}
+use Rattle.editions.specs.declared.Edition.the-variants.{Release18, Warnings, WarningsLab}
 use Rattle.editions.specs.declared.Message.{Message}
 use Rattle.editions.specs.declared.Named.the-variants.{Is}
-use Rattle.editions.specs.Editions.{release18, messagesOf, codeOf, numberOf, firstOf, namedBy, numberedBy}
-use Rattle.editions.proofs.Listed.{listed, every}
-pub use Rattle.editions.proofs.Listed.{number-names}
+use Rattle.editions.specs.Editions.{printed, messagesOf, codeOf, numberOf, ofM3ap, firstOf, namedBy, numberedBy}
+use Rattle.editions.proofs.Listed.{allMessages, first-listed, every}
 
 -- the first that passes passes
 first-passes : (p : Message → Bool) (m : Message) (ms : List Message) → Is m ≡ firstOf p ms → p m ≡ true
@@ -43,12 +43,41 @@ abbrev sameCode : Edition → Message → Message → Bool
 sameCode e m x = eqb (codeOf e m .kind) (codeOf e x .kind) && eqb (codeOf e m .code) (codeOf e x .code)
 
 codes-apart : (e : Edition) → apart (λ (x y : Message). sameCode e y x) (messagesOf e) ≡ true
-unfolding release18
+unfolding printed
 codes-apart Release18 = refl
+codes-apart Warnings = refl
+codes-apart WarningsLab = refl
 
-pub code-names : (e : Edition) (m : Message) → namedBy e (codeOf e m .kind) (codeOf e m .code) ≡ Is m
+pub code-names : (e : Edition) (m : Message) → List·Memᴰ m (messagesOf e) → namedBy e (codeOf e m .kind) (codeOf e m .code) ≡ Is m
 unfolding namedBy
-code-names e m = first-alike (sameCode e) m (rw (eq-eqb (codeOf e m .kind) _ refl, eq-eqb (codeOf e m .code) _ refl)) (listed e m) (codes-apart e)
+code-names e m d = first-alike (sameCode e) m (rw (eq-eqb (codeOf e m .kind) _ refl, eq-eqb (codeOf e m .code) _ refl)) d (codes-apart e)
+
+abbrev sameNumber : Edition → Message → Message → Bool
+sameNumber e m x = eqb (numberOf e m) (numberOf e x)
+
+numbers-apart : (e : Edition) → apart (λ (x y : Message). sameNumber e y x) (messagesOf e) ≡ true
+unfolding printed
+numbers-apart Release18 = refl
+numbers-apart Warnings = refl
+numbers-apart WarningsLab = refl
+
+pub number-names : (e : Edition) (m : Message) → List·Memᴰ m (messagesOf e) → numberedBy e (numberOf e m) ≡ Is m
+unfolding numberedBy
+number-names e m d = first-alike (sameNumber e) m (eq-eqb (numberOf e m) _ refl) d (numbers-apart e)
+
+pub named-listed : (e : Edition) (kind code : ℕ) (m : Message) → namedBy e kind code ≡ Is m → List·Memᴰ m (messagesOf e)
+unfolding namedBy
+named-listed e kind code m q = first-listed (λ (x : Message). eqb kind (codeOf e x .kind) && eqb code (codeOf e x .code)) m (messagesOf e) q
+
+pub numbered-listed : (e : Edition) (n : ℕ) (m : Message) → numberedBy e n ≡ Is m → List·Memᴰ m (messagesOf e)
+unfolding numberedBy
+numbered-listed e n m q = first-listed (λ (x : Message). eqb n (numberOf e x)) m (messagesOf e) q
+
+-- M3AP has one edition
+pub only-m3ap : (e : Edition) → ofM3ap e ≡ true → Release18 ≡ e
+only-m3ap Release18 k = refl
+only-m3ap Warnings k = let z : _≡_ {A = ℕ} 0 1 = cc in absurd (omega arith)
+only-m3ap WarningsLab k = let z : _≡_ {A = ℕ} 0 1 = cc in absurd (omega arith)
 
 -- a message has the kind and the code by which it was named
 pub named-code : (e : Edition) (kind code : ℕ) (m : Message) → Is m ≡ namedBy e kind code → (kind ≡ codeOf e m .kind) × (code ≡ codeOf e m .code)
@@ -72,13 +101,15 @@ pub record Bounds (e : Edition) (m : Message) : Type 0 where
 abbrev bounded : Edition → Message → Bool
 bounded e m = ltb (codeOf e m .kind) 3 && (ltb (codeOf e m .code) 256 && (ltb (codeOf e m .crit) 3 && ltb (numberOf e m) 256))
 
-all-bounded : (e : Edition) → some (λ (m : Message). not (bounded e m)) (messagesOf e) ≡ false
-unfolding release18
+all-bounded : (e : Edition) → some (λ (m : Message). not (bounded e m)) allMessages ≡ false
+unfolding printed
 all-bounded Release18 = refl
+all-bounded Warnings = refl
+all-bounded WarningsLab = refl
 
 pub bounds : (e : Edition) (m : Message) → Bounds e m
 bounds e m =
-    let h = every e (bounded e) (all-bounded e) m in
+    let h = every (bounded e) (all-bounded e) m in
     let i = and-right (ltb (codeOf e m .kind) 3) _ h in
     let j = and-right (ltb (codeOf e m .code) 256) _ i in
     record {

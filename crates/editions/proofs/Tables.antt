@@ -1,4 +1,4 @@
--- Each table of an edition is lawful and its rows fit their octets: one computed test for all (table-lawful, rows-fit). What a lawful table gives:
+-- Each table of each edition is lawful and its rows fit their octets: one computed test for all (table-lawful, rows-fit). What a lawful table gives:
 --     lawful-count   at most twelve rows;      lawful-ids   ids are apart, so each row is found by its id, at its place (placed)
 --     lawful-rest    without its first row it is lawful; lawful-first   no other row fills what the first fills; fills-apart   nor of any two
 -- Assumes nothing.
@@ -18,18 +18,20 @@ use Rattle.octets.specs.Many.{Each}
 use Rattle.rows.specs.declared.Row.{Row}
 use Rattle.rows.specs.Table.{find, noRow}
 use Rattle.editions.specs.declared.Edition.{Edition}
-use Rattle.editions.specs.declared.Edition.the-variants.{Release18}
+use Rattle.editions.specs.declared.Edition.the-variants.{Release18, Warnings, WarningsLab}
 use Rattle.editions.specs.declared.Message.{Message}
-use Rattle.editions.specs.Editions.{release18, messagesOf, tableOf}
+use Rattle.editions.specs.Editions.{printed, tableOf}
 use Rattle.editions.specs.Lawful.{fills, lawful, allLawful}
-use Rattle.editions.proofs.Listed.{every}
+use Rattle.editions.proofs.Listed.{allMessages, every}
 
-all-lawful : (e : Edition) → allLawful e ≡ true
-unfolding release18
+all-lawful : (e : Edition) → allLawful e allMessages ≡ true
+unfolding printed
 all-lawful Release18 = refl
+all-lawful Warnings = refl
+all-lawful WarningsLab = refl
 
 pub table-lawful : (e : Edition) (m : Message) → lawful (tableOf e m) ≡ true
-table-lawful e m = every e (λ (x : Message). lawful (tableOf e x)) (not-true _ (all-lawful e)) m
+table-lawful e m = every (λ (x : Message). lawful (tableOf e x)) (not-true _ (all-lawful e)) m
 
 -- ---- rows fit their octets
 
@@ -44,9 +46,11 @@ fits r = ltb (r .id) 65536 && ltb (r .crit) 3
 abbrev unfit : List Row → Bool
 unfit t = some (λ (r : Row). not (fits r)) t
 
-all-fit : (e : Edition) → some (λ (m : Message). not (not (unfit (tableOf e m)))) (messagesOf e) ≡ false
-unfolding release18
+all-fit : (e : Edition) → some (λ (m : Message). not (not (unfit (tableOf e m)))) allMessages ≡ false
+unfolding printed
 all-fit Release18 = refl
+all-fit Warnings = refl
+all-fit WarningsLab = refl
 
 row-fits : (r : Row) → fits r ≡ true → Fits r
 row-fits r e = record {
@@ -59,7 +63,7 @@ each-fits [] e = tt
 each-fits (r ∷ t) e = (row-fits r (not-false (fits r) (or-left (not (fits r)) (unfit t) e)), each-fits t (or-right (not (fits r)) (unfit t) e))
 
 pub rows-fit : (e : Edition) (m : Message) → Each Fits (tableOf e m)
-rows-fit e m = each-fits (tableOf e m) (not-true _ (every e (λ (x : Message). not (unfit (tableOf e x))) (all-fit e) m))
+rows-fit e m = each-fits (tableOf e m) (not-true _ (every (λ (x : Message). not (unfit (tableOf e x))) (all-fit e) m))
 
 -- ---- what a lawful table gives
 

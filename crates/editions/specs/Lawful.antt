@@ -11,7 +11,7 @@ use Rattle.rows.specs.declared.Kind.the-variants as kind
 use Rattle.rows.specs.declared.Row.{Row}
 use Rattle.editions.specs.declared.Edition.{Edition}
 use Rattle.editions.specs.declared.Message.{Message}
-use Rattle.editions.specs.Editions.{tableOf, messagesOf}
+use Rattle.editions.specs.Editions.{tableOf}
 
 -- what a value of the kind fills, of which a record has one: a Reset Type and an acknowledgement share the items.
 -- What is carried, and a number that is no identity, stands in its own slot alone, and a table may have several: 0
@@ -35,5 +35,6 @@ lawful t =
     && apart (λ (r q : Row). eqb (r .id) (q .id)) t
     && apart (λ (r q : Row). eqb (fills (r .kind)) (fills (q .kind))) (keep (λ (r : Row). ltb 0 (fills (r .kind))) t)
 
-abbrev pub allLawful : Edition → Bool
-allLawful e = not (some (λ (m : Message). not (lawful (tableOf e m))) (messagesOf e))
+-- in every edition
+abbrev pub allLawful : Edition → List Message → Bool
+allLawful e ms = not (some (λ (m : Message). not (lawful (tableOf e m))) ms)

@@ -12,6 +12,7 @@ pub record Heads (f : Form) (h : Head) : Type 0 where
   pub kind : h .1 ≡ f .code .kind
   pub code : h .2 ≡ f .code .code
   pub crit : h .3 ≡ f .code .crit
+  pub container : h .4 ≡ f .container
 
 abbrev pub rowsBy : Form → Rows
 rowsBy f = record { rows = fill noRow 12 (f .rows); count = length (f .rows) }

@@ -7,7 +7,7 @@ ghost use lib.Dec.{eqb};
 ghost use lib.ListN.{length, getD};
 ghost use Rattle.lists.specs.Lists.{fill};
 ghost use Rattle.rows.specs.Table.{noRow};
-ghost use Rattle.editions.specs.Editions.{form18, formOf, messagesOf, rowsOf, codeOf, numberOf, namedBy, numberedBy};
+ghost use Rattle.editions.specs.Editions.{printedForm, inLab, formOf, messagesOf, rowsOf, codeOf, containerOf, numberOf, namedBy, numberedBy};
 ghost use Rattle.editions.specs.Steps.{Heads, rowsBy};
 use rows::Kind;
 use rows::Row;
@@ -26,6 +26,9 @@ pub enum Message {
     SetupRequest,
     SetupResponse,
     SetupFailure,
+    StopWarningRequest,
+    StopWarningResponse,
+    WarningErrorIndication,
 }
 
 // One of an edition's messages, or another.
@@ -41,9 +44,11 @@ pub struct Code {
     pub crit: u8,
 }
 
-// Which tables hold. One today.
+// Which messages there are, and which tables hold: Release 18 of M3AP; warnings over SBc-AP, and their lab profile.
 pub enum Edition {
     Release18,
+    Warnings,
+    WarningsLab,
 }
 
 const REJECT: u8 = 0;
@@ -247,6 +252,83 @@ const WAIT: Row = Row {
     mandatory: false,
 };
 
+const IDENTIFIER_R: Row = Row {
+    id: 5,
+    crit: REJECT,
+    kind: Kind::TwoOctets,
+    mandatory: true,
+};
+
+const SERIAL_R: Row = Row {
+    id: 11,
+    crit: REJECT,
+    kind: Kind::TwoOctets,
+    mandatory: true,
+};
+
+const TAIS: Row = Row {
+    id: 14,
+    crit: REJECT,
+    kind: Kind::Carried,
+    mandatory: false,
+};
+
+const WARNING_AREAS: Row = Row {
+    id: 15,
+    crit: IGNORE,
+    kind: Kind::Carried,
+    mandatory: false,
+};
+
+const OMC: Row = Row {
+    id: 19,
+    crit: IGNORE,
+    kind: Kind::Carried,
+    mandatory: false,
+};
+
+const SEND_STOP: Row = Row {
+    id: 26,
+    crit: IGNORE,
+    kind: Kind::Carried,
+    mandatory: false,
+};
+
+const STOP_ALL: Row = Row {
+    id: 27,
+    crit: REJECT,
+    kind: Kind::Carried,
+    mandatory: false,
+};
+
+const SBC_CAUSE_R: Row = Row {
+    id: 1,
+    crit: REJECT,
+    kind: Kind::OneOctet,
+    mandatory: true,
+};
+
+const SBC_CAUSE: Row = Row {
+    id: 1,
+    crit: IGNORE,
+    kind: Kind::OneOctet,
+    mandatory: false,
+};
+
+const SBC_DIAG: Row = Row {
+    id: 2,
+    crit: IGNORE,
+    kind: Kind::Diagnostics(Triggers::Four),
+    mandatory: false,
+};
+
+const UNKNOWN_AREAS: Row = Row {
+    id: 22,
+    crit: IGNORE,
+    kind: Kind::Carried,
+    mandatory: false,
+};
+
 const START_REQUEST: [Row; 12] = [
     MME_R,
     TMGI_R,
@@ -262,9 +344,41 @@ const START_REQUEST: [Row; 12] = [
     CELLS,
 ];
 
-// ---- Release 18: of each message its name, its number and frame, and its table. head_18 and rows_18 are proved with no proof written, so a message is said only here.
+const STOP_WARNING_REQUEST: [Row; 12] = [
+    IDENTIFIER_R,
+    SERIAL_R,
+    TAIS,
+    WARNING_AREAS,
+    OMC,
+    SEND_STOP,
+    STOP_ALL,
+    NO,
+    NO,
+    NO,
+    NO,
+    NO,
+];
+
+const STOP_WARNING_RESPONSE: [Row; 12] = [
+    IDENTIFIER_R,
+    SERIAL_R,
+    SBC_CAUSE_R,
+    SBC_DIAG,
+    UNKNOWN_AREAS,
+    NO,
+    NO,
+    NO,
+    NO,
+    NO,
+    NO,
+    NO,
+];
+
+// ---- of each message its name, its number and frame, and its table. printed_head and printed_rows are proved with no proof written, so a message is said only here.
 
 const COUNT: usize = 11;
+
+const WARNING_COUNT: usize = 3;
 
 const MESSAGES: [Message; COUNT] = [
     Message::StartRequest,
@@ -280,31 +394,40 @@ const MESSAGES: [Message; COUNT] = [
     Message::SetupFailure,
 ];
 
-// Number for C, kind, procedure code, criticality.
-struct Head(u8, u8, u8, u8);
+const WARNINGS: [Message; WARNING_COUNT] = [
+    Message::StopWarningRequest,
+    Message::StopWarningResponse,
+    Message::WarningErrorIndication,
+];
 
-fn head_18(m: Message) -> Head
-    ensures { λ r. ⌜ Heads (form18 m) r ⌝ }
+// Number for C, kind, procedure code, criticality, whether a container can stand beside the elements.
+struct Head(u8, u8, u8, u8, bool);
+
+fn printed_head(m: Message) -> Head
+    ensures { λ r. ⌜ Heads (printedForm m) r ⌝ }
 {
     match m {
-        Message::StartRequest => Head(1, 0, 0, REJECT),
-        Message::StartResponse => Head(2, 1, 0, REJECT),
-        Message::StartFailure => Head(3, 2, 0, REJECT),
-        Message::StopRequest => Head(4, 0, 1, REJECT),
-        Message::StopResponse => Head(5, 1, 1, REJECT),
-        Message::Reset => Head(6, 0, 4, REJECT),
-        Message::ResetAcknowledge => Head(7, 1, 4, REJECT),
-        Message::ErrorIndication => Head(8, 0, 2, IGNORE),
-        Message::SetupRequest => Head(9, 0, 7, REJECT),
-        Message::SetupResponse => Head(10, 1, 7, REJECT),
-        Message::SetupFailure => Head(11, 2, 7, REJECT),
+        Message::StartRequest => Head(1, 0, 0, REJECT, false),
+        Message::StartResponse => Head(2, 1, 0, REJECT, false),
+        Message::StartFailure => Head(3, 2, 0, REJECT, false),
+        Message::StopRequest => Head(4, 0, 1, REJECT, false),
+        Message::StopResponse => Head(5, 1, 1, REJECT, false),
+        Message::Reset => Head(6, 0, 4, REJECT, false),
+        Message::ResetAcknowledge => Head(7, 1, 4, REJECT, false),
+        Message::ErrorIndication => Head(8, 0, 2, IGNORE, false),
+        Message::SetupRequest => Head(9, 0, 7, REJECT, false),
+        Message::SetupResponse => Head(10, 1, 7, REJECT, false),
+        Message::SetupFailure => Head(11, 2, 7, REJECT, false),
+        Message::StopWarningRequest => Head(1, 0, 1, REJECT, true),
+        Message::StopWarningResponse => Head(2, 1, 1, REJECT, true),
+        Message::WarningErrorIndication => Head(3, 0, 2, IGNORE, false),
     }
 }
 
 // Who calls sees which message m is; so the contract needs no case.
 fn start_request(m: Message) -> Rows
     requires { ⌜ m ≡ Message.StartRequest ⌝ }
-    ensures { λ r. ⌜ r ≡ rowsBy (form18 m) ⌝ }
+    ensures { λ r. ⌜ r ≡ rowsBy (printedForm m) ⌝ }
 {
     Rows {
         rows: START_REQUEST,
@@ -312,10 +435,30 @@ fn start_request(m: Message) -> Rows
     }
 }
 
+fn stop_warning_request(m: Message) -> Rows
+    requires { ⌜ m ≡ Message.StopWarningRequest ⌝ }
+    ensures { λ r. ⌜ r ≡ rowsBy (printedForm m) ⌝ }
+{
+    Rows {
+        rows: STOP_WARNING_REQUEST,
+        count: 7,
+    }
+}
+
+fn stop_warning_response(m: Message) -> Rows
+    requires { ⌜ m ≡ Message.StopWarningResponse ⌝ }
+    ensures { λ r. ⌜ r ≡ rowsBy (printedForm m) ⌝ }
+{
+    Rows {
+        rows: STOP_WARNING_RESPONSE,
+        count: 5,
+    }
+}
+
 // A table of the first n of these rows, which x has; m is x.
 fn few(m: Message, x: Message, a: Row, b: Row, c: Row, d: Row, n: usize) -> Rows
-    requires { ⌜ (m ≡ x) × (record { rows = fill noRow 12 (a ∷ b ∷ c ∷ d ∷ []); count = n } ≡ rowsBy (form18 x)) ⌝ }
-    ensures { λ r. ⌜ r ≡ rowsBy (form18 m) ⌝ }
+    requires { ⌜ (m ≡ x) × (record { rows = fill noRow 12 (a ∷ b ∷ c ∷ d ∷ []); count = n } ≡ rowsBy (printedForm x)) ⌝ }
+    ensures { λ r. ⌜ r ≡ rowsBy (printedForm m) ⌝ }
 {
     Rows {
         rows: [a, b, c, d, NO, NO, NO, NO, NO, NO, NO, NO],
@@ -323,8 +466,8 @@ fn few(m: Message, x: Message, a: Row, b: Row, c: Row, d: Row, n: usize) -> Rows
     }
 }
 
-fn rows_18(m: Message) -> Rows
-    ensures { λ r. ⌜ r ≡ rowsBy (form18 m) ⌝ }
+fn printed_rows(m: Message) -> Rows
+    ensures { λ r. ⌜ r ≡ rowsBy (printedForm m) ⌝ }
 {
     match m {
         Message::StartRequest => start_request(m),
@@ -338,6 +481,17 @@ fn rows_18(m: Message) -> Rows
         Message::SetupRequest => few(m, Message::SetupRequest, GLOBAL_ID, NAME, AREAS, NO, 3),
         Message::SetupResponse => few(m, Message::SetupResponse, DIAG, NO, NO, NO, 1),
         Message::SetupFailure => few(m, Message::SetupFailure, CAUSE_M, WAIT, DIAG, NO, 3),
+        Message::StopWarningRequest => stop_warning_request(m),
+        Message::StopWarningResponse => stop_warning_response(m),
+        Message::WarningErrorIndication => few(
+            m,
+            Message::WarningErrorIndication,
+            SBC_CAUSE,
+            SBC_DIAG,
+            NO,
+            NO,
+            2,
+        ),
     }
 }
 
@@ -346,8 +500,32 @@ fn rows_18(m: Message) -> Rows
 fn head_of(e: Edition, m: Message) -> Head
     ensures { λ r. ⌜ Heads (formOf e m) r ⌝ }
 {
-    match e {
-        Edition::Release18 => head_18(m),
+    printed_head(m)
+}
+
+// Of a Stop-Warning Request the lab profile knows two rows, of the others all.
+fn lab_rows(m: Message) -> Rows
+    ensures { λ r. ⌜ r ≡ rowsBy (inLab (printedForm m)) ⌝ }
+{
+    match m {
+        Message::StopWarningRequest => Rows {
+            rows: [
+                IDENTIFIER_R,
+                SERIAL_R,
+                NO,
+                NO,
+                NO,
+                NO,
+                NO,
+                NO,
+                NO,
+                NO,
+                NO,
+                NO,
+            ],
+            count: 2,
+        },
+        _ => printed_rows(m),
     }
 }
 
@@ -356,7 +534,9 @@ pub fn rows_of(e: Edition, m: Message) -> Rows
     ensures { λ r. ⌜ r ≡ rowsOf e m ⌝ }
 {
     match e {
-        Edition::Release18 => rows_18(m),
+        Edition::Release18 => printed_rows(m),
+        Edition::Warnings => printed_rows(m),
+        Edition::WarningsLab => lab_rows(m),
     }
 }
 
@@ -380,12 +560,22 @@ pub fn number_of(e: Edition, m: Message) -> u8
     h.0
 }
 
+// Whether a message can have a container beside its elements.
+pub fn has_container(e: Edition, m: Message) -> bool
+    ensures { λ r. ⌜ r ≡ containerOf e m ⌝ }
+{
+    let h = head_of(e, m);
+    h.4
+}
+
 // How many messages there are, and each.
 fn message_count(e: Edition) -> usize
     ensures { λ r. ⌜ r ≡ length (messagesOf e) ⌝ }
 {
     match e {
         Edition::Release18 => COUNT,
+        Edition::Warnings => WARNING_COUNT,
+        Edition::WarningsLab => WARNING_COUNT,
     }
 }
 
@@ -395,6 +585,8 @@ fn message_at(e: Edition, i: usize) -> Message
 {
     match e {
         Edition::Release18 => MESSAGES[i],
+        Edition::Warnings => WARNINGS[i],
+        Edition::WarningsLab => WARNINGS[i],
     }
 }
 

@@ -1,11 +1,12 @@
 -- Judging elements, over any table.
 use Prim.Native.Nat.{ℕ, _+_}
-use mathlib.Core.Bool.{Bool}
+use mathlib.Core.Bool.{Bool, true, false}
 use mathlib.Core.List.{List, [], _∷_, _++_}
 use lib.Dec.{ltb, eqb}
 use lib.ListN.{length, set, replicate}
 use Rattle.lists.specs.Lists.{pick}
 use Rattle.octets.specs.Read.{Read, got, _>>=_, _>>_}
+use Rattle.octets.specs.Field.{belowAt, endsAt}
 use Rattle.octets.specs.declared.Span.{Span}
 use Rattle.octets.specs.Span.{noSpan, present}
 use Rattle.entries.specs.declared.Entry.{Entry}
@@ -58,17 +59,38 @@ pub record Found : Type 0 where
   pub listed : List Entry
 
 -- Only what stands before the place counts as read or as unknown; nothing counts as missing where that is not all.
-unfoldable pub judgedOf : List Row → ℕ → List Head → Found
-judgedOf t n hs =
+-- xs are the extensions in a container behind the elements: unknown, whatever their ids, since no row is theirs.
+unfoldable pub judgedOf : List Row → ℕ → List Head → List Head → Found
+judgedOf t n hs xs =
     let f : List Head = front t 0 hs in
     record {
       place = length f;
       spans = readOf t f;
-      listed = unknownOf t f ++ pick (eqb (length f) n) (missingOf t (readOf t f)) [];
+      listed = unknownOf t f ++ pick (eqb (length f) n) (unknownOf [] xs ++ missingOf t (readOf t f)) [];
     }
 
--- n elements: faults anywhere come before the judging
-unfoldable pub elementsAt : List Row → List ℕ → ℕ → ℕ → Read Found
-elementsAt t s n at = do
-  scanAt t s n at
-  got (judgedOf t n (headsAt s n at))
+-- n extensions fill the octets, each in its envelope: elements of no table, so no value is read
+abbrev pub countedExtensionsAt : List ℕ → ℕ → ℕ → Read (List Head)
+countedExtensionsAt s n at = do
+  to ← scanAt [] s n at
+  endsAt s to
+  got (headsAt s n at)
+
+-- what stands behind the elements, up to the end: nothing, or a container, which is the number of extensions less 1, 0 to 65,534, and the extensions
+unfoldable pub extensionsAt : Bool → List ℕ → ℕ → Read (List Head)
+extensionsAt false s at = endsAt s at >> got []
+extensionsAt true s at = do
+  n ← belowAt 65535 s at
+  countedExtensionsAt s (n + 1) (at + 2)
+
+-- the extensions behind n elements
+abbrev pub extensionsBehind : List Row → Bool → List ℕ → ℕ → ℕ → Read (List Head)
+extensionsBehind t container s n at = do
+  to ← scanAt t s n at
+  extensionsAt container s to
+
+-- n elements and what stands behind them: faults anywhere come before the judging
+unfoldable pub elementsAt : List Row → Bool → List ℕ → ℕ → ℕ → Read Found
+elementsAt t container s n at = do
+  xs ← extensionsBehind t container s n at
+  got (judgedOf t n (headsAt s n at) xs)

@@ -10,7 +10,7 @@ use Prim.Native.Nat.{ℕ, suc, _+_, _-_, _<_, _≤_}
 use native.Mathlib.Omega.{arith}
 use lib.ListN.{length, take}
 use Rattle.octets.specs.Read.{got, stop, _>>=_, _>>_}
-use Rattle.octets.specs.Field.{numberAt, openAt, endsAt}
+use Rattle.octets.specs.Field.{numberAt, openAt}
 use Rattle.octets.specs.declared.Stop.{Stop}
 use Rattle.octets.proofs.Chain.{past, halt, then-got, same-got}
 use Rattle.octets.proofs.Got.{open-in}
@@ -31,7 +31,7 @@ envelope-in s at {h} q =
     rw e at (open-in s (at + 3) (d .1))
 
 module _ (t : List Row) (s : List ℕ) (m at : ℕ) where
-  pub scan-none : m ≡ 0 → endsAt s at ≡ scanAt t s m at
+  pub scan-none : m ≡ 0 → got at ≡ scanAt t s m at
   unfolding scanAt
   scan-none h = rw h
 

@@ -3,10 +3,12 @@ use Prim.Native.Nat.{ℕ, zero, suc, _+_}
 use mathlib.Core.List.{List, [], _∷_}
 use lib.ListN.{take}
 use Rattle.octets.specs.Read.{Read, got, stop, _>>=_, _>>_}
-use Rattle.octets.specs.Field.{choiceAt, padAt, numberAt, openAt, endsAt}
+use Rattle.octets.specs.Field.{choiceAt, padAt, numberAt, openAt}
 use Rattle.kinds.specs.Kinds.{valueAt}
 use Rattle.rows.specs.declared.Row.{Row}
 use Rattle.envelopes.specs.declared.Head.{Head}
+use Rattle.envelopes.specs.declared.End.{End}
+use Rattle.envelopes.specs.declared.End.the-variants as end
 use Rattle.envelopes.specs.declared.Envelope.{Envelope}
 use Rattle.envelopes.specs.declared.Envelope.the-variants as envelope
 use Rattle.rows.specs.Table.{kindOf}
@@ -14,6 +16,10 @@ use Rattle.rows.specs.Table.{kindOf}
 abbrev pub foundEnvelope : Envelope → Read Head
 foundEnvelope (envelope.Is h) = got h
 foundEnvelope (envelope.Stop x) = stop x
+
+abbrev pub foundEnd : End → Read ℕ
+foundEnd (end.Is at) = got at
+foundEnd (end.Stop x) = stop x
 
 -- two criticality bits (0 reject, 1 ignore, 2 notify), and pad
 unfoldable pub criticalityAt : List ℕ → ℕ → Read ℕ
@@ -30,9 +36,9 @@ envelopeAt s at = do
   v ← openAt s (at + 3)
   got (record { id = id; crit = crit; value = v })
 
--- n elements fill the octets, and the values of known ones can be read
-unfoldable pub scanAt : List Row → List ℕ → ℕ → ℕ → Read Unit
-scanAt t s zero at = endsAt s at
+-- n elements, and the values of known ones can be read: where they end
+unfoldable pub scanAt : List Row → List ℕ → ℕ → ℕ → Read ℕ
+scanAt t s zero at = got at
 scanAt t s (suc n) at = do
   h ← envelopeAt s at
   valueAt (kindOf t (h .id)) (take (h .value .to) s) (h .value .from)

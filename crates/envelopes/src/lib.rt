@@ -1,8 +1,8 @@
 // Elements in their envelopes, and the faults in a run of elements.
 ghost use mathlib.Core.Path.{_≡_};
-ghost use Rattle.octets.specs.Found.{foundGate, foundOctet};
+ghost use Rattle.octets.specs.Found.{foundOctet};
 ghost use Rattle.rows.specs.Table.{rowsIn};
-ghost use Rattle.envelopes.specs.Envelope.{foundEnvelope, criticalityAt, envelopeAt, scanAt};
+ghost use Rattle.envelopes.specs.Envelope.{foundEnvelope, foundEnd, criticalityAt, envelopeAt, scanAt};
 use octets::Gate;
 use octets::Octet;
 use octets::Open;
@@ -20,6 +20,12 @@ pub struct Head {
 
 pub enum Envelope {
     Is(Head),
+    Stop(Stop),
+}
+
+// Where elements end.
+pub enum End {
+    Is(usize),
     Stop(Stop),
 }
 
@@ -65,9 +71,9 @@ pub fn envelope_at(s: &[u8], at: usize) -> Envelope
     }
 }
 
-// Faults: in every envelope, in every value that is read, and octets left over.
-pub fn scan(t: Rows, s: &[u8], n: usize, from: usize) -> Gate
-    ensures { λ r. ⌜ foundGate r ≡ scanAt (rowsIn t) (now (s .entry)) n from ⌝ }
+// Where n elements end, or the first fault: in an envelope, or in a value that is read.
+pub fn scan(t: Rows, s: &[u8], n: usize, from: usize) -> End
+    ensures { λ r. ⌜ foundEnd r ≡ scanAt (rowsIn t) (now (s .entry)) n from ⌝ }
 {
     let mut left = n;
     let mut at = from;
@@ -78,16 +84,16 @@ pub fn scan(t: Rows, s: &[u8], n: usize, from: usize) -> Gate
                 match kinds::value_at(rows::kind_of(t, h.id), &s[..to], h.value.from) {
                     Gate::Pass => {}
                     Gate::Stop(x) => {
-                        return Gate::Stop(x);
+                        return End::Stop(x);
                     }
                 }
                 at = to;
                 left -= 1;
             }
             Envelope::Stop(x) => {
-                return Gate::Stop(x);
+                return End::Stop(x);
             }
         }
     }
-    octets::ends_at(s, at)
+    End::Is(at)
 }

@@ -1,7 +1,9 @@
-// The frame around a message, and the count of elements in front of it.
+// The frame around a message, and how a message opens.
 ghost use mathlib.Core.Path.{_≡_};
-ghost use Rattle.octets.specs.Found.{foundOctet, foundTwo};
-ghost use Rattle.frames.specs.Frame.{foundFrame, kindAt, frameAt, countAt};
+ghost use Rattle.lists.specs.Lists.{pick};
+ghost use Rattle.octets.specs.Found.{foundFlag, foundOctet};
+ghost use Rattle.frames.specs.Frame.{foundCount, foundFrame, kindAt, frameAt, containerAt, countAt};
+use octets::Flag;
 use octets::Gate;
 use octets::Octet;
 use octets::Open;
@@ -18,6 +20,17 @@ pub struct Frame {
 
 pub enum FrameRead {
     Is(Frame),
+    Stop(Stop),
+}
+
+// How many elements a message has, and whether a container stands behind them.
+pub struct Count {
+    pub elements: u16,
+    pub container: bool,
+}
+
+pub enum CountRead {
+    Is(Count),
     Stop(Stop),
 }
 
@@ -82,21 +95,50 @@ pub fn frame_at(s: &[u8]) -> FrameRead
     }
 }
 
-// How many elements a message has: extension bit, pad, two octets.
-pub fn count_at(s: &[u8], from: usize) -> Two
-    ensures { λ r. ⌜ foundTwo r ≡ countAt (now (s .entry)) from ⌝ }
+// Whether a container stands beside the elements, in a message that can have one.
+fn container_at(c: bool, s: &[u8], from: usize) -> Flag
+    ensures { λ r. ⌜ foundFlag r ≡ containerAt c (now (s .entry)) from ⌝ }
+{
+    if c {
+        return octets::flag_at(s, from, 1);
+    }
+    Flag::Is(false)
+}
+
+// How many bits a message opens with: the extension bit, and that of the container where it can have one.
+fn opening_bits(c: bool) -> u8
+    ensures { λ r. ⌜ r ≡ pick c 2 1 ⌝ }
+{
+    if c { 2 } else { 1 }
+}
+
+// How a message opens: the bits, pad, two octets; c: it can have a container.
+pub fn count_at(c: bool, s: &[u8], from: usize) -> CountRead
+    ensures { λ r. ⌜ foundCount r ≡ countAt c (now (s .entry)) from ⌝ }
 {
     match octets::plain_at(s, from, 0) {
         Gate::Pass => {}
         Gate::Stop(x) => {
-            return Two::Stop(x);
+            return CountRead::Stop(x);
         }
     }
-    match octets::pad_at(s, from, 1) {
+    let container = match container_at(c, s, from) {
+        Flag::Is(v) => v,
+        Flag::Stop(x) => {
+            return CountRead::Stop(x);
+        }
+    };
+    match octets::pad_at(s, from, opening_bits(c)) {
         Gate::Pass => {}
         Gate::Stop(x) => {
-            return Two::Stop(x);
+            return CountRead::Stop(x);
         }
     }
-    octets::two_at(s, from + 1)
+    match octets::two_at(s, from + 1) {
+        Two::Is(n) => CountRead::Is(Count {
+            elements: n,
+            container: container,
+        }),
+        Two::Stop(x) => CountRead::Stop(x),
+    }
 }

@@ -5,7 +5,7 @@
 -- Assumes nothing.
 use mathlib.Core.Path.{_≡_, _∙_, refl, sym, ap, subst}
 use mathlib.Core.Bool.{Bool, true, false}
-use mathlib.Core.List.{List, [], _∷_, _++_, append-nil}
+use mathlib.Core.List.{List, [], _∷_, _++_, append-nil, append-assoc}
 use Prim.Native.Nat.{ℕ, zero, suc, _+_, _≤_, _<_}
 use native.Mathlib.Omega.{arith}
 use borrow.Author.Tests.{ltb-false, eq-eqb, ne-eqb}
@@ -23,14 +23,15 @@ use Rattle.entries.specs.declared.Entry.{Entry}
 use Rattle.rows.specs.declared.Row.{Row}
 use Rattle.rows.specs.Table.{find, known}
 use Rattle.envelopes.specs.declared.Head.{Head}
-use Rattle.envelopes.specs.Envelope.{envelopeAt, onHead, headsAt, scanAt}
-use Rattle.elements.specs.Judge.{front, readOf, unknownOf, missingOf, judgedOf, elementsAt}
+use Rattle.envelopes.specs.Envelope.{envelopeAt, onHead, headsAt}
+use Rattle.elements.specs.Judge.{front, readOf, unknownOf, missingOf, judgedOf, extensionsBehind, elementsAt}
 use Rattle.elements.proofs.WalkLaws.{read-rows}
+use Rattle.frames.specs.declared.Count.{Count}
 use Rattle.frames.specs.Frame.{countAt}
 use Rattle.verdicts.specs.declared.Outcome.the-variants.{Accepted, Misplaced, Rejected}
 use Rattle.verdicts.specs.Verdict.{Opening, openingBy, openedAt}
 use Rattle.judging.specs.declared.Opened.{Opened}
-use Rattle.judging.specs.Judging.{openedBy, spansBy, openingAt, placeOf, notedOf, NotedIn, MissingNoted}
+use Rattle.judging.specs.Judging.{openedBy, spansBy, openingAt, placeOf, notedOf, NotedIn, NotedBehind, ExtensionsNoted}
 use Rattle.judging.proofs.OpenedLaws.{spans-back}
 
 -- ---- the elements that count
@@ -77,21 +78,21 @@ module _ (t : List Row) (s : List ℕ) (n from : ℕ) where
   front-heads : front t 0 (headsAt s n from) ≡ headsAt s (length (front t 0 (headsAt s n from))) from
   front-heads = front-take t 0 (headsAt s n from) ∙ heads-take s n from (length (front t 0 (headsAt s n from))) front-within
 
--- ---- what is noted of n elements
+-- ---- what is noted of n elements, and of what stands behind them
 
-module _ (t : List Row) (s : List ℕ) (n from : ℕ) {o : Opening} (q : got o ≡ openingAt t s n from) where
-  is : openingBy n (judgedOf t n (headsAt s n from)) ≡ o
+module _ (t : List Row) (container : Bool) (s : List ℕ) (n from : ℕ) {o : Opening} (q : got o ≡ openingAt t container s n from) where
+  behind : (xs : List Head) × (got xs ≡ extensionsBehind t container s n from) × (openingBy n (judgedOf t n (headsAt s n from) xs) ≡ o)
   unfolding elementsAt
-  is =
-      let a = then-got (elementsAt t s n from) _ q in
-      let b = then-got (scanAt t s n from) _ (a .1) in
-      ap (openingBy n) (sym (same-got (b .2))) ∙ sym (same-got (a .2))
+  behind =
+      let a = then-got (elementsAt t container s n from) _ q in
+      let d = then-got (extensionsBehind t container s n from) _ (a .1) in
+      (d .0, d .1, ap (openingBy n) (sym (same-got (d .2))) ∙ sym (same-got (a .2)))
 
   place-is : placeOf n (o .outcome) ≡ length (front t 0 (headsAt s n from))
   unfolding judgedOf
   place-is =
-      ap (λ (y : Opening). placeOf n (y .outcome)) (sym is)
-      ∙ by (ltb (length (front t 0 (headsAt s n from))) n) refl (some (λ (e : Entry). eqb (e .crit) 0) (judgedOf t n (headsAt s n from) .listed))
+      ap (λ (y : Opening). placeOf n (y .outcome)) (sym (behind .2))
+      ∙ by (ltb (length (front t 0 (headsAt s n from))) n) refl (some (λ (e : Entry). eqb (e .crit) 0) (judgedOf t n (headsAt s n from) (behind .0) .listed))
     where
       by : (b : Bool) → ltb (length (front t 0 (headsAt s n from))) n ≡ b → (r : Bool)
           → placeOf n (pick b (Misplaced (length (front t 0 (headsAt s n from)))) (pick r Rejected Accepted)) ≡ length (front t 0 (headsAt s n from))
@@ -104,22 +105,24 @@ module _ (t : List Row) (s : List ℕ) (n from : ℕ) {o : Opening} (q : got o �
   noted-front {place} p h =
       let l : place ≡ length (front t 0 (headsAt s n from)) = p ∙ place-is in
       let f = front t 0 (headsAt s n from) in
-      let e : unknownOf t f ++ pick (eqb (length f) n) (missingOf t (readOf t f)) [] ≡ unknownOf t f = rw (ne-eqb (length f) n (λ z. omega arith)) (append-nil (unknownOf t f)) in
-      ap (take 256) (ap (λ (k : ℕ). unknownOf t (headsAt s k from)) l ∙ (ap (unknownOf t) (sym (front-heads t s n from)) ∙ sym e)) ∙ ap (λ (y : Opening). y .noted) is
+      let e : unknownOf t f ++ pick (eqb (length f) n) (unknownOf [] (behind .0) ++ missingOf t (readOf t f)) [] ≡ unknownOf t f =
+      rw (ne-eqb (length f) n (λ z. omega arith)) (append-nil (unknownOf t f)) in
+      ap (take 256) (ap (λ (k : ℕ). unknownOf t (headsAt s k from)) l ∙ (ap (unknownOf t) (sym (front-heads t s n from)) ∙ sym e)) ∙ ap (λ (y : Opening). y .noted) (behind .2)
 
   noted-all : {place : ℕ} → place ≡ placeOf n (o .outcome) → n ≤ place
-      → take 256 (unknownOf t (headsAt s place from) ++ missingOf t (take (length t) (fill noSpan 12 (o .spans)))) ≡ o .noted
+      → take 256 (unknownOf t (headsAt s place from) ++ (unknownOf [] (behind .0) ++ missingOf t (take (length t) (fill noSpan 12 (o .spans))))) ≡ o .noted
   unfolding judgedOf
   noted-all {place} p h =
       let l : place ≡ length (front t 0 (headsAt s n from)) = p ∙ place-is in
       let w = front-within t s n from in
       let f = front t 0 (headsAt s n from) in
+      let x = unknownOf [] (behind .0) in
       let v : take (length t) (fill noSpan 12 (o .spans)) ≡ readOf t f =
-      ap (λ (y : Opening). take (length t) (fill noSpan 12 (y .spans))) (sym is) ∙ (ap (λ (k : ℕ). take k (fill noSpan 12 (readOf t f))) (sym (read-rows t f)) ∙ take-fill noSpan 12 (readOf t f)) in
-      let e : unknownOf t f ++ pick (eqb (length f) n) (missingOf t (readOf t f)) [] ≡ unknownOf t f ++ missingOf t (readOf t f) = rw (eq-eqb (length f) n (omega arith)) in
-      ap (take 256) (ap (λ (k : ℕ). unknownOf t (headsAt s k from) ++ missingOf t (take (length t) (fill noSpan 12 (o .spans)))) l
-      ∙ (ap (λ (hs : List Head). unknownOf t hs ++ missingOf t (take (length t) (fill noSpan 12 (o .spans)))) (sym (front-heads t s n from))
-      ∙ (ap (λ (x : List Span). unknownOf t f ++ missingOf t x) v ∙ sym e))) ∙ ap (λ (y : Opening). y .noted) is
+      ap (λ (y : Opening). take (length t) (fill noSpan 12 (y .spans))) (sym (behind .2)) ∙ (ap (λ (k : ℕ). take k (fill noSpan 12 (readOf t f))) (sym (read-rows t f)) ∙ take-fill noSpan 12 (readOf t f)) in
+      let e : unknownOf t f ++ pick (eqb (length f) n) (x ++ missingOf t (readOf t f)) [] ≡ unknownOf t f ++ (x ++ missingOf t (readOf t f)) = rw (eq-eqb (length f) n (omega arith)) in
+      ap (take 256) (ap (λ (k : ℕ). unknownOf t (headsAt s k from) ++ (x ++ missingOf t (take (length t) (fill noSpan 12 (o .spans))))) l
+      ∙ (ap (λ (hs : List Head). unknownOf t hs ++ (x ++ missingOf t (take (length t) (fill noSpan 12 (o .spans))))) (sym (front-heads t s n from))
+      ∙ (ap (λ (z : List Span). unknownOf t f ++ (x ++ missingOf t z)) v ∙ sym e))) ∙ ap (λ (y : Opening). y .noted) (behind .2)
 
 -- ---- and of the message
 
@@ -127,43 +130,52 @@ empty : (l : List ℕ) (es : List Entry) → length es ≡ 0 → NotedIn l es l 
 empty l [] g = record { words = refl; count = refl }
 empty l (e ∷ es) g = absurd (omega arith)
 
-pub stop-noted : (t : List Row) (s : List ℕ) (from : ℕ) {x : Stop} → stop x ≡ countAt s from → (l : List ℕ) → NotedIn l (notedOf (openedAt t s from)) l 0
+pub stop-noted : (t : List Row) (c : Bool) (s : List ℕ) (from : ℕ) {x : Stop} → stop x ≡ countAt c s from → (l : List ℕ) → NotedIn l (notedOf (openedAt t c s from)) l 0
 unfolding openedAt
-stop-noted t s from q l = subst (λ (r : Read Opening). NotedIn l (notedOf r) l 0) (halt _ q) (empty l [] refl)
+stop-noted t c s from q l = subst (λ (r : Read Opening). NotedIn l (notedOf r) l 0) (halt _ q) (empty l [] refl)
 
-module _ (t : List Row) (s : List ℕ) (from : ℕ) (o : Opened) (e : o ≡ openedBy (openedAt t s from)) where
-  pub none-noted : o .noted ≡ 0 → (l : List ℕ) → NotedIn l (notedOf (openedAt t s from)) l 0
-  none-noted h l = by (openedAt t s from) (sym (ap (λ (y : Opened). y .noted) e) ∙ h)
+module _ (t : List Row) (c : Bool) (s : List ℕ) (from : ℕ) (o : Opened) (e : o ≡ openedBy (openedAt t c s from)) where
+  pub none-noted : o .noted ≡ 0 → (l : List ℕ) → NotedIn l (notedOf (openedAt t c s from)) l 0
+  none-noted h l = by (openedAt t c s from) (sym (ap (λ (y : Opened). y .noted) e) ∙ h)
     where
       by : (r : Read Opening) → openedBy r .noted ≡ 0 → NotedIn l (notedOf r) l 0
       by (got x) g = empty l (x .noted) g
       by (stop x) g = empty l [] refl
 
-  module _ (h : o .noted ≡ 0 → ⊥) {n : ℕ} (c : got n ≡ countAt s from) where
-    inside : (x : Opening) × (got x ≡ openedAt t s from)
-    inside = by (openedAt t s from) (λ g. h (ap (λ (y : Opened). y .noted) e ∙ g))
+  module _ (h : o .noted ≡ 0 → ⊥) {v : Count} (k : got v ≡ countAt c s from) {n : ℕ} (w : n ≡ v .elements) where
+    inside : (x : Opening) × (got x ≡ openedAt t c s from)
+    inside = by (openedAt t c s from) (λ g. h (ap (λ (y : Opened). y .noted) e ∙ g))
       where
         by : (r : Read Opening) → (openedBy r .noted ≡ 0 → ⊥) → (x : Opening) × (got x ≡ r)
         by (got x) g = (x, refl)
         by (stop x) g = absurd (g refl)
 
-    opening : got (inside .0) ≡ openingAt t s n (from + 3)
+    opening : got (inside .0) ≡ openingAt t (v .container) s n (from + 3)
     unfolding openedAt
-    opening = inside .1 ∙ sym (past _ n c refl)
+    opening = inside .1 ∙ (sym (past _ v k refl) ∙ ap (λ (j : ℕ). openingAt t (v .container) s j (from + 3)) (sym w))
 
     same : o ≡ openedBy (got (inside .0))
     same = e ∙ ap openedBy (sym (inside .1))
 
-    module _ {place : ℕ} (p : place ≡ placeOf n (o .outcome)) {l m : List ℕ} {r : ℕ} (w : NotedIn l (take 256 (unknownOf t (headsAt s place (from + 3)))) m r) where
+    module _ {place : ℕ} (p : place ≡ placeOf n (o .outcome)) {l m : List ℕ} {r : ℕ} (u : NotedBehind (unknownOf t (headsAt s place (from + 3))) l 0 m r) where
       which : place ≡ placeOf n (inside .0 .outcome)
       which = p ∙ ap (λ (y : Opened). placeOf n (y .outcome)) same
 
-      pub some-front : place < n → NotedIn l (notedOf (openedAt t s from)) m r
-      some-front g = subst (λ (es : List Entry). NotedIn l es m r) (noted-front t s n (from + 3) opening which g ∙ ap notedOf (inside .1)) w
+      -- of the elements that count
+      elements : NotedIn l (take 256 (unknownOf t (headsAt s place (from + 3)))) m r
+      elements = u l [] (empty l [] refl)
 
-      pub some-all : length t ≤ 12 → n ≤ place → {ps : List ℕ} → ps ≡ placesOf (spansBy (openedAt t s from)) → {m′ : List ℕ} {r′ : ℕ} → MissingNoted t (spansIn ps) m r m′ r′ → NotedIn l (notedOf (openedAt t s from)) m′ r′
-      some-all a g e {m′} {r′} k =
-          subst (λ (es : List Entry). NotedIn l es m′ r′)
-          (ap (λ (vs : List Span). take 256 (unknownOf t (headsAt s place (from + 3)) ++ missingOf t (take (length t) vs))) (spans-back t s from a e ∙ ap spansBy (sym (inside .1)))
-          ∙ (noted-all t s n (from + 3) opening which g ∙ ap notedOf (inside .1)))
-          (k l (unknownOf t (headsAt s place (from + 3))) w)
+      pub some-front : place < n → NotedIn l (notedOf (openedAt t c s from)) m r
+      some-front g = subst (λ (es : List Entry). NotedIn l es m r) (noted-front t (v .container) s n (from + 3) opening which g ∙ ap notedOf (inside .1)) elements
+
+      pub some-all : length t ≤ 12 → n ≤ place → {ps : List ℕ} → ps ≡ placesOf (spansBy (openedAt t c s from))
+          → {m′ m″ : List ℕ} {r′ r″ : ℕ} → ExtensionsNoted (extensionsBehind t (v .container) s n (from + 3)) m r m′ r′
+          → NotedBehind (missingOf t (take (length t) (spansIn ps))) m′ r′ m″ r″ → NotedIn l (notedOf (openedAt t c s from)) m″ r″
+      some-all a g {ps} e {m″ = m″} {r″ = r″} x y =
+          let b = behind t (v .container) s n (from + 3) opening in
+          let us = unknownOf t (headsAt s place (from + 3)) in
+          subst (λ (es : List Entry). NotedIn l es m″ r″)
+          (ap (take 256) (append-assoc us (unknownOf [] (b .0)) (missingOf t (take (length t) (spansIn ps))))
+          ∙ (ap (λ (vs : List Span). take 256 (us ++ (unknownOf [] (b .0) ++ missingOf t (take (length t) vs)))) (spans-back t c s from a e ∙ ap spansBy (sym (inside .1)))
+          ∙ (noted-all t (v .container) s n (from + 3) opening which g ∙ ap notedOf (inside .1))))
+          (y l (us ++ unknownOf [] (b .0)) (x (b .0) (b .1) l us elements))

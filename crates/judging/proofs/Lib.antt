@@ -1,4 +1,5 @@
 pub mod TallyLaws
+pub mod BehindLaws
 pub mod StepLaws
 pub mod OpenedLaws
 pub mod Steps

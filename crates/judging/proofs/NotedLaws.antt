@@ -1,7 +1,7 @@
 -- What is noted, as words: the first 256 of the entries, one more each time.
 --     noted-more                   an entry more, whether it is listed or not
---     noted-length, one-length     the words are as many as before
 --     Unknowns, unknowns-*         the unknown elements, one after another
+--     extensions-*                 the extensions in a container, as unknown elements of no table
 --     Without, without-*           the rows that have no value, likewise
 -- Assumes nothing.
 use mathlib.Core.Path.{_≡_, _∙_, refl, sym, ap, subst}
@@ -13,13 +13,15 @@ use native.Mathlib.Nat.{zero-add}
 use native.Mathlib.Numerals.{add-one}
 use borrow.Author.Tests.{lt-ltb, le-ltb}
 use lib.ListN.{length, length-append, length-map, length-set, take, set, getD}
-use lib.Seq.{sets, length-sets, take-length}
+use lib.Seq.{sets, take-length}
 use Rattle.lists.specs.Lists.{pick}
 use Rattle.lists.proofs.Copy.{map-append}
 use Rattle.octets.specs.Read.{got, stop}
+use Rattle.octets.specs.Field.{belowAt, endsAt}
 use Rattle.octets.specs.declared.Stop.{Stop}
 use Rattle.octets.specs.declared.Span.{Span}
 use Rattle.octets.specs.Span.{noSpan}
+use Rattle.octets.proofs.Chain.{past, halt, then-got, same-got, got-stop}
 use Rattle.octets.proofs.Writing.{sets-append}
 use Rattle.entries.specs.declared.Entry.{Entry}
 use Rattle.entry_words.specs.EntryWords.{entryWord}
@@ -28,17 +30,14 @@ use Rattle.rows.specs.declared.Rows.{Rows}
 use Rattle.rows.specs.Table.{rowsIn, noRow, known}
 use Rattle.rows.proofs.TableLaws.{row-at}
 use Rattle.envelopes.specs.declared.Head.{Head}
-use Rattle.envelopes.specs.Envelope.{envelopeAt, headsAt}
+use Rattle.envelopes.specs.Envelope.{envelopeAt, scanAt, headsAt}
 use Rattle.envelopes.proofs.ScanLaws.{heads-none, heads-one}
-use Rattle.elements.specs.Judge.{unknownOf, missingEntry, missingOf}
+use Rattle.elements.specs.Judge.{unknownOf, missingEntry, missingOf, countedExtensionsAt, extensionsAt, extensionsBehind}
 use Rattle.elements.proofs.WalkLaws.{missing-snoc}
-use Rattle.judging.specs.Judging.{listing, NotedIn, OneNoted, MissingNoted}
+use Rattle.judging.specs.Judging.{listing, NotedIn, OneNoted, NotedBehind, ExtensionsNoted}
 use Rattle.judging.proofs.TallyLaws.{listable, first-more, first-same}
 
 -- ---- an entry more
-
-pub noted-length : {l : List ℕ} {es : List Entry} {m : List ℕ} {r : ℕ} → NotedIn l es m r → length m ≡ length l
-noted-length {l} {es} p = ap length (p .words) ∙ length-sets l 0 (map entryWord es)
 
 one-length : {l : List ℕ} {count : ℕ} {e : Entry} {m : List ℕ} {r : ℕ} → OneNoted l count e m r → length m ≡ length l
 one-length {l} {count} {e} q = ap length (q .words) ∙ by (listing (e .crit) count)
@@ -69,41 +68,68 @@ unfolding headsAt
 heads-cut s zero at q = refl
 heads-cut s (suc n) at q = rw (← q)
 
--- the entries es stand in the words, and with those of the elements left they are all
-pub record Unknowns (t : List Row) (s : List ℕ) (n from : ℕ) (l : List ℕ) (left at : ℕ) (m : List ℕ) (count : ℕ) : Type 0 where
+-- the entries done stand behind what stood there, and with those of the elements left they are all
+pub record Unknowns (t : List Row) (s : List ℕ) (n from : ℕ) (before : List ℕ) (seen left at : ℕ) (m : List ℕ) (count : ℕ) : Type 0 where
   pub done : List Entry
-  pub words : NotedIn l (take 256 done) m count
+  pub size : length m ≡ length before
+  pub list : NotedBehind done before seen m count
   pub rest : done ++ unknownOf t (headsAt s left at) ≡ unknownOf t (headsAt s n from)
 
-pub unknowns-none : (t : List Row) (s : List ℕ) (n from : ℕ) (l : List ℕ) → Unknowns t s n from l n from l 0
-unknowns-none t s n from l = record { done = []; words = record { words = refl; count = refl }; rest = refl }
+pub unknowns-none : (t : List Row) (s : List ℕ) (n from : ℕ) (l : List ℕ) (seen : ℕ) → Unknowns t s n from l seen n from l seen
+unknowns-none t s n from l seen = record { done = []; size = refl; list = λ k es p. rw (append-nil es) p; rest = refl }
 
-module _ {t : List Row} {s : List ℕ} {n from : ℕ} {l : List ℕ} {left at : ℕ} {m : List ℕ} {count : ℕ} (p : Unknowns t s n from l left at m count) where
-  all : headsAt s left at ≡ [] → NotedIn l (take 256 (unknownOf t (headsAt s n from))) m count
+module _ {t : List Row} {s : List ℕ} {n from : ℕ} {before : List ℕ} {seen left at : ℕ} {m : List ℕ} {count : ℕ} (p : Unknowns t s n from before seen left at m count) where
+  all : headsAt s left at ≡ [] → NotedBehind (unknownOf t (headsAt s n from)) before seen m count
   unfolding unknownOf
-  all e = subst (λ (es : List Entry). NotedIn l (take 256 es) m count) (sym (append-nil (p .done)) ∙ (ap (λ (hs : List Head). p .done ++ unknownOf t hs) (sym e) ∙ p .rest)) (p .words)
+  all e = subst (λ (es : List Entry). NotedBehind es before seen m count) (sym (append-nil (p .done)) ∙ (ap (λ (hs : List Head). p .done ++ unknownOf t hs) (sym e) ∙ p .rest)) (p .list)
 
-  pub unknowns-all : left ≡ 0 → NotedIn l (take 256 (unknownOf t (headsAt s n from))) m count
+  pub unknowns-all : left ≡ 0 → NotedBehind (unknownOf t (headsAt s n from)) before seen m count
   unknowns-all e = all (heads-none t s left at e)
 
-  pub unknowns-cut : {x : Stop} → stop x ≡ envelopeAt s at → NotedIn l (take 256 (unknownOf t (headsAt s n from))) m count
+  pub unknowns-cut : {x : Stop} → stop x ≡ envelopeAt s at → NotedBehind (unknownOf t (headsAt s n from)) before seen m count
   unknowns-cut q = all (heads-cut s left at q)
 
   module _ (a : left ≡ 0 → ⊥) (h : Head) (q : got h ≡ envelopeAt s at) where
-    pub unknowns-known : known t (h .id) ≡ true → Unknowns t s n from l (left - 1) (h .value .to) m count
+    pub unknowns-known : known t (h .id) ≡ true → Unknowns t s n from before seen (left - 1) (h .value .to) m count
     unfolding unknownOf
-    unknowns-known k = record { done = p .done; words = p .words; rest = rw (heads-one t s left at a h q, k) at (p .rest) }
+    unknowns-known k = record { done = p .done; size = p .size; list = p .list; rest = rw (heads-one t s left at a h q, k) at (p .rest) }
 
     pub unknowns-more : known t (h .id) ≡ false → {m′ : List ℕ} {r : ℕ} → OneNoted m count (record { crit = h .crit; id = h .id; error = 0 }) m′ r
-        → Unknowns t s n from l (left - 1) (h .value .to) m′ r
+        → Unknowns t s n from before seen (left - 1) (h .value .to) m′ r
     unfolding unknownOf
-    unknowns-more k o =
+    unknowns-more k {m′} {r} o =
         let e : Entry = record { crit = h .crit; id = h .id; error = 0 } in
         record {
           done = p .done ++ listable e;
-          words = noted-more (p .done) e (p .words) o;
+          size = one-length o ∙ p .size;
+          list = λ l es w. subst (λ (xs : List Entry). NotedIn l (take 256 xs) m′ r) (append-assoc es (p .done) (listable e)) (noted-more (es ++ p .done) e (p .list l es w) o);
           rest = append-assoc (p .done) (listable e) _ ∙ rw (heads-one t s left at a h q, k) at (p .rest);
         }
+
+-- ---- the extensions
+
+module _ (t : List Row) (s : List ℕ) (n from : ℕ) {l : List ℕ} {count : ℕ} where
+  pub extensions-none : ExtensionsNoted (extensionsBehind t false s n from) l count l count
+  unfolding extensionsAt unknownOf
+  extensions-none xs q k es p =
+      let a = then-got (scanAt t s n from) _ q in
+      rw (same-got (then-got (endsAt s (a .0)) _ (a .2) .2), append-nil es) p
+
+  pub extensions-stop : (container : Bool) {x : Stop} → stop x ≡ extensionsBehind t container s n from → ExtensionsNoted (extensionsBehind t container s n from) l count l count
+  extensions-stop container q xs e = got-stop (e ∙ sym q)
+
+  module _ {to : ℕ} (a : got to ≡ scanAt t s n from) where
+    pub extensions-cut : {x : Stop} → stop x ≡ belowAt 65535 s to → ExtensionsNoted (extensionsBehind t true s n from) l count l count
+    unfolding extensionsAt
+    extensions-cut b = extensions-stop true (past _ to a (halt _ b))
+
+    pub extensions-some : {v : ℕ} → got v ≡ belowAt 65535 s to → {m : List ℕ} {r : ℕ} → NotedBehind (unknownOf [] (headsAt s (v + 1) (to + 2))) l count m r
+        → ExtensionsNoted (extensionsBehind t true s n from) l count m r
+    unfolding extensionsAt
+    extensions-some {v} b {m} {r} p xs q =
+        let e : got xs ≡ countedExtensionsAt s (v + 1) (to + 2) = q ∙ sym (past _ to a (past _ v b refl)) in
+        let d = then-got (scanAt [] s (v + 1) (to + 2)) _ e in
+        subst (λ (hs : List Head). NotedBehind (unknownOf [] hs) l count m r) (sym (same-got (then-got (endsAt s (d .0)) _ (d .2) .2))) p
 
 -- ---- the rows that have no value
 
@@ -118,7 +144,7 @@ unfolding missingOf
 without-none t l m count = record { upto = omega arith; size = refl; list = λ o es p. rw (append-nil es) p }
 
 module _ {t : Rows} {l : List Span} {before : List ℕ} {seen k : ℕ} {m : List ℕ} {count : ℕ} (p : Without t l before seen k m count) where
-  pub without-all : length (rowsIn t) ≤ k → MissingNoted (rowsIn t) l before seen m count
+  pub without-all : length (rowsIn t) ≤ k → NotedBehind (missingOf (rowsIn t) (take (length (rowsIn t)) l)) before seen m count
   without-all h o es q = let u = p .upto in let e : k ≡ length (rowsIn t) = omega arith in
       rw (e, take-length (rowsIn t)) at (p .list o es q)
 

@@ -82,13 +82,13 @@ module _ {t : List Row} {s : List ℕ} {n from row i at : ℕ} {places : List �
       record {
         within = p .count;
         faults = p .faults;
-        seen = λ g. subst (λ (f : List Head). Seen t f places (record { at = at; place = i; tally = tally })) q
+        seen = λ to g. subst (λ (f : List Head). Seen t f places (record { at = at; place = i; tally = tally })) q
             (record { place = sym (p .size); spans = p .read; tally = p .list });
       }
 
   -- something cannot be read
   broken : {x : Stop} → stop x ≡ scanAt t s (n - i) at → Stops t s n from i at places tally
-  broken q = record { within = p .count; faults = p .faults; seen = λ g. got-stop (g ∙ sym q) }
+  broken q = record { within = p .count; faults = p .faults; seen = λ to g. got-stop (g ∙ sym q) }
 
   pub walk-end : n ≤ i → Stops t s n from i at places tally
   unfolding front

@@ -24,13 +24,13 @@ use Rattle.rows.specs.Table.{rowsIn, noRow}
 use Rattle.editions.specs.declared.Edition.{Edition}
 use Rattle.editions.specs.declared.Message.{Message}
 use Rattle.editions.specs.declared.Named.the-variants as named
-use Rattle.editions.specs.Editions.{tableOf, rowsOf, namedBy}
+use Rattle.editions.specs.Editions.{tableOf, containerOf, rowsOf, namedBy}
 use Rattle.editions.proofs.Tables.{table-lawful, lawful-count}
 use Rattle.frames.specs.declared.Frame.{Frame}
 use Rattle.frames.specs.Frame.{frameAt}
 use Rattle.meaning.specs.Reading.{valueIn, valuesIn}
 use Rattle.verdicts.specs.declared.Refusal.the-variants.{TooLong, Stopped, NotAmong}
-use Rattle.verdicts.specs.Verdict.{Opening, openedAt, Verdict, refused, verdictOf, ofThose, readOf}
+use Rattle.verdicts.specs.Verdict.{Opening, openedAt, refused, verdictOf, ofThose, readOf}
 use Rattle.judging.specs.declared.Opened.{Opened}
 use Rattle.judging.specs.Judging.{openedBy, spansBy, Opens}
 use Rattle.judging.proofs.OpenedLaws.{opens-as, opened-rows, spans-back}
@@ -56,13 +56,13 @@ module _ (e : Edition) (among : Message → Bool) (s : List ℕ) where
       not-named n = framed-by ∙ ap (ofThose e among s f) n
 
       module _ {m : Message} (n : namedBy e (f .kind) (f .code) ≡ named.Is m) where
-        by-test : {b : Bool} → among m ≡ b → readOf e among s ≡ pick b (verdictOf (tableOf e m) m f s (openedAt (tableOf e m) s (f .from))) (refused NotAmong)
-        by-test a = framed-by ∙ (ap (ofThose e among s f) n ∙ ap (λ (b : Bool). pick b (verdictOf (tableOf e m) m f s (openedAt (tableOf e m) s (f .from))) (refused NotAmong)) a)
+        by-test : {b : Bool} → among m ≡ b → readOf e among s ≡ pick b (verdictOf (tableOf e m) m f s (openedAt (tableOf e m) (containerOf e m) s (f .from))) (refused NotAmong)
+        by-test a = framed-by ∙ (ap (ofThose e among s f) n ∙ ap (λ (b : Bool). pick b (verdictOf (tableOf e m) m f s (openedAt (tableOf e m) (containerOf e m) s (f .from))) (refused NotAmong)) a)
 
         pub not-among : among m ≡ false → readOf e among s ≡ refused NotAmong
         not-among a = by-test a
 
-        pub judged-inside : among m ≡ true → readOf e among s ≡ verdictOf (tableOf e m) m f s (openedAt (tableOf e m) s (f .from))
+        pub judged-inside : among m ≡ true → readOf e among s ≡ verdictOf (tableOf e m) m f s (openedAt (tableOf e m) (containerOf e m) s (f .from))
         judged-inside a = by-test a
 
 -- ---- what is inside
@@ -89,7 +89,7 @@ values-front (r ∷ t) s (v ∷ l) k q = let n : length l ≡ length t = omega a
 -- the table stands in an array, and so do the places: what was found, and the values that stand there
 pub record Passed (e : Edition) (m : Message) (f : Frame) (s : List ℕ) (t : Rows) (o : Opened) (ps : List ℕ) : Type 0 where
   pub opening : Opening
-  pub is : openedAt (tableOf e m) s (f .from) ≡ got opening
+  pub is : openedAt (tableOf e m) (containerOf e m) s (f .from) ≡ got opening
   pub outcome : o .outcome ≡ opening .outcome
   pub spans : spansIn ps ≡ fill noSpan 12 (opening .spans)
   pub values : valuesIn (rowsIn t) s (spansIn ps) ≡ valuesIn (tableOf e m) s (opening .spans)
@@ -97,23 +97,23 @@ pub record Passed (e : Edition) (m : Message) (f : Frame) (s : List ℕ) (t : Ro
 pub rows-of : (e : Edition) (m : Message) {t : Rows} → t ≡ rowsOf e m → rowsIn t ≡ tableOf e m
 rows-of e m q = ap rowsIn q ∙ take-fill noRow 12 (tableOf e m)
 
-module _ (e : Edition) (m : Message) (f : Frame) (s : List ℕ) {t : Rows} {o : Opened} {ps : List ℕ} (rows : t ≡ rowsOf e m) (q : Opens (openedAt (rowsIn t) s (f .from)) o ps) where
-  opens : Opens (openedAt (tableOf e m) s (f .from)) o ps
-  opens = opens-as (ap (λ (x : List Row). openedAt x s (f .from)) (rows-of e m rows)) q
+module _ (e : Edition) (m : Message) (f : Frame) (s : List ℕ) {t : Rows} {o : Opened} {ps : List ℕ} (rows : t ≡ rowsOf e m) {c : Bool} (container : c ≡ containerOf e m) (q : Opens (openedAt (rowsIn t) c s (f .from)) o ps) where
+  opens : Opens (openedAt (tableOf e m) (containerOf e m) s (f .from)) o ps
+  opens = opens-as (ap (λ (x : List Row). openedAt x c s (f .from)) (rows-of e m rows) ∙ ap (λ (b : Bool). openedAt (tableOf e m) b s (f .from)) container) q
 
-  pub verdict-stops : {x : Stop} → o .gate ≡ gate.Stop x → verdictOf (tableOf e m) m f s (openedAt (tableOf e m) s (f .from)) ≡ refused (Stopped x)
-  verdict-stops g = ap (verdictOf (tableOf e m) m f s) (at-gate (openedAt (tableOf e m) s (f .from)) (opens .result) g)
+  pub verdict-stops : {x : Stop} → o .gate ≡ gate.Stop x → verdictOf (tableOf e m) m f s (openedAt (tableOf e m) (containerOf e m) s (f .from)) ≡ refused (Stopped x)
+  verdict-stops g = ap (verdictOf (tableOf e m) m f s) (at-gate (openedAt (tableOf e m) (containerOf e m) s (f .from)) (opens .result) g)
 
   pub passed : o .gate ≡ gate.Pass → Passed e m f s t o ps
-  passed g = by (at-gate (openedAt (tableOf e m) s (f .from)) (opens .result) g)
+  passed g = by (at-gate (openedAt (tableOf e m) (containerOf e m) s (f .from)) (opens .result) g)
     where
-      by : (y : Opening) × (openedAt (tableOf e m) s (f .from) ≡ got y) → Passed e m f s t o ps
+      by : (y : Opening) × (openedAt (tableOf e m) (containerOf e m) s (f .from) ≡ got y) → Passed e m f s t o ps
       by (y, k) =
-          let a : spansIn ps ≡ fill noSpan 12 (y .spans) = spans-back (tableOf e m) s (f .from) (lawful-count (tableOf e m) (table-lawful e m)) (opens .places) ∙ ap spansBy k in
+          let a : spansIn ps ≡ fill noSpan 12 (y .spans) = spans-back (tableOf e m) (containerOf e m) s (f .from) (lawful-count (tableOf e m) (table-lawful e m)) (opens .places) ∙ ap spansBy k in
           record {
             opening = y;
             is = k;
             outcome = ap (λ (z : Opened). z .outcome) (opens .result ∙ ap openedBy k);
             spans = a;
-            values = ap (λ (x : List Row). valuesIn x s (spansIn ps)) (rows-of e m rows) ∙ (ap (valuesIn (tableOf e m) s) a ∙ values-front (tableOf e m) s (y .spans) (replicate (12 - length (y .spans)) noSpan) (opened-rows (tableOf e m) s (f .from) (sym k)));
+            values = ap (λ (x : List Row). valuesIn x s (spansIn ps)) (rows-of e m rows) ∙ (ap (valuesIn (tableOf e m) s) a ∙ values-front (tableOf e m) s (y .spans) (replicate (12 - length (y .spans)) noSpan) (opened-rows (tableOf e m) (containerOf e m) s (f .from) (sym k)));
           }

@@ -26,7 +26,7 @@ use Rattle.rows.proofs.TableLaws.{row-at}
 use Rattle.elements.specs.Judge.{ignored, missingEntry, missingOf}
 use Rattle.elements.proofs.WalkLaws.{missing-snoc}
 use Rattle.judging.specs.declared.Tally.{Tally}
-use Rattle.judging.specs.Judging.{listing, tallyOf, tallied, MissingCounted}
+use Rattle.judging.specs.Judging.{listing, tallyOf, tallied, CountedBehind}
 
 pub in-room : (crit count : ℕ) → listing crit count ≡ true → count < 256
 in-room crit count h = ltb-true _ _ (by (not (ignored crit)) h)
@@ -93,7 +93,7 @@ unfolding missingOf
 lacking-none t l n = record { upto = omega arith; list = λ es q. q ∙ ap tallyOf (sym (append-nil es)) }
 
 module _ {t : Rows} {l : List Span} {before : Tally} {k : ℕ} {tally : Tally} (p : Lacking t l before k tally) where
-  pub lacking-all : length (rowsIn t) ≤ k → MissingCounted (rowsIn t) l before tally
+  pub lacking-all : length (rowsIn t) ≤ k → CountedBehind (missingOf (rowsIn t) (take (length (rowsIn t)) l)) before tally
   lacking-all h es q = let u = p .upto in let e : k ≡ length (rowsIn t) = omega arith in p .list es q ∙ rw (e, take-length (rowsIn t))
 
   module _ (h : k < length (rowsIn t)) (g : k < length l) where

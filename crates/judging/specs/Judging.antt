@@ -7,7 +7,8 @@ use lib.Dec.{ltb, eqb}
 use lib.ListN.{length, set, take}
 use lib.Seq.{sets}
 use Rattle.lists.specs.Lists.{pick, some, fill}
-use Rattle.octets.specs.Read.{Read, got, stop, _>>=_}
+use Rattle.octets.specs.Read.{Read, got, stop, _>>=_, _>>_}
+use Rattle.octets.specs.Found.{foundGate}
 use Rattle.octets.specs.declared.Gate.the-variants as gate
 use Rattle.octets.specs.declared.Stop.{Stop}
 use Rattle.octets.specs.declared.Span.{Span}
@@ -18,12 +19,13 @@ use Rattle.entry_words.specs.EntryWords.{entryWord}
 use Rattle.rows.specs.declared.Row.{Row}
 use Rattle.envelopes.specs.declared.Head.{Head}
 use Rattle.envelopes.specs.Envelope.{scanAt, headsAt}
-use Rattle.elements.specs.Judge.{front, readOf, ignored, unknownOf, missingOf, elementsAt}
+use Rattle.elements.specs.Judge.{front, readOf, ignored, unknownOf, elementsAt}
 use Rattle.verdicts.specs.declared.Outcome.{Outcome}
 use Rattle.verdicts.specs.declared.Outcome.the-variants.{Accepted, Misplaced, Rejected}
 use Rattle.verdicts.specs.Verdict.{Opening, openingBy}
 use Rattle.judging.specs.declared.Opened.{Opened}
 use Rattle.judging.specs.declared.Tally.{Tally}
+use Rattle.judging.specs.declared.Behind.{Behind}
 use Rattle.judging.specs.declared.Reached.{Reached}
 
 -- as the code answers: what is noted counted
@@ -42,8 +44,8 @@ pub record Opens (o : Read Opening) (r : Opened) (m : List ℕ) : Type 0 where
   pub places : m ≡ placesOf (spansBy o)
 
 -- what n elements come to
-abbrev pub openingAt : List Row → List ℕ → ℕ → ℕ → Read Opening
-openingAt t s n at = elementsAt t s n at >>= λ x. got (openingBy n x)
+abbrev pub openingAt : List Row → Bool → List ℕ → ℕ → ℕ → Read Opening
+openingAt t container s n at = elementsAt t container s n at >>= λ x. got (openingBy n x)
 
 -- where all elements count
 abbrev pub rejectedBy : Bool → Outcome
@@ -62,6 +64,15 @@ tallyOf es = record { count = length (take 256 es); reject = some (λ (e : Entry
 abbrev pub tallied : Tally → ℕ → Tally
 tallied n crit = record { count = pick (listing crit (n .count)) (n .count + 1) (n .count); reject = n .reject || eqb crit 0 }
 
+-- a tally, and behind it more entries
+abbrev pub CountedBehind : List Entry → Tally → Tally → Type 0
+CountedBehind more before after = (es : List Entry) → before ≡ tallyOf es → after ≡ tallyOf (es ++ more)
+
+-- what stands behind the elements can be read, or why not; its extensions are counted
+pub record Follows (x : Read (List Head)) (before : Tally) (r : Behind) : Type 0 where
+  pub gate : foundGate (r .gate) ≡ (x >> got tt)
+  pub tally : (xs : List Head) → got xs ≡ x → CountedBehind (unknownOf [] xs) before (r .tally)
+
 -- whether something was read
 abbrev pub ReadIf : Bool → Read Unit → Type 0
 ReadIf true x = got tt ≡ x
@@ -77,11 +88,7 @@ pub record Seen (t : List Row) (f : List Head) (places : List ℕ) (r : Reached)
 pub record WalkedTo (t : List Row) (s : List ℕ) (n from : ℕ) (places : List ℕ) (r : Reached) : Type 0 where
   pub within : r .place ≤ n
   pub faults : scanAt t s (n - r .place) (r .at) ≡ scanAt t s n from
-  pub seen : got tt ≡ scanAt t s (n - r .place) (r .at) → Seen t (front t 0 (headsAt s n from)) places r
-
--- a tally, and behind it the rows that have no value
-abbrev pub MissingCounted : List Row → List Span → Tally → Tally → Type 0
-MissingCounted t spans before after = (es : List Entry) → before ≡ tallyOf es → after ≡ tallyOf (es ++ missingOf t (take (length t) spans))
+  pub seen : (to : ℕ) → got to ≡ scanAt t s (n - r .place) (r .at) → Seen t (front t 0 (headsAt s n from)) places r
 
 -- ---- what is noted, as words
 
@@ -105,7 +112,10 @@ pub record OneNoted (l : List ℕ) (count : ℕ) (e : Entry) (m : List ℕ) (r :
   pub words : m ≡ pick (listing (e .crit) count) (set l count (entryWord e)) l
   pub next : r ≡ pick (listing (e .crit) count) (count + 1) count
 
--- behind those that stand there, the rows that have no value
-abbrev pub MissingNoted : List Row → List Span → List ℕ → ℕ → List ℕ → ℕ → Type 0
-MissingNoted t spans l count m r =
-    (k : List ℕ) (es : List Entry) → NotedIn k (take 256 es) l count → NotedIn k (take 256 (es ++ missingOf t (take (length t) spans))) m r
+-- behind those that stand there, more entries
+abbrev pub NotedBehind : List Entry → List ℕ → ℕ → List ℕ → ℕ → Type 0
+NotedBehind more l count m r = (k : List ℕ) (es : List Entry) → NotedIn k (take 256 es) l count → NotedIn k (take 256 (es ++ more)) m r
+
+-- the extensions behind n elements come behind those that stand there, where all can be read
+abbrev pub ExtensionsNoted : Read (List Head) → List ℕ → ℕ → List ℕ → ℕ → Type 0
+ExtensionsNoted x l count m r = (xs : List Head) → got xs ≡ x → NotedBehind (unknownOf [] xs) l count m r

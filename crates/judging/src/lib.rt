@@ -1,21 +1,25 @@
 // The elements of a message, judged over any table of rows: faults anywhere first, then the judging. What is noted is counted; where it is asked for, the elements are
 // gone over again for it.
 ghost use mathlib.Core.Path.{_≡_};
-ghost use lib.ListN.{take};
+ghost use mathlib.Core.List.{[]};
+ghost use lib.ListN.{length, take};
 ghost use Rattle.octets.specs.Read.{stop};
 ghost use Rattle.places.specs.Places.{spansIn};
 ghost use Rattle.rows.specs.Table.{rowsIn, known};
 ghost use Rattle.kinds.specs.Kinds.{valueAt};
 ghost use Rattle.envelopes.specs.Envelope.{headsAt};
-ghost use Rattle.elements.specs.Judge.{unknownOf};
+ghost use Rattle.elements.specs.Judge.{unknownOf, missingOf, countedExtensionsAt, extensionsAt, extensionsBehind};
 ghost use Rattle.verdicts.specs.Verdict.{openedAt};
-ghost use Rattle.judging.specs.Judging.{listing, tallied, ReadIf, WalkedTo, MissingCounted, rejectedBy, Opens, openingAt, placeOf, notedOf, NotedIn, OneNoted, MissingNoted};
+ghost use Rattle.judging.specs.Judging.{listing, tallied, CountedBehind, Follows, ReadIf, WalkedTo, rejectedBy, Opens, openingAt, placeOf, notedOf, NotedIn, OneNoted, NotedBehind, ExtensionsNoted};
 use entries::Entry;
+use envelopes::End;
 use envelopes::Envelope;
+use frames::CountRead;
 use octets::Gate;
 use octets::Stop;
 use octets::Two;
 use rows::Kind;
+use rows::Row;
 use rows::Rows;
 use verdicts::Outcome;
 
@@ -27,6 +31,13 @@ pub struct Opened {
     pub noted: usize,
 }
 
+const NO_ROW: Row = Row {
+    id: 0,
+    crit: 0,
+    kind: Kind::Carried,
+    mandatory: false,
+};
+
 // How many are noted, and whether any, beyond the first 256 too, is a reason to reject.
 struct Tally {
     count: usize,
@@ -37,6 +48,12 @@ struct Tally {
 struct Reached {
     at: usize,
     place: usize,
+    tally: Tally,
+}
+
+// What stands behind the elements: whether it can be read, and the tally with its extensions.
+struct Behind {
+    gate: Gate,
     tally: Tally,
 }
 
@@ -137,7 +154,7 @@ fn walk(t: Rows, s: &[u8], n: usize, from: usize, places: &mut [usize; 24]) -> R
 
 // The tally with the mandatory rows that have no value.
 fn with_missing(t: Rows, places: &[usize; 24], seen: Tally) -> Tally
-    ensures { λ r. ⌜ MissingCounted (rowsIn t) (spansIn (now (places .entry))) seen r ⌝ }
+    ensures { λ r. ⌜ CountedBehind (missingOf (rowsIn t) (take (length (rowsIn t)) (spansIn (now (places .entry))))) seen r ⌝ }
 {
     let rows = rows::row_count(t);
     let mut tally = seen;
@@ -155,6 +172,53 @@ fn with_missing(t: Rows, places: &[usize; 24], seen: Tally) -> Tally
         tally = tally_with(tally, r.crit);
     }
     tally
+}
+
+// n extensions, up to the end. Each is unknown, and its value is not read.
+fn extensions(s: &[u8], n: usize, from: usize, seen: Tally) -> Behind
+    ensures { λ r. ⌜ Follows (countedExtensionsAt (now (s .entry)) n from) seen r ⌝ }
+{
+    let mut tally = seen;
+    let mut left = n;
+    let mut at = from;
+    while 0 < left {
+        match envelopes::envelope_at(s, at) {
+            Envelope::Is(h) => {
+                at = h.value.to;
+                left -= 1;
+                tally = tally_with(tally, h.crit);
+            }
+            Envelope::Stop(x) => {
+                return Behind {
+                    gate: Gate::Stop(x),
+                    tally: tally,
+                };
+            }
+        }
+    }
+    Behind {
+        gate: octets::ends_at(s, at),
+        tally: tally,
+    }
+}
+
+// Behind the elements, from a place on: nothing, or a container.
+fn behind_elements(container: bool, s: &[u8], at: usize, seen: Tally) -> Behind
+    ensures { λ r. ⌜ Follows (extensionsAt container (now (s .entry)) at) seen r ⌝ }
+{
+    if !container {
+        return Behind {
+            gate: octets::ends_at(s, at),
+            tally: seen,
+        };
+    }
+    match octets::below_at(65535, s, at) {
+        Two::Is(v) => extensions(s, numbers::wide16(v) + 1, at + 2, seen),
+        Two::Stop(x) => Behind {
+            gate: Gate::Stop(x),
+            tally: seen,
+        },
+    }
 }
 
 fn not_opened(x: Stop, places: &mut [usize; 24]) -> Opened
@@ -177,19 +241,34 @@ fn outcome_by(reject: bool) -> Outcome
     Outcome::Accepted
 }
 
-// n elements from a place on.
-fn opening_at(t: Rows, s: &[u8], n: usize, from: usize, places: &mut [usize; 24]) -> Opened
-    ensures { λ r. ⌜ Opens (openingAt (rowsIn t) (now (s .entry)) n from) r (now (places .exit)) ⌝ }
+// n elements from a place on, and what stands behind them.
+fn opening_at(
+    t: Rows,
+    container: bool,
+    s: &[u8],
+    n: usize,
+    from: usize,
+    places: &mut [usize; 24],
+) -> Opened
+    ensures { λ r. ⌜ Opens (openingAt (rowsIn t) container (now (s .entry)) n from) r (now (places .exit)) ⌝ }
 {
     let w = walk(t, s, n, from, places);
     let place = w.place;
-    match envelopes::scan(t, s, n - place, w.at) {
+    let to = match envelopes::scan(t, s, n - place, w.at) {
+        End::Is(v) => v,
+        End::Stop(x) => {
+            return not_opened(x, places);
+        }
+    };
+    let seen = w.tally;
+    let b = behind_elements(container, s, to, seen);
+    let gate = b.gate;
+    match gate {
+        Gate::Pass => {}
         Gate::Stop(x) => {
             return not_opened(x, places);
         }
-        Gate::Pass => {}
     }
-    let seen = w.tally;
     if place < n {
         return Opened {
             gate: Gate::Pass,
@@ -197,7 +276,7 @@ fn opening_at(t: Rows, s: &[u8], n: usize, from: usize, places: &mut [usize; 24]
             noted: seen.count,
         };
     }
-    let all = with_missing(t, places, seen);
+    let all = with_missing(t, places, b.tally);
     Opened {
         gate: Gate::Pass,
         outcome: outcome_by(all.reject),
@@ -205,13 +284,20 @@ fn opening_at(t: Rows, s: &[u8], n: usize, from: usize, places: &mut [usize; 24]
     }
 }
 
-// What is inside the frame of a message, from a place on.
-pub fn opened_at(t: Rows, s: &[u8], from: usize, places: &mut [usize; 24]) -> Opened
-    ensures { λ r. ⌜ Opens (openedAt (rowsIn t) (now (s .entry)) from) r (now (places .exit)) ⌝ }
+// What is inside the frame of a message, from a place on; c: the message can have a container.
+pub fn opened_at(t: Rows, c: bool, s: &[u8], from: usize, places: &mut [usize; 24]) -> Opened
+    ensures { λ r. ⌜ Opens (openedAt (rowsIn t) c (now (s .entry)) from) r (now (places .exit)) ⌝ }
 {
-    match frames::count_at(s, from) {
-        Two::Is(v) => opening_at(t, s, numbers::wide16(v), from + 3, places),
-        Two::Stop(x) => not_opened(x, places),
+    match frames::count_at(c, s, from) {
+        CountRead::Is(v) => opening_at(
+            t,
+            v.container,
+            s,
+            numbers::wide16(v.elements),
+            from + 3,
+            places,
+        ),
+        CountRead::Stop(x) => not_opened(x, places),
     }
 }
 
@@ -242,11 +328,11 @@ fn note(words: &mut [u64], count: usize, e: Entry) -> usize
     count + 1
 }
 
-// The unknown ones of n elements, as far as they can be read.
-fn note_unknown(t: Rows, s: &[u8], n: usize, from: usize, words: &mut [u64]) -> usize
-    ensures { λ r. ⌜ NotedIn (now (words .entry)) (take 256 (unknownOf (rowsIn t) (headsAt (now (s .entry)) n from))) (now (words .exit)) r ⌝ }
+// The unknown ones of n elements, as far as they can be read, behind so many others.
+fn note_unknown(t: Rows, s: &[u8], n: usize, from: usize, seen: usize, words: &mut [u64]) -> usize
+    ensures { λ r. ⌜ NotedBehind (unknownOf (rowsIn t) (headsAt (now (s .entry)) n from)) (now (words .entry)) seen (now (words .exit)) r ⌝ }
 {
-    let mut count: usize = 0;
+    let mut count = seen;
     let mut left = n;
     let mut at = from;
     while 0 < left {
@@ -275,7 +361,7 @@ fn note_unknown(t: Rows, s: &[u8], n: usize, from: usize, words: &mut [u64]) -> 
 
 // The mandatory rows that have no value, behind so many others.
 fn note_missing(t: Rows, places: &[usize; 24], seen: usize, words: &mut [u64]) -> usize
-    ensures { λ r. ⌜ MissingNoted (rowsIn t) (spansIn (now (places .entry))) (now (words .entry)) seen (now (words .exit)) r ⌝ }
+    ensures { λ r. ⌜ NotedBehind (missingOf (rowsIn t) (take (length (rowsIn t)) (spansIn (now (places .entry))))) (now (words .entry)) seen (now (words .exit)) r ⌝ }
 {
     let rows = rows::row_count(t);
     let mut count = seen;
@@ -300,6 +386,43 @@ fn note_missing(t: Rows, places: &[usize; 24], seen: usize, words: &mut [u64]) -
     count
 }
 
+// A table without a row: whatever the id, an element is unknown.
+fn no_rows() -> Rows
+    ensures { λ r. ⌜ rowsIn r ≡ [] ⌝ }
+{
+    Rows {
+        rows: [NO_ROW; 12],
+        count: 0,
+    }
+}
+
+// The extensions in a container behind n elements, behind so many others.
+fn note_extensions(
+    t: Rows,
+    container: bool,
+    s: &[u8],
+    n: usize,
+    from: usize,
+    seen: usize,
+    words: &mut [u64],
+) -> usize
+    ensures { λ r. ⌜ ExtensionsNoted (extensionsBehind (rowsIn t) container (now (s .entry)) n from) (now (words .entry)) seen (now (words .exit)) r ⌝ }
+{
+    if !container {
+        return seen;
+    }
+    let to = match envelopes::scan(t, s, n, from) {
+        End::Is(v) => v,
+        End::Stop(_) => {
+            return seen;
+        }
+    };
+    match octets::below_at(65535, s, to) {
+        Two::Is(v) => note_unknown(no_rows(), s, numbers::wide16(v) + 1, to + 2, seen, words),
+        Two::Stop(_) => seen,
+    }
+}
+
 // How many of n elements count.
 fn place_of(n: usize, o: Outcome) -> usize
     ensures { λ r. ⌜ r ≡ placeOf n o ⌝ }
@@ -312,25 +435,28 @@ fn place_of(n: usize, o: Outcome) -> usize
 }
 
 // What is noted, as words in front, as far as they go; how many there are.
-pub fn noted_into(t: Rows, s: &[u8], from: usize, words: &mut [u64]) -> usize
-    ensures { λ r. ⌜ NotedIn (now (words .entry)) (notedOf (openedAt (rowsIn t) (now (s .entry)) from)) (now (words .exit)) r ⌝ }
+pub fn noted_into(t: Rows, c: bool, s: &[u8], from: usize, words: &mut [u64]) -> usize
+    ensures { λ r. ⌜ NotedIn (now (words .entry)) (notedOf (openedAt (rowsIn t) c (now (s .entry)) from)) (now (words .exit)) r ⌝ }
 {
     let mut places: [usize; 24] = [0; 24];
-    let o = opened_at(t, s, from, &mut places);
+    let o = opened_at(t, c, s, from, &mut places);
     if o.noted == 0 {
         return 0;
     }
-    let n = match frames::count_at(s, from) {
-        Two::Is(v) => numbers::wide16(v),
-        Two::Stop(_) => {
+    let v = match frames::count_at(c, s, from) {
+        CountRead::Is(v) => v,
+        CountRead::Stop(_) => {
             return 0;
         }
     };
+    let n = numbers::wide16(v.elements);
     let outcome = o.outcome;
     let upto = place_of(n, outcome);
-    let count = note_unknown(t, s, upto, from + 3, words);
+    let first = from + 3;
+    let count = note_unknown(t, s, upto, first, 0, words);
     if upto < n {
         return count;
     }
-    note_missing(t, &places, count, words)
+    let more = note_extensions(t, v.container, s, n, first, count, words);
+    note_missing(t, &places, more, words)
 }

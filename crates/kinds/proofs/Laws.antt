@@ -14,7 +14,7 @@ use Rattle.entry_words.proofs.Laws.{same-gate}
 use Rattle.rows.specs.Table.{meanings}
 use Rattle.rows.specs.declared.Kind.{Kind}
 use Rattle.rows.specs.declared.Kind.the-variants.{Carried, Mme, Mce, Tmgi, OneOctet, TwoOctets, Cause, Wait, Name, ResetType, Acknowledged, Diagnostics}
-use Rattle.meaning.specs.Value.{Value, mme, mce, tmgi, one, two, cause, wait, name, reset, list, diagnostics}
+use Rattle.meaning.specs.Value.{mme, mce, tmgi, one, two, cause, wait, name, reset, list, diagnostics}
 use Rattle.meaning.specs.Reading.{readAs}
 use Rattle.kinds.specs.Kinds.{valueAt}
 

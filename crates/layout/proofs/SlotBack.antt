@@ -1,15 +1,14 @@
 -- What a slot was written for is what it says, by the kind of its row; so the slots of a record say its values.
 -- Assumes nothing.
-use Prim.Native.Nat.{ℕ, _+_, _-_, _<_, _≤_}
+use Prim.Native.Nat.{ℕ, _+_, _-_, _<_}
 use mathlib.Core.Path.{_≡_, _∙_, refl, sym, ap}
-use mathlib.Core.Bool.{Bool, true, false, not}
+use mathlib.Core.Bool.{Bool, true, false}
 use mathlib.Core.List.{List, [], _∷_, _++_, append-assoc}
 use native.Mathlib.Nat.{mod-eq-of-lt}
 use native.Mathlib.Omega.{arith}
-use lib.Dec.{eqb}
-use lib.ListN.{length, getD, drop, replicate}
+use lib.ListN.{length, drop, replicate}
 use lib.Seq.{drop-at}
-use Rattle.lists.specs.Lists.{pick, fill}
+use Rattle.lists.specs.Lists.{pick}
 use Rattle.octets.specs.Field.{valueAt}
 use Rattle.octets.specs.Write.{numberOctets}
 use Rattle.octets.specs.Many.{Each, eachOctets}
@@ -19,7 +18,6 @@ use Rattle.items.specs.Items.{whole, part}
 use Rattle.diagnostics.specs.declared.Number.{Number}
 use Rattle.diagnostics.specs.declared.Number.the-variants as number
 use Rattle.diagnostics.specs.declared.Head.{Head}
-use Rattle.diagnostics.specs.Diagnostics.{Diagnostics}
 use Rattle.rows.specs.declared.Row.{Row}
 use Rattle.meaning.specs.Value.{Value, Given, given, absent, carried, mme, mce, tmgi, one, two, cause, wait, name, reset, list, diagnostics}
 use Rattle.meaning.specs.Ranges.{valueKind}

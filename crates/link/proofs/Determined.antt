@@ -8,6 +8,14 @@ use Rattle.link.proofs.m3ap_read.Kinds as m3ap-read'
 use Rattle.link.proofs.m3ap_read.Reads as m3ap-read
 use Rattle.link.proofs.m3ap_write.Kinds as m3ap-write'
 use Rattle.link.proofs.m3ap_write.Reads as m3ap-write
+use Rattle.link.proofs.sbcap_read.Kinds as sbcap-read'
+use Rattle.link.proofs.sbcap_read.Reads as sbcap-read
+use Rattle.link.proofs.sbcap_read_lab.Kinds as sbcap-read-lab'
+use Rattle.link.proofs.sbcap_read_lab.Reads as sbcap-read-lab
+use Rattle.link.proofs.sbcap_write.Kinds as sbcap-write'
+use Rattle.link.proofs.sbcap_write.Reads as sbcap-write
+use Rattle.link.proofs.sbcap_write_lab.Kinds as sbcap-write-lab'
+use Rattle.link.proofs.sbcap_write_lab.Reads as sbcap-write-lab
 use Rattle.link.proofs.m3ap_setup.Kinds as m3ap-setup'
 use Rattle.link.proofs.m3ap_setup.Reads as m3ap-setup
 use Rattle.link.proofs.m3ap_shown.Kinds as m3ap-shown'
@@ -29,3 +37,15 @@ m3ap-setup-is κs a p x y e f = (e .answer same f .answer) & (e .unit same f .un
 
 pub m3ap-shown-is : Determined m3ap-shown'.ps m3ap-shown'.r m3ap-shown.Asked m3ap-shown.Learnt
 m3ap-shown-is κs a p x y e f = (e same f) & refl
+
+pub sbcap-read-is : Determined sbcap-read'.ps sbcap-read'.r sbcap-read.Asked sbcap-read.Learnt
+sbcap-read-is κs a p x y e f = (e .answer same f .answer) & refl & (e .room same f .room) & refl
+
+pub sbcap-read-lab-is : Determined sbcap-read-lab'.ps sbcap-read-lab'.r sbcap-read-lab.Asked sbcap-read-lab.Learnt
+sbcap-read-lab-is κs a p x y e f = (e .answer same f .answer) & refl & (e .room same f .room) & refl
+
+pub sbcap-write-is : Determined sbcap-write'.ps sbcap-write'.r sbcap-write.Asked sbcap-write.Learnt
+sbcap-write-is κs a p x y e f = (e .answer same f .answer) & refl & refl & (e .room same f .room) & refl
+
+pub sbcap-write-lab-is : Determined sbcap-write-lab'.ps sbcap-write-lab'.r sbcap-write-lab.Asked sbcap-write-lab.Learnt
+sbcap-write-lab-is κs a p x y e f = (e .answer same f .answer) & refl & refl & (e .room same f .room) & refl

@@ -7,3 +7,4 @@ pub mod ReadsAs
 pub mod SetsUpAs
 pub mod Determined
 pub mod Exported
+pub mod Warnings

@@ -2,17 +2,16 @@
 -- Assumes nothing.
 use Prim.Native.Nat.{ℕ}
 use mathlib.Core.Path.{_≡_, refl, sym, ap, _∙_}
-use mathlib.Core.Bool.{Bool, true, false, not, true≢false}
+use mathlib.Core.Bool.{true, false, true≢false}
 use mathlib.Core.List.{List, [], _∷_}
 use Rattle.lists.specs.Lists.{some}
 use Rattle.lists.proofs.Tests.{and-left, and-right}
 use Rattle.rows.specs.declared.Row.{Row}
 use Rattle.editions.specs.declared.Edition.{Edition}
 use Rattle.editions.specs.Editions.{tableOf}
-use Rattle.names.specs.Names.{nameAllowed}
 use Rattle.meaning.specs.Value.{Value, Given, given, absent, carried, mme, mce, tmgi, one, two, cause, wait, name, reset, list, diagnostics, Said, saidBy}
 use Rattle.meaning.specs.Written.{hasOctets, elementGood, elementsGood, octets}
-use Rattle.layout.specs.Record.{badName, LentRecord, nameRefusedBy, nameRefused, written}
+use Rattle.layout.specs.Record.{badName, nameRefusedBy, nameRefused, written}
 use Rattle.round_trips.proofs.Back.{has-octets}
 use Rattle.round_trips.proofs.LentDiffer.{lent-record}
 

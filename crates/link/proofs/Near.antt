@@ -3,18 +3,19 @@
 use Prim.Native.Nat.{ℕ, zero, suc, _+_, _-_, _/_, _%_, _≤_}
 use mathlib.Core.Path.{_≡_, refl, sym, ap, subst}
 use mathlib.Core.Bool.{Bool, true, false}
-use mathlib.Core.List.{List}
+use mathlib.Core.List.{List, []}
 use native.Mathlib.Omega.{arith}
 use borrow.Author.Tests.{eqb-true, eqb-false}
 use lib.Dec.{ltb, eqb}
 use lib.ListN.{length, take, getD, length-take}
+use Rattle.lists.specs.Lists.{pick}
 use Rattle.lists.proofs.Tests.{on-pick}
 use Rattle.octets.specs.Read.{Read, got, stop, cutShort, noMeaning, leftOver, extended, _>>=_, _>>_}
 use Rattle.octets.specs.declared.Stop.the-variants.{Fault, Extension}
-use Rattle.octets.specs.Field.{bitsAt, there, flagAt, plainAt, choiceAt, padAt, numberAt, stringAt, sameAt, longAt, longLengthAt, lengthAt, openAt, endsAt}
+use Rattle.octets.specs.Field.{bitsAt, there, flagAt, plainAt, choiceAt, padAt, numberAt, stringAt, sameAt, belowAt, longAt, longLengthAt, lengthAt, openAt, endsAt}
 use Rattle.octets.specs.Many.{Part, many}
 use Rattle.octets.proofs.Chain.{then-got, same-got}
-use Rattle.octets.proofs.Got.{plain-got, choice-got, pad-got, number-got, string-got, wanted-got, open-in}
+use Rattle.octets.proofs.Got.{plain-got, choice-got, pad-got, number-got, string-got, wanted-got, below-got, open-in}
 use Rattle.values.specs.Values.{wholeAt, mmeAt, mceAt, oneAt, twoAt, tmgiAt, rootOf, bitsOfRoot, causeAt, waitAt}
 use Rattle.names.specs.Names.{printable, acrossAt, sizeAt, charAt, charsAt, nameAt}
 use Rattle.names.proofs.Size.{size-got}
@@ -38,10 +39,11 @@ use Rattle.kinds.specs.Kinds.{valueAt}
 use Rattle.rows.specs.declared.Row.{Row}
 use Rattle.rows.specs.Table.{kindOf, meanings}
 use Rattle.envelopes.specs.Envelope.{criticalityAt, envelopeAt, scanAt}
-use Rattle.elements.specs.Judge.{elementsAt}
+use Rattle.elements.specs.Judge.{extensionsAt, extensionsBehind, elementsAt}
 use Rattle.envelopes.proofs.ScanLaws.{envelope-in}
 use Rattle.frames.specs.declared.Frame.{Frame}
-use Rattle.frames.specs.Frame.{kindAt, frameAt, countAt}
+use Rattle.frames.specs.Frame.{kindAt, frameAt, containerAt, countAt}
+use Rattle.frames.specs.declared.Count.{Count}
 use Rattle.verdicts.specs.Verdict.{openedAt}
 
 -- a reading stops at octet n or before
@@ -90,6 +92,10 @@ module _ (n : ℕ) (s : List ℕ) (at : ℕ) (i : at ≤ n) where
   same-near : (v : ℕ) → Near n (sameAt v s at)
   unfolding sameAt noMeaning
   same-near v = near-then n (numberAt 2 s at) _ (number-near 2) (λ x q. on-pick (Near n) (eqb x v) tt i)
+
+  below-near : (m : ℕ) → Near n (belowAt m s at)
+  unfolding belowAt noMeaning
+  below-near m = near-then n (numberAt 2 s at) _ (number-near 2) (λ x q. on-pick (Near n) (ltb x m) tt i)
 
   length-near : Near n (lengthAt s at)
   unfolding lengthAt longLengthAt noMeaning
@@ -439,16 +445,37 @@ module _ (n : ℕ) (s : List ℕ) (l : length s ≤ n) where
 module _ (n : ℕ) (s : List ℕ) (l : length s ≤ n) (t : List Row) where
   scan-near : (k at : ℕ) → at ≤ n → Near n (scanAt t s k at)
   unfolding scanAt
-  scan-near zero at i = ends-near n s at i
+  scan-near zero at i = tt
   scan-near (suc k) at i =
       near-then n (envelopeAt s at) _ (envelope-near n s l at i) (λ h q. let e = envelope-in s at q in let f = e .1 in let g = e .2 in
       near-then n (valueAt (kindOf t (h .id)) (take (h .value .to) s) (h .value .from)) _
       (value-near n (take (h .value .to) s) (cut-short n s (h .value .to) l) (kindOf t (h .id)) (h .value .from) (omega arith)) (λ a r.
       scan-near k (h .value .to) (omega arith)))
 
-  elements-near : (k at : ℕ) → at ≤ n → Near n (elementsAt t s k at)
+  -- and they end inside
+  scan-in : (k at : ℕ) {end : ℕ} → at ≤ n → got end ≡ scanAt t s k at → end ≤ n
+  unfolding scanAt
+  scan-in zero at i q = rw (← same-got q) at i
+  scan-in (suc k) at i q =
+      let a = then-got (envelopeAt s at) _ q in
+      let b = then-got (valueAt (kindOf t (a .0 .id)) (take (a .0 .value .to) s) (a .0 .value .from)) _ (a .2) in
+      let e = envelope-in s at (a .1) .2 in
+      scan-in k (a .0 .value .to) (omega arith) (b .2)
+
+module _ (n : ℕ) (s : List ℕ) (l : length s ≤ n) where
+  extensions-near : (c : Bool) (at : ℕ) → at ≤ n → Near n (extensionsAt c s at)
+  unfolding extensionsAt
+  extensions-near false at i = near-then n (endsAt s at) _ (ends-near n s at i) (λ a q. tt)
+  extensions-near true at i =
+      near-then n (belowAt 65535 s at) _ (below-near n s at i 65535) (λ k q. let h = below-got s at 65535 q .0 in
+      near-then n (scanAt [] s (k + 1) (at + 2)) _ (scan-near n s l [] (k + 1) (at + 2) (omega arith)) (λ end r. let j = scan-in n s l [] (k + 1) (at + 2) (omega arith) r in
+      near-then n (endsAt s end) _ (ends-near n s end j) (λ a u. tt)))
+
+  elements-near : (t : List Row) (c : Bool) (k at : ℕ) → at ≤ n → Near n (elementsAt t c s k at)
   unfolding elementsAt
-  elements-near k at i = near-then n (scanAt t s k at) _ (scan-near k at i) (λ a q. tt)
+  elements-near t c k at i =
+      near-then n (extensionsBehind t c s k at) _
+      (near-then n (scanAt t s k at) _ (scan-near n s l t k at i) (λ end q. extensions-near c end (scan-in n s l t k at i q))) (λ a q. tt)
 
 -- ---- messages
 
@@ -488,22 +515,30 @@ module _ (n : ℕ) (s : List ℕ) (l : length s ≤ n) where
       let z : f .from ≡ d .0 .from = ap (λ (g : Frame). g .from) (same-got (e .2)) in
       omega arith
 
-  count-near : (at : ℕ) → at ≤ n → Near n (countAt s at)
-  unfolding countAt
-  count-near at i =
-      near-then n (plainAt s at 0) _ (plain-near n s at i 0) (λ a q. let h = plain-got s at 0 q .0 in
-      near-then n (padAt s at 1) _ (pad-near n s at i 1) (λ b r. number-near n s (at + 1) (omega arith) 2))
+  container-near : (c : Bool) (at : ℕ) → at ≤ n → Near n (containerAt c s at)
+  unfolding containerAt
+  container-near false at i = tt
+  container-near true at i = flag-near n s at i 1
 
-  count-in : (at : ℕ) {k : ℕ} → got k ≡ countAt s at → at + 3 ≤ n
+  count-near : (c : Bool) (at : ℕ) → at ≤ n → Near n (countAt c s at)
   unfolding countAt
-  count-in at q =
+  count-near c at i =
+      near-then n (plainAt s at 0) _ (plain-near n s at i 0) (λ a q. let h = plain-got s at 0 q .0 in
+      near-then n (containerAt c s at) _ (container-near c at i) (λ x z.
+      near-then n (padAt s at (pick c 2 1)) _ (pad-near n s at i (pick c 2 1)) (λ b r.
+      near-then n (numberAt 2 s (at + 1)) _ (number-near n s (at + 1) (omega arith) 2) (λ k u. tt))))
+
+  count-in : (c : Bool) (at : ℕ) {k : Count} → got k ≡ countAt c s at → at + 3 ≤ n
+  unfolding countAt
+  count-in c at q =
       let a = then-got (plainAt s at 0) _ q in
-      let b = then-got (padAt s at 1) _ (a .2) in
-      let h = number-got s (at + 1) 2 (b .2) .0 in
+      let x = then-got (containerAt c s at) _ (a .2) in
+      let b = then-got (padAt s at (pick c 2 1)) _ (x .2) in
+      let h = number-got s (at + 1) 2 (then-got (numberAt 2 s (at + 1)) _ (b .2) .1) .0 in
       omega arith
 
-  pub opened-near : (t : List Row) (from : ℕ) → from ≤ n → Near n (openedAt t s from)
+  pub opened-near : (t : List Row) (c : Bool) (from : ℕ) → from ≤ n → Near n (openedAt t c s from)
   unfolding openedAt
-  opened-near t from i =
-      near-then n (countAt s from) _ (count-near from i) (λ k q. let h = count-in from q in
-      near-then n (elementsAt t s k (from + 3)) _ (elements-near n s l t k (from + 3) h) (λ f r. tt))
+  opened-near t c from i =
+      near-then n (countAt c s from) _ (count-near c from i) (λ k q. let h = count-in c from q in
+      near-then n (elementsAt t (k .container) s (k .elements) (from + 3)) _ (elements-near n s l t (k .container) (k .elements) (from + 3) h) (λ f r. tt))

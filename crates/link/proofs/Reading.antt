@@ -7,23 +7,22 @@ use mathlib.Core.List.{List}
 use native.Mathlib.Omega.{arith}
 use lib.Dec.{leb}
 use lib.ListN.{length}
-use Rattle.lists.specs.Lists.{pick}
 use Rattle.lists.proofs.Tests.{on-pick}
-use Rattle.editions.specs.declared.Edition.the-variants.{Release18}
+use Rattle.editions.specs.declared.Edition.{Edition}
 use Rattle.meaning.specs.Value.{saidBy}
 use Rattle.meaning.specs.Written.{Encoded, octets, none}
 use Rattle.verdicts.specs.declared.Refusal.{Refusal}
-use Rattle.verdicts.specs.Verdict.{Understood, Verdict, refused, understood, every, readOf}
+use Rattle.verdicts.specs.Verdict.{Verdict, refused, understood, every, readOf}
 use Rattle.layout.specs.Record.{written}
 use Rattle.plan.specs.declared.Written.{Written}
 use Rattle.plan.specs.declared.Written.the-variants as plan
-use Rattle.plan.specs.Written.{answerOf, putOf, Writing, kept, front, writtenIn, Writes}
+use Rattle.plan.specs.Written.{answerOf, putOf, Writing, writtenIn, Writes}
 use Rattle.round_trips.proofs.LentDiffer.{lent-record}
 use Rattle.reader.specs.declared.Reading.{Reading}
 use Rattle.reader.specs.declared.Reading.the-variants as reading
-use Rattle.reader.specs.Reader.{answerTo, leftIn, Answers}
+use Rattle.reader.specs.Reader.{answerTo, Answers}
 use Rattle.link.specs.declared.Answer.{Answer}
-use Rattle.link.specs.Link.{refusalNumber, refusalPlace, outcomeNumber, recorded, readAs, readFor, writtenAs, allowedFor, Put}
+use Rattle.link.specs.Link.{refusalNumber, refusalPlace, outcomeNumber, recorded, readAs, readFor, allowedFor, Put}
 use Rattle.link.proofs.Sizes.{PlacedBy, read-placed, encoded-small}
 
 -- ---- reading
@@ -42,23 +41,23 @@ answer-small : (v : Verdict) (n : ℕ) → PlacedBy 8192 v → Small (answerTo v
 answer-small (refused x) n h = h
 answer-small (understood u) n h = on-pick Small (leb 2662 n) tt tt
 
-in-numbers : (d : List ℕ) (v : Verdict) {r : Reading} {m : List ℕ} → Answers Release18 v d r m → Put (readAs d v) (numbersOf r) m
+in-numbers : (k : Edition) (d : List ℕ) (v : Verdict) {r : Reading} {m : List ℕ} → Answers k v d r m → Put (readAs k d v) (numbersOf r) m
 unfolding recorded
-in-numbers d (refused x) h = record { answer = ap numbersOf (h .0); room = h .1 }
-in-numbers d (understood u) {r} {m} h = by (leb 2662 (length d)) refl
+in-numbers k d (refused x) h = record { answer = ap numbersOf (h .0); room = h .1 }
+in-numbers k d (understood u) {r} {m} h = by (leb 2662 (length d)) refl
   where
-    by : (b : Bool) → leb 2662 (length d) ≡ b → Put (readAs d (understood u)) (numbersOf r) m
-    by true q = let k = rw q at h in rw q (record { answer = ap numbersOf (k .0); room = k .1 })
-    by false q = let k = rw q at h in rw q (record { answer = ap numbersOf (k .0); room = k .1 })
+    by : (b : Bool) → leb 2662 (length d) ≡ b → Put (readAs k d (understood u)) (numbersOf r) m
+    by true q = let z = rw q at h in rw q (record { answer = ap numbersOf (z .0); room = z .1 })
+    by false q = let z = rw q at h in rw q (record { answer = ap numbersOf (z .0); room = z .1 })
 
-module _ (s d : List ℕ) {r : Reading} {m : List ℕ} (h : Answers Release18 (readOf Release18 every s) d r m) where
+module _ (k : Edition) (s d : List ℕ) {r : Reading} {m : List ℕ} (h : Answers k (readOf k every s) d r m) where
   -- as r says
-  pub put-read : {y : Reading} → r ≡ y → {a : Answer} → a ≡ numbersOf y → Put (readFor s d) a m
+  pub put-read : {y : Reading} → r ≡ y → {a : Answer} → a ≡ numbersOf y → Put (readFor k s d) a m
   unfolding readFor
-  put-read {y} e {a} q = let p = in-numbers d (readOf Release18 every s) h in record { answer = q ∙ (ap numbersOf (sym e) ∙ p .answer); room = p .room }
+  put-read {y} e {a} q = let p = in-numbers k d (readOf k every s) h in record { answer = q ∙ (ap numbersOf (sym e) ∙ p .answer); room = p .room }
 
   pub refusal-small : {x : Refusal} → r ≡ reading.Refused x → refusalPlace x ≤ 8192
-  refusal-small e = subst Small (sym (h .0) ∙ e) (answer-small (readOf Release18 every s) (length d) (read-placed Release18 every 8192 s (λ l. l)))
+  refusal-small e = subst Small (sym (h .0) ∙ e) (answer-small (readOf k every s) (length d) (read-placed k every 8192 s (λ l. l)))
 
 -- ---- writing
 
@@ -72,18 +71,18 @@ unfolding writtenIn
 put-small d none h = tt
 put-small d (octets os) h = on-pick (λ (w : Writing). SmallPut (w .answer)) (leb (length os) (length d)) (h os refl) tt
 
-written-small : (s values os : List ℕ) → written Release18 s values ≡ octets os → length os ≤ 8192
-written-small s values os q = let r = lent-record Release18 s values os q in encoded-small Release18 (saidBy values (r .what)) os (r .message)
+written-small : (k : Edition) (s values os : List ℕ) → written k s values ≡ octets os → length os ≤ 8192
+written-small k s values os q = let r = lent-record k s values os q in encoded-small k (saidBy values (r .what)) os (r .message)
 
-module _ (s values d : List ℕ) {x : Written} {m : List ℕ} (h : Writes (writtenIn d (written Release18 s values)) x m) where
+module _ (k : Edition) (s values d : List ℕ) {x : Written} {m : List ℕ} (h : Writes (writtenIn d (written k s values)) x m) where
   pub octets-small : {n : ℕ} → x ≡ plan.Done n → n < 2 ^ 32
   octets-small e =
-      let z = subst SmallPut (sym (h .answer) ∙ e) (put-small d (written Release18 s values) (written-small s values)) in
+      let z = subst SmallPut (sym (h .answer) ∙ e) (put-small d (written k s values) (written-small k s values)) in
       omega arith
 
   -- as x says
-  pub put-written : {y : Written} → x ≡ y → {a : Answer} → a ≡ record { answer = answerOf y; place = 0; octets = putOf y; bit = 0; wait = 0 } → Put (allowedFor s values d) a m
+  pub put-written : {y : Written} → x ≡ y → {a : Answer} → a ≡ record { answer = answerOf y; place = 0; octets = putOf y; bit = 0; wait = 0 } → Put (allowedFor k s values d) a m
   unfolding allowedFor
   put-written {y} e {a} q =
-      let z : y ≡ writtenIn d (written Release18 s values) .answer = sym e ∙ h .answer in
+      let z : y ≡ writtenIn d (written k s values) .answer = sym e ∙ h .answer in
       record { answer = q ∙ ap (λ (w : Written). record { answer = answerOf w; place = 0; octets = putOf w; bit = 0; wait = 0 }) z; room = h .room }

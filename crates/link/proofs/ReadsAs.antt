@@ -11,11 +11,11 @@ use Rattle.octets.specs.Read.{Read, got, stop}
 use Rattle.octets.specs.declared.Stop.the-variants.{Fault, Extension}
 use Rattle.frames.specs.declared.Frame.{Frame}
 use Rattle.frames.specs.Frame.{frameAt, countAt}
-use Rattle.editions.specs.declared.Edition.the-variants.{Release18}
+use Rattle.editions.specs.declared.Edition.{Edition}
 use Rattle.editions.specs.declared.Message.{Message}
 use Rattle.editions.specs.declared.Named.{Named}
 use Rattle.editions.specs.declared.Named.the-variants as named
-use Rattle.editions.specs.Editions.{tableOf, namedBy}
+use Rattle.editions.specs.Editions.{tableOf, containerOf, namedBy}
 use Rattle.meaning.specs.Value.{Record}
 use Rattle.meaning.specs.Reading.{valuesIn}
 use Rattle.layout.specs.Record.{recordOut}
@@ -42,54 +42,55 @@ first-is s d f i b e = ap (λ (b : Bool). pick b (1 when b reply none) (behind d
 abbrev opening : Inside → Read Opening → MaybeInside
 opening x o = inside (record { ask = x .ask; opened = o; outcome = x .outcome; seen = x .seen })
 
-module _ (s d : List ℕ) (f : Frame) where
-  abbrev due : MaybeInside → ℕ
-  due i = behind d (got f) i .number
+module _ (e : Edition) where
+  module _ (s d : List ℕ) (f : Frame) where
+    abbrev due : MaybeInside → ℕ
+    due i = behind d (got f) i .number
 
-  judged-due : (b : Bool) (x : Outcome) (r : Record)
-      → pick b (given (outcomeNumber x) 0 2662 (recordOut Release18 r d)) (given 10 0 0 d) .answer .answer
-      ≡ firstDue (0 when true reply none) (10 when not b reply none ∷ 5 when notAccepted x reply none ∷ []) .number
-  judged-due true outcome.Accepted r = refl
-  judged-due true (outcome.Misplaced k) r = refl
-  judged-due true outcome.Rejected r = refl
-  judged-due false x r = refl
+    judged-due : (b : Bool) (x : Outcome) (r : Record)
+        → pick b (given (outcomeNumber x) 0 2662 (recordOut e r d)) (given 10 0 0 d) .answer .answer
+        ≡ firstDue (0 when true reply none) (10 when not b reply none ∷ 5 when notAccepted x reply none ∷ []) .number
+    judged-due true outcome.Accepted r = refl
+    judged-due true (outcome.Misplaced k) r = refl
+    judged-due true outcome.Rejected r = refl
+    judged-due false x r = refl
 
-  judged : (o : Opening) (q : Ask) (x : Outcome) (y : Seen) (r : Record)
-      → recorded (outcomeNumber x) r d .answer .answer ≡ due (inside (record { ask = q; opened = got o; outcome = x; seen = y }))
-  unfolding recorded
-  judged o q x y r = judged-due (leb 2662 (length d)) x r
+    judged : (o : Opening) (q : Ask) (x : Outcome) (y : Seen) (r : Record)
+        → recorded e (outcomeNumber x) r d .answer .answer ≡ due (inside (record { ask = q; opened = got o; outcome = x; seen = y }))
+    unfolding recorded
+    judged o q x y r = judged-due (leb 2662 (length d)) x r
 
-  module _ (m : Message) (name : namedBy Release18 (f .kind) (f .code) ≡ named.Is m) where
-    abbrev within : Inside
-    within = judgedIn (tableOf Release18 m) s (f .from) (countedBy (countAt s (f .from))) (askOf m)
+    module _ (m : Message) (name : namedBy e (f .kind) (f .code) ≡ named.Is m) where
+      abbrev within : Inside
+      within = judgedIn (tableOf e m) (containerOf e m) s (f .from) (countedBy (countAt (containerOf e m) s (f .from))) (askOf m)
 
-    stopped : (o : Read Opening) → openedAt (tableOf Release18 m) s (f .from) ≡ o → due (opening within o) ≡ due (insideBy Release18 s (got f))
-    stopped o q = sym (ap (λ (n : Named). due (insideOf Release18 s f n)) name ∙ ap (λ (x : Read Opening). due (opening within x)) q)
+      stopped : (o : Read Opening) → openedAt (tableOf e m) (containerOf e m) s (f .from) ≡ o → due (opening within o) ≡ due (insideBy e s (got f))
+      stopped o q = sym (ap (λ (n : Named). due (insideOf e s f n)) name ∙ ap (λ (x : Read Opening). due (opening within x)) q)
 
-    opened : (o : Read Opening) → openedAt (tableOf Release18 m) s (f .from) ≡ o
-        → readAs d (verdictOf (tableOf Release18 m) m f s o) .answer .answer ≡ due (insideBy Release18 s (got f))
-    opened (got o) q =
-        judged o (askOf m) (o .outcome) (seen (valuesIn (tableOf Release18 m) s (o .spans))) (understoodBy (tableOf Release18 m) m f s o .what)
-        ∙ sym (ap due (inside-is Release18 s f m name o q))
-    opened (stop (Fault p)) q = stopped (stop (Fault p)) q
-    opened (stop (Extension p)) q = stopped (stop (Extension p)) q
+      opened : (o : Read Opening) → openedAt (tableOf e m) (containerOf e m) s (f .from) ≡ o
+          → readAs e d (verdictOf (tableOf e m) m f s o) .answer .answer ≡ due (insideBy e s (got f))
+      opened (got o) q =
+          judged o (askOf m) (o .outcome) (seen (valuesIn (tableOf e m) s (o .spans))) (understoodBy (tableOf e m) m f s o .what)
+          ∙ sym (ap due (inside-is e s f m name o q))
+      opened (stop (Fault p)) q = stopped (stop (Fault p)) q
+      opened (stop (Extension p)) q = stopped (stop (Extension p)) q
 
-  by-name : (n : Named) → namedBy Release18 (f .kind) (f .code) ≡ n → readAs d (ofThose Release18 every s f n) .answer .answer ≡ due (insideBy Release18 s (got f))
-  by-name (named.Is m) name = opened m name (openedAt (tableOf Release18 m) s (f .from)) refl
-  by-name named.Other name = sym (ap (λ (n : Named). due (insideOf Release18 s f n)) name)
+    by-name : (n : Named) → namedBy e (f .kind) (f .code) ≡ n → readAs e d (ofThose e every s f n) .answer .answer ≡ due (insideBy e s (got f))
+    by-name (named.Is m) name = opened m name (openedAt (tableOf e m) (containerOf e m) s (f .from)) refl
+    by-name named.Other name = sym (ap (λ (n : Named). due (insideOf e s f n)) name)
 
-framed-as : (s d : List ℕ) (r : Read Frame) → readAs d (framed Release18 every s r) .answer .answer ≡ behind d r (insideBy Release18 s r) .number
-framed-as s d (got f) = by-name s d f (namedBy Release18 (f .kind) (f .code)) refl
-framed-as s d (stop (Fault p)) = refl
-framed-as s d (stop (Extension p)) = refl
+  framed-as : (s d : List ℕ) (r : Read Frame) → readAs e d (framed e every s r) .answer .answer ≡ behind d r (insideBy e s r) .number
+  framed-as s d (got f) = by-name s d f (namedBy e (f .kind) (f .code)) refl
+  framed-as s d (stop (Fault p)) = refl
+  framed-as s d (stop (Extension p)) = refl
 
-pub reads-as : ReadsAs
-unfolding readFor readOf
-reads-as s d = by (ltb 8192 (length s)) refl
-  where
-    by : (b : Bool) → ltb 8192 (length s) ≡ b → readAs d (pick (ltb 8192 (length s)) (refused refusal.TooLong) (framed Release18 every s (frameAt s))) .answer .answer
-        ≡ readDueFor s (frameAt s) (insideBy Release18 s (frameAt s)) d .number
-    by true e = ap (λ (b : Bool). readAs d (pick b (refused refusal.TooLong) (framed Release18 every s (frameAt s))) .answer .answer) e ∙ sym (first-is s d (frameAt s) (insideBy Release18 s (frameAt s)) true e)
-    by false e =
-        ap (λ (b : Bool). readAs d (pick b (refused refusal.TooLong) (framed Release18 every s (frameAt s))) .answer .answer) e
-        ∙ (framed-as s d (frameAt s) ∙ sym (first-is s d (frameAt s) (insideBy Release18 s (frameAt s)) false e))
+  pub reads-as : ReadsAs e
+  unfolding readFor readOf
+  reads-as s d = by (ltb 8192 (length s)) refl
+    where
+      by : (b : Bool) → ltb 8192 (length s) ≡ b → readAs e d (pick (ltb 8192 (length s)) (refused refusal.TooLong) (framed e every s (frameAt s))) .answer .answer
+          ≡ readDueFor s (frameAt s) (insideBy e s (frameAt s)) d .number
+      by true z = ap (λ (b : Bool). readAs e d (pick b (refused refusal.TooLong) (framed e every s (frameAt s))) .answer .answer) z ∙ sym (first-is s d (frameAt s) (insideBy e s (frameAt s)) true z)
+      by false z =
+          ap (λ (b : Bool). readAs e d (pick b (refused refusal.TooLong) (framed e every s (frameAt s))) .answer .answer) z
+          ∙ (framed-as s d (frameAt s) ∙ sym (first-is s d (frameAt s) (insideBy e s (frameAt s)) false z))

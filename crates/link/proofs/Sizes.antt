@@ -3,7 +3,7 @@
 use Prim.Native.Nat.{ℕ, _^_, _<_, _≤_}
 use mathlib.Core.Path.{_≡_, refl, ap, _∙_}
 use mathlib.Core.Bool.{Bool, true, false, not, _&&_}
-use mathlib.Core.List.{List, []}
+use mathlib.Core.List.{List}
 use native.Mathlib.Omega.{arith}
 use borrow.Author.Tests.{leb-true, ltb-false}
 use lib.Dec.{ltb}
@@ -23,7 +23,7 @@ use Rattle.editions.specs.declared.Edition.{Edition}
 use Rattle.editions.specs.declared.Message.{Message}
 use Rattle.editions.specs.declared.Named.{Named}
 use Rattle.editions.specs.declared.Named.the-variants as named
-use Rattle.editions.specs.Editions.{tableOf, namedBy}
+use Rattle.editions.specs.Editions.{tableOf, containerOf, namedBy}
 use Rattle.frames.specs.declared.Frame.{Frame}
 use Rattle.frames.specs.Frame.{frameAt}
 use Rattle.meaning.specs.Value.{Said}
@@ -72,7 +72,7 @@ module _ (e : Edition) (among : Message → Bool) (n : ℕ) where
 
     those-placed : (f : Frame) (m : Named) → f .from ≤ n → PlacedBy n (ofThose e among s f m)
     those-placed f (named.Is m) i =
-        on-pick (PlacedBy n) (among m) (opening-placed (tableOf e m) m f (openedAt (tableOf e m) s (f .from)) (opened-near n s l (tableOf e m) (f .from) i)) (nothing-placed NotAmong refl)
+        on-pick (PlacedBy n) (among m) (opening-placed (tableOf e m) m f (openedAt (tableOf e m) (containerOf e m) s (f .from)) (opened-near n s l (tableOf e m) (containerOf e m) (f .from) i)) (nothing-placed NotAmong refl)
     those-placed f named.Other i = nothing-placed NotAmong refl
 
     framed-placed : (r : Read Frame) → r ≡ frameAt s → Near n r → PlacedBy n (framed e among s r)

@@ -3,3 +3,4 @@ pub mod Promised
 pub mod ReadsAs
 pub mod Again
 pub mod SetsUpAs
+pub mod Warnings

@@ -1,4 +1,4 @@
--- The call, the reader, the writer, the setup and the shown name as a link process in C has them, in the edition of Release 18.
+-- The call, the reader, the writer, the setup and the shown name as a process in C has them; reading and writing in any edition.
 use Prim.Native.Nat.{ℕ, _-_}
 use mathlib.Core.Path.{_≡_}
 use mathlib.Core.List.{List}
@@ -6,7 +6,7 @@ use lib.Dec.{leb}
 use lib.ListN.{length}
 use Rattle.lists.specs.Lists.{pick}
 use Rattle.octets.specs.declared.Stop.the-variants.{Fault, Extension}
-use Rattle.editions.specs.declared.Edition.the-variants.{Release18}
+use Rattle.editions.specs.declared.Edition.{Edition}
 use Rattle.verdicts.specs.declared.Refusal.{Refusal}
 use Rattle.verdicts.specs.declared.Refusal.the-variants.{TooLong, Stopped, NotAmong}
 use Rattle.verdicts.specs.declared.Outcome.{Outcome}
@@ -63,26 +63,26 @@ outcomeNumber (Misplaced k) = 5
 outcomeNumber Rejected = 5
 
 -- the record stands in front of the room, or does not fit
-unfoldable pub recorded : ℕ → Record → List ℕ → Given
-recorded n r d = pick (leb 2662 (length d)) (given n 0 2662 (recordOut Release18 r d)) (given 10 0 0 d)
+unfoldable pub recorded : Edition → ℕ → Record → List ℕ → Given
+recorded e n r d = pick (leb 2662 (length d)) (given n 0 2662 (recordOut e r d)) (given 10 0 0 d)
 
 -- there is a record where the message was understood, its elements rejected or not
-abbrev pub readAs : List ℕ → Verdict → Given
-readAs d (refused x) = given (refusalNumber x) (refusalPlace x) 0 d
-readAs d (understood u) = recorded (outcomeNumber (u .outcome)) (u .what) d
+abbrev pub readAs : Edition → List ℕ → Verdict → Given
+readAs e d (refused x) = given (refusalNumber x) (refusalPlace x) 0 d
+readAs e d (understood u) = recorded e (outcomeNumber (u .outcome)) (u .what) d
 
-unfoldable pub readFor : List ℕ → List ℕ → Given
-readFor s d = readAs d (readOf Release18 every s)
+unfoldable pub readFor : Edition → List ℕ → List ℕ → Given
+readFor e s d = readAs e d (readOf e every s)
 
 abbrev pub writtenAs : Writing → Given
 writtenAs w = given (plan.answerOf (w .answer)) 0 (plan.putOf (w .answer)) (w .room)
 
-unfoldable pub allowedFor : List ℕ → List ℕ → List ℕ → Given
-allowedFor s values d = writtenAs (writtenIn d (written Release18 s values))
+unfoldable pub allowedFor : Edition → List ℕ → List ℕ → List ℕ → Given
+allowedFor e s values d = writtenAs (writtenIn d (written e s values))
 
 -- 12 comes before 11 and 10
-unfoldable pub writeFor : List ℕ → List ℕ → List ℕ → Given
-writeFor s values d = pick (nameRefused Release18 s values) (given 12 0 0 d) (allowedFor s values d)
+unfoldable pub writeFor : Edition → List ℕ → List ℕ → List ℕ → Given
+writeFor e s values d = pick (nameRefused e s values) (given 12 0 0 d) (allowedFor e s values d)
 
 -- what a setup comes back with, in numbers
 pub record SetupHanded (b : SetupDone) (r : Answer) (t d : List ℕ) : Type 0 where

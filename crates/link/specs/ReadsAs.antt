@@ -9,7 +9,7 @@ use lib.ListN.{length}
 use Rattle.octets.specs.Read.{Read}
 use Rattle.frames.specs.declared.Frame.{Frame}
 use Rattle.frames.specs.Frame.{frameAt}
-use Rattle.editions.specs.declared.Edition.the-variants.{Release18}
+use Rattle.editions.specs.declared.Edition.{Edition}
 use Rattle.demands.specs.Due.{Due, none, _when_reply_, firstDue, faulty, extended, of, notAccepted, MaybeInside, insideBy}
 use Rattle.link.specs.Link.{readFor}
 
@@ -27,5 +27,5 @@ readRefusals f i d =
 abbrev pub readDueFor : List ℕ → Read Frame → MaybeInside → List ℕ → Due
 readDueFor s f i d = firstDue (0 when true reply none) (1 when ltb 8192 (length s) reply none ∷ readRefusals f i d)
 
-abbrev pub ReadsAs : Type 0
-ReadsAs = (s d : List ℕ) → readFor s d .answer .answer ≡ readDueFor s (frameAt s) (insideBy Release18 s (frameAt s)) d .number
+abbrev pub ReadsAs : Edition → Type 0
+ReadsAs e = (s d : List ℕ) → readFor e s d .answer .answer ≡ readDueFor s (frameAt s) (insideBy e s (frameAt s)) d .number

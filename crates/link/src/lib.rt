@@ -1,10 +1,10 @@
-// The reader, the writer, the table call, the setup call and the shown name for a link process in C, which hands over octets and numbers.
-// include/m3ap.h is the header.
+// The reader, the writer, the table call, the setup call and the shown name for a link process in C, which hands over octets and numbers; and the reader and
+// the writer of warnings over SBc-AP. include/m3ap.h and include/sbcap.h are the headers.
 ghost use mathlib.Core.Path.{_≡_};
 ghost use Prim.Native.Nat.{_≤_};
 ghost use Rattle.lists.specs.Lists.{pick};
 ghost use Rattle.calls.specs.Call.{call};
-ghost use Rattle.editions.specs.declared.Edition.the-variants.{Release18};
+ghost use Rattle.editions.specs.declared.Edition.the-variants.{Release18, Warnings, WarningsLab};
 ghost use Rattle.link.specs.Link.{Handed, refusalNumber, refusalPlace, readFor, allowedFor, writeFor, SetupHanded, partFor, Put};
 ghost use Rattle.setup.specs.Setup.{setup};
 ghost use Rattle.shown.specs.Shown.{shownPart};
@@ -101,12 +101,11 @@ fn recorded(answer: u32) -> Answer
     }
 }
 
-// Reads a message. With 0 and 5 the record of what was read stands in front of the room.
-#[no_mangle]
-pub extern "C" fn m3ap_read(message: &[u8], room: &mut [u8]) -> Answer
-    ensures { λ r. ⌜ Put (readFor (now (message .entry)) (now (room .entry))) r (now (room .exit)) ⌝ }
+// Reads a message of an edition. With 0 and 5 the record of what was read stands in front of the room.
+fn read_in(e: Edition, message: &[u8], room: &mut [u8]) -> Answer
+    ensures { λ r. ⌜ Put (readFor e (now (message .entry)) (now (room .entry))) r (now (room .exit)) ⌝ }
 {
-    match reader::read(Edition::Release18, message, room) {
+    match reader::read(e, message, room) {
         Reading::Refused(x) => refused(x),
         Reading::NoRoom => plain(10, 0),
         Reading::Put(o) => match o {
@@ -118,10 +117,10 @@ pub extern "C" fn m3ap_read(message: &[u8], room: &mut [u8]) -> Answer
 }
 
 // What becomes of a record whose name is not refused.
-fn write_allowed(said: &[u8], values: &[u8], room: &mut [u8]) -> Answer
-    ensures { λ r. ⌜ Put (allowedFor (now (said .entry)) (now (values .entry)) (now (room .entry))) r (now (room .exit)) ⌝ }
+fn write_allowed(e: Edition, said: &[u8], values: &[u8], room: &mut [u8]) -> Answer
+    ensures { λ r. ⌜ Put (allowedFor e (now (said .entry)) (now (values .entry)) (now (room .entry))) r (now (room .exit)) ⌝ }
 {
-    match put_message::write(Edition::Release18, said, values, room) {
+    match put_message::write(e, said, values, room) {
         Written::Done(n) => Answer {
             answer: 0,
             place: 0,
@@ -134,15 +133,28 @@ fn write_allowed(said: &[u8], values: &[u8], room: &mut [u8]) -> Answer
     }
 }
 
-// Writes the record that octets are. Its name and its carried values lie in values.
-#[no_mangle]
-pub extern "C" fn m3ap_write(said: &[u8], values: &[u8], room: &mut [u8]) -> Answer
-    ensures { λ r. ⌜ Put (writeFor (now (said .entry)) (now (values .entry)) (now (room .entry))) r (now (room .exit)) ⌝ }
+// Writes the record that octets are in an edition. Its name and its carried values lie in values.
+fn write_in(e: Edition, said: &[u8], values: &[u8], room: &mut [u8]) -> Answer
+    ensures { λ r. ⌜ Put (writeFor e (now (said .entry)) (now (values .entry)) (now (room .entry))) r (now (room .exit)) ⌝ }
 {
-    if record_form::name_refused(Edition::Release18, said, values) {
+    if record_form::name_refused(e, said, values) {
         return plain(12, 0);
     }
-    write_allowed(said, values, room)
+    write_allowed(e, said, values, room)
+}
+
+#[no_mangle]
+pub extern "C" fn m3ap_read(message: &[u8], room: &mut [u8]) -> Answer
+    ensures { λ r. ⌜ Put (readFor Release18 (now (message .entry)) (now (room .entry))) r (now (room .exit)) ⌝ }
+{
+    read_in(Edition::Release18, message, room)
+}
+
+#[no_mangle]
+pub extern "C" fn m3ap_write(said: &[u8], values: &[u8], room: &mut [u8]) -> Answer
+    ensures { λ r. ⌜ Put (writeFor Release18 (now (said .entry)) (now (values .entry)) (now (room .entry))) r (now (room .exit)) ⌝ }
+{
+    write_in(Edition::Release18, said, values, room)
 }
 
 // Writes the request that the record says, and marks it open.
@@ -181,4 +193,34 @@ pub extern "C" fn m3ap_shown(request: &[u8], label: &[u8]) -> Part
         from: v.from as u32,
         octets: (v.to - v.from) as u32,
     }
+}
+
+// ---- warnings over SBc-AP, in the ordinary profile and in the lab's
+
+#[no_mangle]
+pub extern "C" fn sbcap_read(message: &[u8], room: &mut [u8]) -> Answer
+    ensures { λ r. ⌜ Put (readFor Warnings (now (message .entry)) (now (room .entry))) r (now (room .exit)) ⌝ }
+{
+    read_in(Edition::Warnings, message, room)
+}
+
+#[no_mangle]
+pub extern "C" fn sbcap_read_lab(message: &[u8], room: &mut [u8]) -> Answer
+    ensures { λ r. ⌜ Put (readFor WarningsLab (now (message .entry)) (now (room .entry))) r (now (room .exit)) ⌝ }
+{
+    read_in(Edition::WarningsLab, message, room)
+}
+
+#[no_mangle]
+pub extern "C" fn sbcap_write(said: &[u8], values: &[u8], room: &mut [u8]) -> Answer
+    ensures { λ r. ⌜ Put (writeFor Warnings (now (said .entry)) (now (values .entry)) (now (room .entry))) r (now (room .exit)) ⌝ }
+{
+    write_in(Edition::Warnings, said, values, room)
+}
+
+#[no_mangle]
+pub extern "C" fn sbcap_write_lab(said: &[u8], values: &[u8], room: &mut [u8]) -> Answer
+    ensures { λ r. ⌜ Put (writeFor WarningsLab (now (said .entry)) (now (values .entry)) (now (room .entry))) r (now (room .exit)) ⌝ }
+{
+    write_in(Edition::WarningsLab, said, values, room)
 }

@@ -99,7 +99,7 @@ howMany [] = 0
 howMany (given v ∷ vs) = suc (howMany vs)
 howMany (absent ∷ vs) = howMany vs
 
--- no extension; how many elements; the elements
+-- no extension, and where a container can stand beside the elements, none; how many elements; the elements
 unfoldable pub insideOctets : List Row → List (Given (List ℕ)) → List ℕ
 insideOctets t vs = packed (bit false ∷ []) ∷ (numberOctets 2 (howMany vs) ++ elementsOctets t vs)
 

@@ -23,6 +23,8 @@ use Rattle.octets.proofs.three_at.Kinds as three-at'
 use Rattle.octets.proofs.three_at.Reads as three-at
 use Rattle.octets.proofs.same_at.Kinds as same-at'
 use Rattle.octets.proofs.same_at.Reads as same-at
+use Rattle.octets.proofs.below_at.Kinds as below-at'
+use Rattle.octets.proofs.below_at.Reads as below-at
 use Rattle.octets.proofs.length_at.Kinds as length-at'
 use Rattle.octets.proofs.length_at.Reads as length-at
 use Rattle.octets.proofs.open_at.Kinds as open-at'
@@ -71,6 +73,9 @@ three-at-is κs a p x y e f = one-three (e same f) & refl
 
 pub same-at-is : Determined same-at'.ps same-at'.r same-at.Asked same-at.Learnt
 same-at-is κs a p x y e f = one-gate (e same f) & refl
+
+pub below-at-is : Determined below-at'.ps below-at'.r below-at.Asked below-at.Learnt
+below-at-is κs a p x y e f = one-two (e same f) & refl
 
 pub length-at-is : Determined length-at'.ps length-at'.r length-at.Asked length-at.Learnt
 length-at-is κs a p x y e f = one-length (e same f) & refl

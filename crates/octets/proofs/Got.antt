@@ -11,7 +11,7 @@ use lib.ListN.{length, getD}
 use lib.Seq.{slice}
 use Rattle.lists.specs.Lists.{pick}
 use Rattle.octets.specs.Read.{Read, got, stop, noMeaning}
-use Rattle.octets.specs.Field.{bitsAt, there, flagAt, plainAt, choiceAt, padAt, valueAt, numberAt, stringAt, sameAt, longAt, longLengthAt, lengthAt, openAt, endsAt}
+use Rattle.octets.specs.Field.{bitsAt, there, flagAt, plainAt, choiceAt, padAt, valueAt, numberAt, stringAt, sameAt, belowAt, longAt, longLengthAt, lengthAt, openAt, endsAt}
 use Rattle.octets.specs.declared.Stop.{Stop}
 use Rattle.octets.specs.declared.Counted.{Counted}
 use Rattle.octets.specs.declared.Span.{Span}
@@ -69,6 +69,13 @@ module _ (s : List ℕ) (at : ℕ) where
       let t = then-got (numberAt 2 s at) _ q in
       let p = number-got 2 (t .1) in
       (p .0, sym (eqb-true (t .0) v (held (eqb (t .0) v) _ _ (t .2) .0)) ∙ p .1)
+
+  pub below-got : (n : ℕ) {v : ℕ} → got v ≡ belowAt n s at → (at + 2 ≤ length s) × (v < n)
+  unfolding belowAt
+  below-got n {v} q =
+      let t = then-got (numberAt 2 s at) _ q in
+      let h = held (ltb (t .0) n) _ _ (t .2) in
+      (number-got 2 (t .1) .0, rw (← same-got (h .1)) at (ltb-true (t .0) n (h .0)))
 
   pub ends-got : got tt ≡ endsAt s at → length s ≤ at
   unfolding endsAt

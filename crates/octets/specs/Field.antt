@@ -50,6 +50,10 @@ stringAt k s at = there k s at (got (slice at (at + k) s))
 unfoldable pub sameAt : ℕ → List ℕ → ℕ → Read Unit
 sameAt v s at = numberAt 2 s at >>= λ x. pick (eqb x v) (got tt) (stop (noMeaning at))
 
+-- two octets that say a number below n
+unfoldable pub belowAt : ℕ → List ℕ → ℕ → Read ℕ
+belowAt n s at = numberAt 2 s at >>= λ x. pick (ltb x n) (got x) (stop (noMeaning at))
+
 -- a length in fourteen bits: the low six of an octet, and the next octet
 abbrev pub longAt : List ℕ → ℕ → ℕ
 longAt s at = bitsAt s at 2 6 * 256 + getD s (at + 1) 0

@@ -8,7 +8,7 @@ ghost use lib.ListN.{length, replicate};
 ghost use lib.Seq.{slice};
 ghost use Rattle.octets.specs.Read.{cutShort, noMeaning, leftOver, extended};
 ghost use Rattle.octets.specs.Found.{foundGate, foundFlag, foundOctet, foundTwo, foundThree, foundLength, foundOpen};
-ghost use Rattle.octets.specs.Field.{flagAt, plainAt, choiceAt, padAt, numberAt, stringAt, sameAt, lengthAt, longLengthAt, openAt, endsAt};
+ghost use Rattle.octets.specs.Field.{flagAt, plainAt, choiceAt, padAt, numberAt, stringAt, sameAt, belowAt, lengthAt, longLengthAt, openAt, endsAt};
 ghost use Rattle.octets.specs.Write.{numberOctets, lengthOctets, Wrote};
 
 // Where a field at fault begins, counted from the first octet handed in.
@@ -203,6 +203,21 @@ pub fn same_at(v: u16, s: &[u8], at: usize) -> Gate
             Gate::Stop(no_meaning(at))
         }
         Two::Stop(x) => Gate::Stop(x),
+    }
+}
+
+// Two octets that say a number below n.
+pub fn below_at(n: u16, s: &[u8], at: usize) -> Two
+    ensures { λ r. ⌜ foundTwo r ≡ belowAt n (now (s .entry)) at ⌝ }
+{
+    match two_at(s, at) {
+        Two::Is(v) => {
+            if v < n {
+                return Two::Is(v);
+            }
+            Two::Stop(no_meaning(at))
+        }
+        Two::Stop(x) => Two::Stop(x),
     }
 }
 

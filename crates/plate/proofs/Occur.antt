@@ -1,6 +1,6 @@
 -- Each answer of the setup call occurs: a record is read back as what it says, and the rest is computed.
 -- Assumes nothing.
-use Prim.Native.Nat.{ℕ, _≤_, _<_}
+use Prim.Native.Nat.{ℕ, _<_}
 use mathlib.Core.Path.{_≡_, refl, ap, _∙_}
 use mathlib.Core.Bool.{Bool, true, false}
 use mathlib.Core.List.{List, [], _∷_, List·Memᴰ·not-nil}
@@ -12,12 +12,11 @@ use Rattle.packed.specs.Packed.{packedIn}
 use Rattle.octets.specs.Write.{numberOctets, lengthOctets}
 use Rattle.editions.specs.declared.Edition.the-variants.{Release18}
 use Rattle.editions.specs.declared.Message.the-variants as message
-use Rattle.editions.specs.Editions.{release18, firstOf, numberedBy}
-use Rattle.editions.proofs.Listed.{number-names}
+use Rattle.editions.specs.Editions.{printed, firstOf, numberedBy}
 use Rattle.editions.proofs.Tables.{table-lawful}
 use Rattle.names.specs.Names.{printable, nameAllowed}
 use Rattle.names.specs.Written.{nameOctets}
-use Rattle.meaning.specs.Value.{Record, onCarried, saidBy}
+use Rattle.meaning.specs.Value.{onCarried, saidBy}
 use Rattle.meaning.specs.Written.{none, octetsOf, hasOctets, elementsOctets, elementsGood, howMany, insideOctets, messageOctets, encoded}
 use Rattle.layout.specs.Held.{Held}
 use Rattle.layout.specs.Record.{LentRecord, isRecord, noRecord, recordOctets, readRecord, writtenBy, written, nameRefusedBy, nameRefused}
@@ -38,9 +37,9 @@ good : (b : Bool) → GoodUnit (withOpen b fresh)
 good b = record { held = no-rows }
 
 held : (n : ℕ) → n < 65530 → Held Release18 (requestRecord n)
-unfolding release18
+unfolding printed numberedBy firstOf
 held n h = record {
-  message = number-names Release18 message.SetupRequest;
+  message = refl;
   table = table-lawful Release18 message.SetupRequest;
   values = ((refl, (omega arith, omega arith, omega arith)), ((refl, (omega arith, omega arith, omega arith)), ((refl, (omega arith, omega arith, omega arith)), tt)));
 }
@@ -59,7 +58,7 @@ by-name : (b : Bool) (os d : List ℕ) → length os < 65530 → setup Release18
 by-name b os d h = by-record b (asking os d) ∙ ap (done b (unitOctets (withOpen b fresh)) (asking os d)) (record-back Release18 (requestRecord (length os)) (held (length os) h))
 
 pub every-setup : EverySetup
-unfolding recordOctets saidBy onCarried nameAllowed printable encoded messageOctets insideOctets elementsOctets elementsGood hasOctets octetsOf nameOctets howMany lengthOctets numberOctets packedIn release18 readRecord numberedBy firstOf setup
+unfolding recordOctets saidBy onCarried nameAllowed printable encoded messageOctets insideOctets elementsOctets elementsGood hasOctets octetsOf nameOctets howMany lengthOctets numberOctets packedIn printed readRecord numberedBy firstOf setup
 every-setup = record {
   opened = λ d h. by-name false (0x41 ∷ []) d (omega arith) ∙ rw (le-leb 31 (length d) h);
   longest = λ d h. ap (λ (x : SetupDone). x .answer) (by-name false (replicate 150 0x41) d (omega arith)) ∙ rw (le-leb 182 (length d) (omega arith));

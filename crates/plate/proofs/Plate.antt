@@ -14,7 +14,7 @@ use Rattle.lists.proofs.Tests.{or-left}
 use Rattle.octets.specs.declared.Span.{Span}
 use Rattle.editions.specs.declared.Edition.{Edition}
 use Rattle.editions.specs.declared.Message.{Message}
-use Rattle.editions.specs.Editions.{tableOf}
+use Rattle.editions.specs.Editions.{tableOf, containerOf}
 use Rattle.names.specs.Names.{nameAllowed}
 use Rattle.meaning.specs.Value as value
 use Rattle.meaning.specs.Value.{Given, given, absent, Said, octetsIn, onCarried, onGiven, saidBy}
@@ -122,7 +122,7 @@ among-those e p s u q h =
     rw (le-ltb 8192 (length s) (o .size))
     (ap (framed e p s) (sym (o .framed))
     ∙ (ap (ofThose e p s (u .frame)) (sym (o .named))
-    ∙ (ap (λ (b : Bool). pick b (verdictOf (tableOf e m) m (u .frame) s (openedAt (tableOf e m) s (u .frame .from))) (refused NotAmong)) h
+    ∙ (ap (λ (b : Bool). pick b (verdictOf (tableOf e m) m (u .frame) s (openedAt (tableOf e m) (containerOf e m) s (u .frame .from))) (refused NotAmong)) h
     ∙ (ap (verdictOf (tableOf e m) m (u .frame) s) (sym (o .read)) ∙ ap understood (o .is)))))
 
 -- ---- the plate

@@ -1,22 +1,22 @@
 -- A setup that was answered 0 wrote what its record says: it is a record of M3 SETUP REQUEST, its name is not refused, and the request is read back as what the record says.
 -- Assumes nothing.
 use Prim.Native.Nat.{ℕ}
-use mathlib.Core.Path.{_≡_, refl, sym, ap, subst, _∙_}
+use mathlib.Core.Path.{_≡_, refl, sym, ap, _∙_}
 use mathlib.Core.Bool.{Bool, true, false}
 use mathlib.Core.List.{List, _++_}
 use native.Mathlib.Omega.{arith}
 use borrow.Author.Tests.{eqb-true}
-use lib.Dec.{leb, eqb}
+use lib.Dec.{leb}
 use lib.ListN.{length, getD, take, drop}
 use lib.Seq.{take-append-seam}
 use Rattle.lists.specs.Lists.{pick}
 use Rattle.editions.specs.declared.Edition.{Edition}
+use Rattle.editions.specs.declared.Edition.the-variants.{Release18, Warnings, WarningsLab}
 use Rattle.editions.specs.declared.Message.{Message}
 use Rattle.editions.specs.declared.Message.the-variants as message
 use Rattle.editions.specs.declared.Named.the-variants as named
-use Rattle.editions.specs.Editions.{numberOf, numberedBy}
-use Rattle.editions.proofs.Listed.{number-names}
-use Rattle.meaning.specs.Value.{Said, saidBy}
+use Rattle.editions.specs.Editions.{printed, numberOf, firstOf, numberedBy}
+use Rattle.meaning.specs.Value.{saidBy}
 use Rattle.meaning.specs.Written.{Encoded, octets, none}
 use Rattle.layout.specs.Record.{written, nameRefused}
 use Rattle.units.specs.Unit.{Unit, withOpen, unitOctets, MaybeUnit, isUnit, noUnit, readUnit}
@@ -24,9 +24,9 @@ use Rattle.round_trips.specs.Ties.{ReadAs}
 use Rattle.round_trips.proofs.Back.{read-back}
 use Rattle.round_trips.proofs.LentDiffer.{Lent, lent-record, in-types}
 use Rattle.setup.specs.declared.SetupAnswer.{SetupAnswer}
-use Rattle.setup.specs.declared.SetupAnswer.the-variants.{Opened, NameNotAllowed, AlreadyOpen, NotWritten, NoRoom, NoUnit}
+use Rattle.setup.specs.declared.SetupAnswer.the-variants.{Opened, NameNotAllowed, AlreadyOpen, NoRoom}
 use Rattle.setup.specs.Setup.{setupNumber, Setup, SetupDone, refusing, isRequest, requestOf, opening, setupOn, setup}
-use Rattle.plate.specs.Plate.{LentOctets, Sent}
+use Rattle.plate.specs.Plate.{Sent}
 
 -- two answers by their numbers
 apart : {x y : SetupAnswer} {A : Type 0} → x ≡ y → (setupNumber x ≡ setupNumber y → ⊥) → A
@@ -81,6 +81,13 @@ request-record e c q h = by (isRequest e (c .said)) refl h
 same-name : {m n : Message} → named.Is m ≡ named.Is n → m ≡ n
 same-name q = cc
 
+-- what has its number is an M3 SETUP REQUEST; other editions have none
+numbered-nine : (e : Edition) {m : Message} → numberedBy e (numberOf e message.SetupRequest) ≡ named.Is m → m ≡ message.SetupRequest
+unfolding numberedBy firstOf printed
+numbered-nine Release18 q = same-name (sym q)
+numbered-nine Warnings q = absurd (let z : _≡_ {A = ℕ} 0 1 = cc in omega arith)
+numbered-nine WarningsLab q = absurd (let z : _≡_ {A = ℕ} 0 1 = cc in omega arith)
+
 pub record Written (e : Edition) (c : Setup) (q : List ℕ) : Type 0 where
   pub named : nameRefused e (c .said) (c .values) ≡ false
   pub lent : Lent e (c .said) (c .values) q
@@ -96,6 +103,6 @@ sent-written e t c q s =
     record {
       named = w .named;
       lent = l;
-      message = same-name (sym (l .named) ∙ (ap (numberedBy e) n ∙ number-names e message.SetupRequest));
+      message = numbered-nine e (sym (ap (numberedBy e) n) ∙ l .named);
       back = read-back e (saidBy (c .values) (l .what)) q (in-types e (c .said) (c .values) q (s .handed .said) (s .handed .values) l) (l .message);
     }

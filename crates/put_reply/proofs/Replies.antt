@@ -6,7 +6,7 @@ use mathlib.Core.List.{List, [], _∷_, _++_, map}
 use Prim.Native.Nat.{ℕ}
 use native.Mathlib.Omega.{arith}
 use borrow.Author.Tests.{le-leb, ltb-false}
-use lib.Dec.{leb, ltb}
+use lib.Dec.{leb}
 use lib.ListN.{length, drop, length-map}
 use Rattle.lists.specs.Lists.{pick}
 use Rattle.identity.specs.declared.MmeId.{MmeId}
@@ -20,11 +20,11 @@ use Rattle.values.specs.declared.Cause.{Cause}
 use Rattle.entries.specs.declared.Entry.{Entry}
 use Rattle.frames.specs.declared.Frame.{Frame}
 use Rattle.editions.specs.declared.Edition.{Edition}
-use Rattle.editions.specs.declared.Edition.the-variants.{Release18}
+use Rattle.editions.specs.declared.Edition.the-variants.{Release18, Warnings, WarningsLab}
 use Rattle.editions.specs.declared.Message.{Message}
 use Rattle.editions.specs.declared.Message.the-variants as message
 use Rattle.editions.specs.declared.Named.the-variants as named
-use Rattle.editions.specs.Editions.{release18, tableOf}
+use Rattle.editions.specs.Editions.{printed, tableOf}
 use Rattle.meaning.specs.Value.{Said}
 use Rattle.meaning.specs.Written.{Encoded, octets, none, encoded}
 use Rattle.plan.specs.declared.Written.{Written}
@@ -48,34 +48,34 @@ module _ (f : Frame) (is : List Item) (es : List Entry) where
   As r m = replied Release18 f is es r ≡ says (record { message = m; values = givenRows is es (partsOf f (length is) (length es) r) (tableOf Release18 m) })
 
   start-response : (m : MmeId) (c : MceId) (b : Bool) → someOf es ≡ b → As (reply.StartResponse m c) message.StartResponse
-  unfolding replied partsOf givenBy valueOf listOnly release18
+  unfolding replied partsOf givenBy valueOf listOnly printed
   start-response m c true e = rw e
   start-response m c false e = rw e
 
   start-failure : (m : MmeId) (why : Cause) (b : Bool) → someOf es ≡ b → As (reply.StartFailure m why) message.StartFailure
-  unfolding replied partsOf givenBy valueOf listOnly release18
+  unfolding replied partsOf givenBy valueOf listOnly printed
   start-failure m why true e = rw e
   start-failure m why false e = rw e
 
   stop-response : (m : MmeId) (c : MceId) (b : Bool) → someOf es ≡ b → As (reply.StopResponse m c) message.StopResponse
-  unfolding replied partsOf givenBy valueOf listOnly release18
+  unfolding replied partsOf givenBy valueOf listOnly printed
   stop-response m c true e = rw e
   stop-response m c false e = rw e
 
   acknowledge : (b : Bool) → someOf es ≡ b → As reply.Acknowledge message.ResetAcknowledge
-  unfolding replied partsOf givenBy valueOf listOnly release18
+  unfolding replied partsOf givenBy valueOf listOnly printed
   acknowledge true e = rw e
   acknowledge false e = rw e
 
   acknowledge-items : (a : Bool) → someOf is ≡ a → (b : Bool) → someOf es ≡ b → As reply.AcknowledgeItems message.ResetAcknowledge
-  unfolding replied partsOf givenBy valueOf listOnly release18
+  unfolding replied partsOf givenBy valueOf listOnly printed
   acknowledge-items true d true e = rw (d, e)
   acknowledge-items true d false e = rw (d, e)
   acknowledge-items false d true e = rw (d, e)
   acknowledge-items false d false e = rw (d, e)
 
   rejection : (x : Mme) (y : Mce) (why : Cause) (b : Bool) → someOf es ≡ b → As (reply.Rejection x y why) message.ErrorIndication
-  unfolding replied partsOf givenBy valueOf ofFrame release18
+  unfolding replied partsOf givenBy valueOf ofFrame printed
   rejection (mme.Is m) (mce.Is c) why true e = rw e
   rejection (mme.Is m) mce.Absent why true e = rw e
   rejection mme.Absent (mce.Is c) why true e = rw e
@@ -86,20 +86,40 @@ module _ (f : Frame) (is : List Item) (es : List Entry) where
   rejection mme.Absent mce.Absent why false e = rw (e, none-of es e)
 
   pair-not-held : (m : MmeId) (c : MceId) (b : Bool) → someOf es ≡ b → As (reply.PairNotHeld m c) message.ErrorIndication
-  unfolding replied partsOf givenBy valueOf ofFrame release18
+  unfolding replied partsOf givenBy valueOf ofFrame printed
   pair-not-held m c true e = rw e
   pair-not-held m c false e = rw e
 
+  said-18 : (r : Reply) {n : Message} → repliedBy r ≡ named.Is n
+      → replied Release18 f is es r ≡ says (record { message = n; values = givenRows is es (partsOf f (length is) (length es) r) (tableOf Release18 n) })
+  said-18 reply.None g = let z : _≡_ {A = ℕ} 0 1 = cc in absurd (omega arith)
+  said-18 (reply.StartResponse m c) {n} g = let z : message.StartResponse ≡ n = cc in rw (← z) (start-response m c (someOf es) refl)
+  said-18 (reply.StartFailure m why) {n} g = let z : message.StartFailure ≡ n = cc in rw (← z) (start-failure m why (someOf es) refl)
+  said-18 (reply.StopResponse m c) {n} g = let z : message.StopResponse ≡ n = cc in rw (← z) (stop-response m c (someOf es) refl)
+  said-18 reply.Acknowledge {n} g = let z : message.ResetAcknowledge ≡ n = cc in rw (← z) (acknowledge (someOf es) refl)
+  said-18 reply.AcknowledgeItems {n} g = let z : message.ResetAcknowledge ≡ n = cc in rw (← z) (acknowledge-items (someOf is) refl (someOf es) refl)
+  said-18 (reply.Rejection x y why) {n} g = let z : message.ErrorIndication ≡ n = cc in rw (← z) (rejection x y why (someOf es) refl)
+  said-18 (reply.PairNotHeld m c) {n} g = let z : message.ErrorIndication ≡ n = cc in rw (← z) (pair-not-held m c (someOf es) refl)
+
+  -- the tables of the replies are the same in all editions
+  said-lab : (r : Reply) {n : Message} → repliedBy r ≡ named.Is n
+      → replied WarningsLab f is es r ≡ says (record { message = n; values = givenRows is es (partsOf f (length is) (length es) r) (tableOf WarningsLab n) })
+  unfolding replied printed
+  said-lab reply.None g = let z : _≡_ {A = ℕ} 0 1 = cc in absurd (omega arith)
+  said-lab (reply.StartResponse m c) {n} g = let z : message.StartResponse ≡ n = cc in rw (← z) (start-response m c (someOf es) refl)
+  said-lab (reply.StartFailure m why) {n} g = let z : message.StartFailure ≡ n = cc in rw (← z) (start-failure m why (someOf es) refl)
+  said-lab (reply.StopResponse m c) {n} g = let z : message.StopResponse ≡ n = cc in rw (← z) (stop-response m c (someOf es) refl)
+  said-lab reply.Acknowledge {n} g = let z : message.ResetAcknowledge ≡ n = cc in rw (← z) (acknowledge (someOf es) refl)
+  said-lab reply.AcknowledgeItems {n} g = let z : message.ResetAcknowledge ≡ n = cc in rw (← z) (acknowledge-items (someOf is) refl (someOf es) refl)
+  said-lab (reply.Rejection x y why) {n} g = let z : message.ErrorIndication ≡ n = cc in rw (← z) (rejection x y why (someOf es) refl)
+  said-lab (reply.PairNotHeld m c) {n} g = let z : message.ErrorIndication ≡ n = cc in rw (← z) (pair-not-held m c (someOf es) refl)
+
   said-as : (e : Edition) (r : Reply) {n : Message} → repliedBy r ≡ named.Is n
       → replied e f is es r ≡ says (record { message = n; values = givenRows is es (partsOf f (length is) (length es) r) (tableOf e n) })
-  said-as Release18 reply.None g = let z : _≡_ {A = ℕ} 0 1 = cc in absurd (omega arith)
-  said-as Release18 (reply.StartResponse m c) {n} g = let z : message.StartResponse ≡ n = cc in rw (← z) (start-response m c (someOf es) refl)
-  said-as Release18 (reply.StartFailure m why) {n} g = let z : message.StartFailure ≡ n = cc in rw (← z) (start-failure m why (someOf es) refl)
-  said-as Release18 (reply.StopResponse m c) {n} g = let z : message.StopResponse ≡ n = cc in rw (← z) (stop-response m c (someOf es) refl)
-  said-as Release18 reply.Acknowledge {n} g = let z : message.ResetAcknowledge ≡ n = cc in rw (← z) (acknowledge (someOf es) refl)
-  said-as Release18 reply.AcknowledgeItems {n} g = let z : message.ResetAcknowledge ≡ n = cc in rw (← z) (acknowledge-items (someOf is) refl (someOf es) refl)
-  said-as Release18 (reply.Rejection x y why) {n} g = let z : message.ErrorIndication ≡ n = cc in rw (← z) (rejection x y why (someOf es) refl)
-  said-as Release18 (reply.PairNotHeld m c) {n} g = let z : message.ErrorIndication ≡ n = cc in rw (← z) (pair-not-held m c (someOf es) refl)
+  unfolding replied
+  said-as Release18 r g = said-18 r g
+  said-as Warnings r g = said-18 r g
+  said-as WarningsLab r g = said-lab r g
 
   pub said-none : (e : Edition) (r : Reply) → repliedBy r ≡ named.Other → replied e f is es r ≡ silent
   unfolding replied

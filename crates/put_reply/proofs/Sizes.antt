@@ -1,8 +1,8 @@
 -- The size of a part, by its kind: a value that may not be written has none.
 -- Assumes nothing.
 use mathlib.Core.Path.{_≡_, _∙_, refl, sym, ap}
-use mathlib.Core.Bool.{Bool, true, false, not, _&&_}
-use mathlib.Core.List.{List, [], _∷_, _++_, map}
+use mathlib.Core.Bool.{Bool, true, false, not}
+use mathlib.Core.List.{List, [], map}
 use Prim.Native.Nat.{ℕ, min, _+_, _*_, _<_, _≤_}
 use native.Mathlib.Omega.{arith}
 use native.Mathlib.Nat.{add-zero}
@@ -25,7 +25,7 @@ use Rattle.entries.specs.declared.Entry.{Entry}
 use Rattle.entry_words.specs.EntryWords.{entryBy}
 use Rattle.item_words.specs.Words.{itemOf}
 use Rattle.diagnostics.specs.declared.Head.{Head}
-use Rattle.diagnostics.specs.Written.{headOctets, diagnosticsOctets}
+use Rattle.diagnostics.specs.Written.{headOctets}
 use Rattle.put_diagnostics.specs.Put.{listedBy, listedSize}
 use Rattle.put_diagnostics.proofs.Sizes.{listed-length, size-fits, size-no}
 use Rattle.rows.specs.declared.Triggers.the-variants.{Three}

@@ -1,11 +1,10 @@
 -- Where a value's list begins, by its kind: items behind the first octet of a part of the interface, or with an acknowledgement; entries behind the
 -- fields of Criticality Diagnostics. No other value announces a list.
 -- Assumes nothing.
-use mathlib.Core.Path.{_≡_, refl, sym, ap, _∙_}
+use mathlib.Core.Path.{_≡_, refl, sym}
 use mathlib.Core.Bool.{Bool, true, false}
 use mathlib.Core.List.{List, [], _∷_}
 use Prim.Native.Nat.{ℕ, _+_, _≤_}
-use native.Mathlib.Omega.{arith}
 use denote.Enum.Declared.{tagOf}
 use types.Run.{OneOf, miss}
 use lib.ListN.{length, take}
@@ -21,7 +20,7 @@ use Rattle.values.specs.Values.{mmeAt, mceAt, tmgiAt, oneAt, twoAt, causeAt, wa
 use Rattle.names.specs.Names.{nameAt}
 use Rattle.items.specs.Items.{ResetType, whole, part, itemsAt, resetAt}
 use Rattle.entries.specs.declared.Entry.{Entry}
-use Rattle.entries.specs.Entries.{listAt, maybeListAt}
+use Rattle.entries.specs.Entries.{maybeListAt}
 use Rattle.diagnostics.specs.declared.Head.{Head}
 use Rattle.diagnostics.specs.Diagnostics.{Diagnostics, diagnosticsAt}
 use Rattle.rows.specs.declared.Kind.{Kind}
@@ -30,8 +29,8 @@ use Rattle.rows.specs.declared.Kind.the-variants as kind
 use Rattle.rows.specs.declared.Triggers.{Triggers}
 use Rattle.rows.specs.Table.{meanings}
 use Rattle.meaning.specs.Value.{Value, Given, given, absent, carried, mme, mce, tmgi, one, two, cause, wait, name, reset, list, diagnostics}
-use Rattle.meaning.specs.Reading.{orAbsent, readAs, valueIn}
-use Rattle.layout.specs.Record.{Lists, listsOf}
+use Rattle.meaning.specs.Reading.{readAs, valueIn}
+use Rattle.layout.specs.Record.{listsOf}
 use Rattle.reader.specs.declared.Begins.the-variants.{At, Nowhere}
 use Rattle.reader.specs.Steps.{givenBy, ItemsBegin, EntriesBegin}
 

@@ -1,9 +1,9 @@
 -- Whatever is read of at most 8,192 octets can be held by a record: a carried value lies in them, an identity has two octets, a list at most 256.
 -- Assumes nothing.
-use mathlib.Core.Path.{_≡_, refl, sym, ap, _∙_}
+use mathlib.Core.Path.{_≡_, refl, sym, _∙_}
 use mathlib.Core.Bool.{Bool, true, false}
 use mathlib.Core.List.{List, [], _∷_}
-use Prim.Native.Nat.{ℕ, suc, _-_, _≤_, _<_}
+use Prim.Native.Nat.{ℕ, suc, _≤_, _<_}
 use native.Mathlib.Omega.{arith}
 use borrow.Author.Tests.{ltb-false}
 use lib.Dec.{ltb}
@@ -35,8 +35,8 @@ use Rattle.rows.specs.Table.{noRow, meanings}
 use Rattle.meaning.specs.Value.{Value, Given, given, absent, carried, mme, mce, tmgi, one, two, cause, wait, name, reset, list, diagnostics}
 use Rattle.meaning.specs.Ranges.{valueKind}
 use Rattle.meaning.specs.Reading.{orAbsent, readAs, valueIn, valuesIn}
-use Rattle.layout.specs.Held.{PlaceFits, ItemsFit, EntriesFit, DiagnosticsFit, Fits, RowFits, RowsFit}
-use Rattle.reader.specs.Steps.{Legible, IfPresent, givenBy}
+use Rattle.layout.specs.Held.{PlaceFits, ItemsFit, DiagnosticsFit, Fits, RowFits, RowsFit}
+use Rattle.reader.specs.Steps.{IfPresent, givenBy}
 
 place-fits : (v : Span) → v .from < v .to → v .to ≤ 8192 → PlaceFits v
 place-fits v h b = (omega arith, omega arith, omega arith)

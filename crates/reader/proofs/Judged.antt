@@ -2,7 +2,7 @@
 --     opened-legible   so it is of each row's value
 -- Assumes nothing.
 use mathlib.Core.Path.{_≡_, refl, sym, ap, _∙_, subst}
-use mathlib.Core.Bool.{true}
+use mathlib.Core.Bool.{Bool, true}
 use mathlib.Core.List.{List, [], _∷_}
 use Prim.Native.Nat.{ℕ, zero, suc, _+_}
 use native.Mathlib.Omega.{arith}
@@ -24,7 +24,7 @@ use Rattle.kinds.proofs.Laws.{as-read}
 use Rattle.envelopes.specs.declared.Head.{Head}
 use Rattle.envelopes.specs.Envelope.{envelopeAt, scanAt, onHead, headsAt}
 use Rattle.envelopes.proofs.ScanLaws.{envelope-in}
-use Rattle.elements.specs.Judge.{front, readInto, judgedOf, elementsAt}
+use Rattle.elements.specs.Judge.{front, readInto, judgedOf, extensionsBehind, elementsAt}
 use Rattle.frames.specs.Frame.{countAt}
 use Rattle.meaning.specs.Reading.{readAs}
 use Rattle.verdicts.specs.Verdict.{Opening, openingBy, openedAt}
@@ -62,14 +62,14 @@ module _ (t : List Row) (s : List ℕ) where
   abbrev Read′ : Head → Type 0
   Read′ h = Legible (kindOf t (h .id)) s (h .value)
 
-  heads-legible : (n row at : ℕ) → got tt ≡ scanAt t s n at → Each Read′ (front t row (headsAt s n at))
+  heads-legible : (n row at : ℕ) {end : ℕ} → got end ≡ scanAt t s n at → Each Read′ (front t row (headsAt s n at))
   unfolding front headsAt scanAt _>>=_
   heads-legible zero row at q = tt
-  heads-legible (suc n) row at q = by (envelopeAt s at) refl q (heads-legible n)
+  heads-legible (suc n) row at {end} q = by (envelopeAt s at) refl q (λ row to. heads-legible n row to)
     where
       by : (r : Read Head) → r ≡ envelopeAt s at
-          → got tt ≡ (r >>= λ h. valueAt (kindOf t (h .id)) (take (h .value .to) s) (h .value .from) >> scanAt t s n (h .value .to))
-          → ((row to : ℕ) → got tt ≡ scanAt t s n to → Each Read′ (front t row (headsAt s n to)))
+          → got end ≡ (r >>= λ h. valueAt (kindOf t (h .id)) (take (h .value .to) s) (h .value .from) >> scanAt t s n (h .value .to))
+          → ((row to : ℕ) → got end ≡ scanAt t s n to → Each Read′ (front t row (headsAt s n to)))
           → Each Read′ (front t row (onHead (λ h. headsAt s n (h .value .to)) r))
       by (got h) e q go =
           let x = then-got (valueAt (kindOf t (h .id)) (take (h .value .to) s) (h .value .from)) _ q in
@@ -97,18 +97,20 @@ module _ (t : List Row) (s : List ℕ) where
     pub count : length l ≡ length t
     pub each : (k : ℕ) → IfPresent (getD t k noRow .kind) s (getD l k noSpan)
 
-  pub opened-spans : (from : ℕ) {o : Opening} → got o ≡ openedAt t s from → Spans (o .spans)
+  pub opened-spans : (c : Bool) (from : ℕ) {o : Opening} → got o ≡ openedAt t c s from → Spans (o .spans)
   unfolding openedAt elementsAt judgedOf
-  opened-spans from {o} q =
-      let a = then-got (countAt s from) _ q in
-      let b = then-got (elementsAt t s (a .0) (from + 3)) _ (a .2) in
-      let d = then-got (scanAt t s (a .0) (from + 3)) _ (b .1) in
-      let hs = front t 0 (headsAt s (a .0) (from + 3)) in
+  opened-spans c from {o} q =
+      let a = then-got (countAt c s from) _ q in
+      let n = a .0 .elements in
+      let b = then-got (elementsAt t (a .0 .container) s n (from + 3)) _ (a .2) in
+      let x = then-got (extensionsBehind t (a .0 .container) s n (from + 3)) _ (b .1) in
+      let d = then-got (scanAt t s n (from + 3)) _ (x .1) in
+      let hs = front t 0 (headsAt s n (from + 3)) in
       let e : o .spans ≡ readInto t (replicate (length t) noSpan) hs
-      = ap (λ (x : Opening). x .spans) (same-got (b .2) ∙ ap (openingBy (a .0)) (same-got (d .2))) in
+      = ap (λ (x : Opening). x .spans) (same-got (b .2) ∙ ap (openingBy n) (same-got (x .2))) in
       subst Spans (sym e) (record {
         count = rows-count (replicate (length t) noSpan) hs ∙ length-replicate (length t) noSpan;
-        each = rows-legible (replicate (length t) noSpan) hs (heads-legible (a .0) 0 (from + 3) (d .1)) (λ k p. not-present _ (no-spans (length t) k) p);
+        each = rows-legible (replicate (length t) noSpan) hs (heads-legible n 0 (from + 3) (d .1)) (λ k p. not-present _ (no-spans (length t) k) p);
       })
 
   -- as an array of 12

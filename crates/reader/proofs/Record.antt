@@ -4,7 +4,7 @@
 use mathlib.Core.Path.{_≡_, refl, sym, ap, _∙_, subst}
 use mathlib.Core.Bool.{Bool, true, false}
 use mathlib.Core.List.{List, _++_}
-use Prim.Native.Nat.{ℕ, _+_, _-_, _≤_, _<_}
+use Prim.Native.Nat.{ℕ, _+_, _≤_, _<_}
 use native.Mathlib.Omega.{arith}
 use borrow.Author.Tests.{le-leb, lt-leb, ltb-false}
 use lib.Dec.{ltb}
@@ -21,9 +21,9 @@ use Rattle.editions.specs.declared.Edition.{Edition}
 use Rattle.editions.specs.declared.Message.{Message}
 use Rattle.editions.specs.declared.Named.{Named}
 use Rattle.editions.specs.declared.Named.the-variants as named
-use Rattle.editions.specs.Editions.{tableOf, rowsOf, namedBy}
+use Rattle.editions.specs.Editions.{tableOf, containerOf, rowsOf, namedBy}
 use Rattle.editions.proofs.Tables.{table-lawful}
-use Rattle.editions.proofs.Names.{number-names}
+use Rattle.editions.proofs.Names.{number-names, named-listed}
 use Rattle.frames.specs.declared.Frame.{Frame}
 use Rattle.frames.specs.Frame.{frameAt}
 use Rattle.meaning.specs.Value.{Record}
@@ -46,11 +46,11 @@ use Rattle.reader.proofs.Fitting.{values-fit}
 
 -- ---- what was read can be held
 
-module _ (e : Edition) (m : Message) (f : Frame) (s : List ℕ) (o : Octets s) (b : length s ≤ 8192) where
-  opening-held : {y : Opening} → got y ≡ openedAt (tableOf e m) s (f .from) → Held e (understoodBy (tableOf e m) m f s y .what)
+module _ (e : Edition) (m : Message) (f : Frame) (n : namedBy e (f .kind) (f .code) ≡ named.Is m) (s : List ℕ) (o : Octets s) (b : length s ≤ 8192) where
+  opening-held : {y : Opening} → got y ≡ openedAt (tableOf e m) (containerOf e m) s (f .from) → Held e (understoodBy (tableOf e m) m f s y .what)
   opening-held {y} q =
-      let g = opened-spans (tableOf e m) s (f .from) q in
-      record { message = number-names e m; table = table-lawful e m; values = values-fit (tableOf e m) s (y .spans) o b (g .count) (g .each) }
+      let g = opened-spans (tableOf e m) s (containerOf e m) (f .from) q in
+      record { message = number-names e m (named-listed e (f .kind) (f .code) m n); table = table-lawful e m; values = values-fit (tableOf e m) s (y .spans) o b (g .count) (g .each) }
 
 not-refused : {A : Type 0} {x : Refusal} {u : Understood} → refused x ≡ understood u → A
 not-refused q = absurd (let z : _≡_ {A = ℕ} 0 1 = cc in omega arith)
@@ -59,17 +59,17 @@ same-understood : {u w : Understood} → understood u ≡ understood w → u ≡
 same-understood q = cc
 
 module _ (e : Edition) (s : List ℕ) (o : Octets s) {u : Understood} where
-  inside-held : length s ≤ 8192 → (m : Message) (f : Frame) (r : Read Opening) → r ≡ openedAt (tableOf e m) s (f .from)
+  inside-held : length s ≤ 8192 → (m : Message) (f : Frame) → namedBy e (f .kind) (f .code) ≡ named.Is m → (r : Read Opening) → r ≡ openedAt (tableOf e m) (containerOf e m) s (f .from)
       → verdictOf (tableOf e m) m f s r ≡ understood u → Held e (u .what)
-  inside-held b m f (got y) q v = subst (λ (w : Understood). Held e (w .what)) (same-understood v) (opening-held e m f s o b q)
-  inside-held b m f (stop x) q v = not-refused v
+  inside-held b m f n (got y) q v = subst (λ (w : Understood). Held e (w .what)) (same-understood v) (opening-held e m f n s o b q)
+  inside-held b m f n (stop x) q v = not-refused v
 
-  named-held : length s ≤ 8192 → (f : Frame) (n : Named) → ofThose e every s f n ≡ understood u → Held e (u .what)
-  named-held b f (named.Is m) v = inside-held b m f (openedAt (tableOf e m) s (f .from)) refl v
-  named-held b f named.Other v = not-refused v
+  named-held : length s ≤ 8192 → (f : Frame) (n : Named) → namedBy e (f .kind) (f .code) ≡ n → ofThose e every s f n ≡ understood u → Held e (u .what)
+  named-held b f (named.Is m) n v = inside-held b m f n (openedAt (tableOf e m) (containerOf e m) s (f .from)) refl v
+  named-held b f named.Other n v = not-refused v
 
   framed-held : length s ≤ 8192 → (r : Read Frame) → framed e every s r ≡ understood u → Held e (u .what)
-  framed-held b (got f) v = named-held b f (namedBy e (f .kind) (f .code)) v
+  framed-held b (got f) v = named-held b f (namedBy e (f .kind) (f .code)) refl v
   framed-held b (stop x) v = not-refused v
 
   pub read-held : readOf e every s ≡ understood u → Held e (u .what)
@@ -92,26 +92,26 @@ put-front e r d g h p =
 
 -- ---- as the code has it: a table in an array, and what the judging hands back
 
-module _ (e : Edition) (m : Message) (f : Frame) (s : List ℕ) {t : Rows} {x : Opened} {ps : List ℕ} (is : t ≡ rowsOf e m) (q : Opens (openedAt (rowsIn t) s (f .from)) x ps) where
+module _ (e : Edition) (m : Message) (f : Frame) (s : List ℕ) {t : Rows} {x : Opened} {ps : List ℕ} (is : t ≡ rowsOf e m) {c : Bool} (container : c ≡ containerOf e m) (q : Opens (openedAt (rowsIn t) c s (f .from)) x ps) where
   module _ (g : x .gate ≡ gate.Pass) where
     found : Passed e m f s t x ps
-    found = passed e m f s is q g
+    found = passed e m f s is container q g
 
     pub all-legible : AllLegible (rowsIn t) s (spansIn ps)
-    all-legible = rw (rows-of e m is, found .spans) (array-legible (tableOf e m) s (opened-spans (tableOf e m) s (f .from) (sym (found .is))))
+    all-legible = rw (rows-of e m is, found .spans) (array-legible (tableOf e m) s (opened-spans (tableOf e m) s (containerOf e m) (f .from) (sym (found .is))))
 
-    pub too-small : {d : List ℕ} → length d < 2662 → Answers e (verdictOf (tableOf e m) m f s (openedAt (tableOf e m) s (f .from))) d NoRoom d
+    pub too-small : {d : List ℕ} → length d < 2662 → Answers e (verdictOf (tableOf e m) m f s (openedAt (tableOf e m) (containerOf e m) s (f .from))) d NoRoom d
     too-small {d} h =
         let z = lt-leb 2662 (length d) h in
         subst (λ (r : Read Opening). Answers e (verdictOf (tableOf e m) m f s r) d NoRoom d) (sym (found .is)) (rw z, rw z)
 
-    pub is-put : Octets s → length s ≤ 8192 → (d : List ℕ) {k : List ℕ} → 2662 ≤ length d
+    pub is-put : Octets s → length s ≤ 8192 → namedBy e (f .kind) (f .code) ≡ named.Is m → (d : List ℕ) {k : List ℕ} → 2662 ≤ length d
         → PutIn e (record { message = m; crit = f .crit; values = valuesIn (rowsIn t) s (spansIn ps) }) d k
-        → Answers e (verdictOf (tableOf e m) m f s (openedAt (tableOf e m) s (f .from))) d (Put (x .outcome)) k
-    is-put o b d {k} h p =
+        → Answers e (verdictOf (tableOf e m) m f s (openedAt (tableOf e m) (containerOf e m) s (f .from))) d (Put (x .outcome)) k
+    is-put o b n d {k} h p =
         let put : PutIn e (record { message = m; crit = f .crit; values = valuesIn (tableOf e m) s (found .opening .spans) }) d k = rw (found .values) at p in
         let z = le-leb 2662 (length d) h in
-        let front = put-front e (understoodBy (tableOf e m) m f s (found .opening) .what) d (opening-held e m f s o b (sym (found .is))) h put in
+        let front = put-front e (understoodBy (tableOf e m) m f s (found .opening) .what) d (opening-held e m f n s o b (sym (found .is))) h put in
         subst (λ (r : Read Opening). Answers e (verdictOf (tableOf e m) m f s r) d (Put (x .outcome)) k) (sym (found .is)) (rw z (ap Put (found .outcome)), rw z front)
 
 -- ---- which verdict it is

@@ -1,6 +1,6 @@
 -- Eight octets put one after another; and what a Reset Type or Criticality Diagnostics that can be read show of themselves in front of their lists.
 -- Assumes nothing.
-use mathlib.Core.Path.{_≡_, refl, sym, _∙_, ap}
+use mathlib.Core.Path.{_≡_, refl, sym, _∙_}
 use mathlib.Core.Bool.{Bool, true, false}
 use mathlib.Core.List.{List, [], _∷_}
 use Prim.Native.Nat.{ℕ, suc, _+_, _/_, _%_, _≤_}
@@ -8,11 +8,10 @@ use native.Mathlib.Omega.{arith}
 use lib.ListN.{length, set}
 use Rattle.octets.specs.Read.{Read, got, stop, _>>=_}
 use Rattle.octets.specs.Field.{flagAt, plainAt, padAt, endsAt}
-use Rattle.octets.specs.Many.{Part}
 use Rattle.octets.specs.Write.{numberOctets, Wrote}
 use Rattle.octets.specs.declared.Stop.{Stop}
 use Rattle.octets.proofs.Chain.{past, got-stop, same-got}
-use Rattle.items.specs.Items.{ResetType, whole, part, itemsAt, resetBy, resetAt}
+use Rattle.items.specs.Items.{itemsAt, resetBy, resetAt}
 use Rattle.entries.specs.declared.Entry.{Entry}
 use Rattle.entries.specs.Entries.{maybeListAt}
 use Rattle.diagnostics.specs.declared.Head.{Head}

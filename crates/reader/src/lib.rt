@@ -15,7 +15,7 @@ ghost use Rattle.places.specs.Places.{spansIn};
 ghost use Rattle.rows.specs.Table.{rowsIn, meanings};
 ghost use Rattle.meaning.specs.Value.{given, absent, mme, mce, tmgi, one, two, cause, wait, name, reset, diagnostics};
 ghost use Rattle.meaning.specs.Reading.{readAs, orAbsent, valueIn, valuesIn};
-ghost use Rattle.editions.specs.Editions.{tableOf};
+ghost use Rattle.editions.specs.Editions.{tableOf, containerOf, namedBy};
 ghost use Rattle.verdicts.specs.Verdict.{openedAt, verdictOf, every, readOf};
 ghost use Rattle.layout.specs.Rows.{itemRow, entryRow, listOctets};
 ghost use Rattle.layout.specs.Record.{yes, maybeOctets, headOctets, placeOctets, listsOf, slotOctets};
@@ -480,12 +480,14 @@ fn put_record(
 }
 
 fn read_inside(e: Edition, m: Message, f: Frame, s: &[u8], room: &mut [u8]) -> Reading
-    requires { ⌜ length (now s) ≤ 8192 ⌝ }
-    ensures { λ r. ⌜ Answers e (verdictOf (tableOf e m) m f (now (s .entry)) (openedAt (tableOf e m) (now (s .entry)) (f .from))) (now (room .entry)) r (now (room .exit)) ⌝ }
+    requires length { ⌜ length (now s) ≤ 8192 ⌝ }
+    requires named { ⌜ namedBy e (f .kind) (f .code) ≡ Named.Is m ⌝ }
+    ensures { λ r. ⌜ Answers e (verdictOf (tableOf e m) m f (now (s .entry)) (openedAt (tableOf e m) (containerOf e m) (now (s .entry)) (f .from))) (now (room .entry)) r (now (room .exit)) ⌝ }
 {
+    let c = editions::has_container(e, m);
     let t = editions::rows_of(e, m);
     let mut places: [usize; 24] = [0; 24];
-    let o = judging::opened_at(t, s, f.from, &mut places);
+    let o = judging::opened_at(t, c, s, f.from, &mut places);
     let gate = o.gate;
     match gate {
         Gate::Pass => {}

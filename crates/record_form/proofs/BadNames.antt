@@ -6,7 +6,7 @@ use mathlib.Core.List.{List, [], _∷_, map}
 use Prim.Native.Nat.{ℕ, _+_, _*_, _≤_, _<_}
 use native.Mathlib.Numerals.{add-one}
 use native.Mathlib.Omega.{arith}
-use borrow.Author.Tests.{eq-eqb, ne-eqb}
+use borrow.Author.Tests.{ne-eqb}
 use denote.Enum.Declared.{tagOf}
 use types.Run.{OneOf, miss}
 use lib.Dec.{eqb}
@@ -16,7 +16,6 @@ use Rattle.lists.specs.Lists.{pick, some}
 use Rattle.lists.proofs.Fill.{take-fill}
 use Rattle.octets.specs.declared.Span.{Span}
 use Rattle.names.specs.Names.{nameAllowed, partIn}
-use Rattle.lent.specs.Lent.{same}
 use Rattle.rows.specs.declared.Kind.{Kind}
 use Rattle.rows.proofs.Kind as kinds
 use Rattle.rows.specs.declared.Kind.the-variants as kind
@@ -31,7 +30,7 @@ use Rattle.editions.specs.Editions.{tableOf, rowsOf, numberedBy}
 use Rattle.editions.proofs.Names.{numbered-number}
 use Rattle.editions.proofs.Tables.{table-lawful, lawful-count}
 use Rattle.meaning.specs.Value.{Value, Given, given, absent, octetsIn, onCarried, onGiven, saidBy}
-use Rattle.layout.specs.Record.{Lists, slotSays, slotsSay, recordOctets, saidRecord, listsIn, isRecord, noRecord, lentAs, readRecord, badName, nameRefusedBy, nameRefused}
+use Rattle.layout.specs.Record.{Lists, slotSays, slotsSay, saidRecord, listsIn, isRecord, noRecord, lentAs, readRecord, badName, nameRefusedBy, nameRefused}
 use Rattle.record_form.specs.Form.{formed}
 use Rattle.record_form.specs.BadNames.{nameBad, slotBad, slotsBad}
 use Rattle.record_form.proofs.Forms.{first-at, two-at}

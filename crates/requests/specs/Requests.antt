@@ -70,6 +70,9 @@ askOf message.ResetAcknowledge = ask.Nothing
 askOf message.SetupRequest = ask.Nothing
 askOf message.SetupResponse = ask.SetupResponse
 askOf message.SetupFailure = ask.SetupFailure
+askOf message.StopWarningRequest = ask.Nothing
+askOf message.StopWarningResponse = ask.Nothing
+askOf message.WarningErrorIndication = ask.Nothing
 
 abbrev pub isAsked : Ask → Bool
 isAsked ask.Start = true

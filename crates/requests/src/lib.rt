@@ -220,6 +220,9 @@ pub fn ask_of(m: Message) -> Ask
         Message::SetupRequest => Ask::Nothing,
         Message::SetupResponse => Ask::SetupResponse,
         Message::SetupFailure => Ask::SetupFailure,
+        Message::StopWarningRequest => Ask::Nothing,
+        Message::StopWarningResponse => Ask::Nothing,
+        Message::WarningErrorIndication => Ask::Nothing,
     }
 }
 

@@ -17,7 +17,7 @@ use Rattle.elements.specs.Judge.{Found}
 use Rattle.frames.specs.declared.Frame.{Frame}
 use Rattle.frames.specs.Frame.{frameAt}
 use Rattle.editions.specs.declared.Edition.{Edition}
-use Rattle.editions.specs.Editions.{tableOf, codeOf}
+use Rattle.editions.specs.Editions.{tableOf, containerOf, codeOf}
 use Rattle.meaning.specs.Value.{Given, Said, saidBy}
 use Rattle.meaning.specs.Written.{howMany, insideOctets, messageOctets, elementsGood, isWritten, octets, none, encoded}
 use Rattle.verdicts.specs.Verdict.{openingBy, openedAt, Understood, Verdict, understood, understoodBy, every, readOf}
@@ -57,17 +57,17 @@ module _ (e : Edition) (w : Said) (g : InTypes e w) (q : isWritten e w ≡ true)
   elements : Laid (messageOctets e w) (begins e w + 3) (table e w) (w .values)
   elements =
       let b = size in
-      laid (messageOctets e w) (omega arith) (table e w) (w .values) _ (table-lawful e (w .message) .rows) g (and-left (elementsGood (table e w) (w .values)) _ q)
+      laid (messageOctets e w) (omega arith) (table e w) (w .values) _ (table-lawful e (w .message) .rows) (g .values) (and-left (elementsGood (table e w) (w .values)) _ q)
       (elements-fill (messageOctets e w) (begins e w) (table e w) (w .values) filled)
 
-  inside-read : got (openingBy (howMany (w .values)) (foundAll e w)) ≡ openedAt (table e w) (messageOctets e w) (begins e w)
+  inside-read : got (openingBy (howMany (w .values)) (foundAll e w)) ≡ openedAt (table e w) (containerOf e (w .message)) (messageOctets e w) (begins e w)
   unfolding openedAt
   inside-read =
       let l = elements in
       let r = table-lawful e (w .message) in
       let n = count-rows l in
       let c = r .count in
-      past _ _ (count-back (messageOctets e w) (begins e w) (table e w) (w .values) filled (omega arith))
+      past _ _ (count-back (messageOctets e w) (begins e w) (table e w) (w .values) filled (containerOf e (w .message)) (omega arith))
       (past _ (foundAll e w) (elements-back (table e w) (r .distinct) l) refl)
 
   frame-read : got (frameOf e w) ≡ frameAt (messageOctets e w)
@@ -80,7 +80,7 @@ module _ (e : Edition) (w : Said) (g : InTypes e w) (q : isWritten e w ≡ true)
 
   message-read : readOf e every (messageOctets e w) ≡ understood (wholly e w)
   unfolding readOf
-  message-read = rw (le-ltb 8192 (length (messageOctets e w)) size, ← frame-read, code-names e (w .message), ← inside-read)
+  message-read = rw (le-ltb 8192 (length (messageOctets e w)) size, ← frame-read, code-names e (w .message) (g .message), ← inside-read)
 
   pub message-back : ReadAs e (messageOctets e w) w
   unfolding saidBy

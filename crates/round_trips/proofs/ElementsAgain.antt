@@ -13,7 +13,6 @@ use Rattle.octets.specs.Read.{got}
 use Rattle.octets.specs.Stands.{Fills, Octets}
 use Rattle.octets.specs.declared.Span.{Span}
 use Rattle.octets.specs.Span.{noSpan}
-use Rattle.octets.proofs.Got.{ends-got}
 use Rattle.octets.proofs.Stood.{stands-none}
 use Rattle.octets.specs.Many.{Each}
 use Rattle.rows.specs.declared.Kind.{Kind}
@@ -46,13 +45,13 @@ value-given : (k : Kind) (s : List ℕ) (x v : Span) {a : Value Span} → x ≡ 
 unfolding valueIn
 value-given k s x v e h q = rw (e, lt-ltb 0 (v .to) h, ← q)
 
-module _ (t : List Row) (s : List ℕ) (o : Octets s) (l : List Span) (n : length l ≡ length t) where
+module _ (t : List Row) (s : List ℕ) (o : Octets s) (end : ℕ) (whole : length s ≤ end) (l : List Span) (n : length l ≡ length t) where
   -- the octets and the number of the rows' values, from a row on
   abbrev Again : ℕ → ℕ → List Head → Type 0
   Again row at hs = Fills s at (octetsFrom t s l row) × (countFrom t s l row ≡ length hs)
 
   -- an element at its row
-  element-again : (at : ℕ) (h : Head) (hs : List Head) → Scanned t s at (h ∷ hs) → find (h .id) t < length t → getD l (find (h .id) t) noSpan ≡ h .value → Regular t s h
+  element-again : (at : ℕ) (h : Head) (hs : List Head) → Scanned t s end at (h ∷ hs) → find (h .id) t < length t → getD l (find (h .id) t) noSpan ≡ h .value → Regular t s h
       → Again (find (h .id) t + 1) (h .value .to) hs → Again (find (h .id) t) at (h ∷ hs)
   element-again at h hs q b e g z =
       let x = envelope-in s at (q .0) in
@@ -63,13 +62,13 @@ module _ (t : List Row) (s : List ℕ) (o : Octets s) (l : List Span) (n : lengt
       let r = row-given t s l n (find (h .id) t) b (onCarried (octetsIn s) (v .0)) (value-given (rowById t (h .id) .kind) s _ (h .value) e (omega arith) (v .1)) in
       (rw (r .0) (fills-join (w .0) (w .1) (z .0)), r .1 ∙ ap suc (z .1))
 
-  pub elements-again : (row at : ℕ) (hs : List Head) → row ≤ length t → at ≤ length s → Scanned t s at hs → Ordered t row hs → Holds t l row hs → Each (Regular t s) hs
+  pub elements-again : (row at : ℕ) (hs : List Head) → row ≤ length t → at ≤ length s → Scanned t s end at hs → Ordered t row hs → Holds t l row hs → Each (Regular t s) hs
       → Fills s at (octetsFrom t s l row) × (countFrom t s l row ≡ length hs)
   elements-again row at [] b i q p h g =
       let d : row + (length t - row) ≡ length t = omega arith in
       let a = rw d at (rows-absent t s l n (length t - row) row (omega arith) (λ j x y. h j x)) in
       let z = rows-none t s l n in
-      let e = ends-got s at q in
+      let e : length s ≤ at = rw q at whole in
       (rw (a .0 ∙ z .0) (record { stands = stands-none i; ends = omega arith }), a .1 ∙ z .1)
   elements-again row at (h ∷ hs) b i q p d g =
       let k = p .0 in

@@ -2,7 +2,7 @@
 -- Assumes nothing.
 use Prim.Native.Nat.{ℕ, zero, suc, _+_, _≤_}
 use mathlib.Core.Path.{_≡_, _∙_, refl, sym, ap}
-use mathlib.Core.Bool.{true}
+use mathlib.Core.Bool.{true, false}
 use mathlib.Core.List.{List, [], _∷_, _++_, append-assoc}
 use native.Mathlib.Omega.{arith}
 use borrow.Author.Tests.{lt-ltb, le-ltb, eq-eqb}
@@ -19,7 +19,7 @@ use Rattle.rows.specs.declared.Row.{Row}
 use Rattle.envelopes.specs.declared.Head.{Head}
 use Rattle.rows.specs.Table.{find, noRow, kindOf}
 use Rattle.envelopes.specs.Envelope.{scanAt, headsAt}
-use Rattle.elements.specs.Judge.{Found, front, readInto, unknownOf, missingOf, judgedOf, elementsAt}
+use Rattle.elements.specs.Judge.{Found, front, readInto, unknownOf, missingOf, judgedOf, extensionsAt, elementsAt}
 use Rattle.meaning.specs.Value.{Given, given, absent}
 use Rattle.meaning.specs.Written.{octetsOf, howMany}
 use Rattle.meaning.specs.Reading.{readAs, valueIn, valuesIn}
@@ -93,13 +93,15 @@ module _ {s : List ℕ} where
 -- ---- by the table
 
 module _ (t : List Row) {s : List ℕ} where
-  scan-laid : (k : ℕ) {at : ℕ} {rs : List Row} {vs : List (Given (List ℕ))} → Placed t k rs → Laid s at rs vs → got tt ≡ scanAt t s (howMany vs) at
+  scan-laid : (k : ℕ) {at : ℕ} {rs : List Row} {vs : List (Given (List ℕ))} → Placed t k rs → Laid s at rs vs
+      → (end : ℕ) × (got end ≡ scanAt t s (howMany vs) at) × (length s ≤ end)
   unfolding scanAt howMany
-  scan-laid k p (ends h) = ends-back s _ h
+  scan-laid k p (ends {at} h) = (at, refl, h)
   scan-laid k p (skip h l) = scan-laid (suc k) (p .1) l
   scan-laid k p (more {r = r} q h w l) =
       let e : kindOf t (r .id) ≡ r .kind = ap (λ (j : ℕ). getD t j noRow .kind) (p .0 .found) ∙ ap (λ (x : Row). x .kind) (p .0 .row) in
-      past _ _ q (past _ tt (of-kind _ _ e (value-read (r .kind) s _ w)) (scan-laid (suc k) (p .1) l))
+      let x = scan-laid (suc k) (p .1) l in
+      (x .0, past _ _ q (past _ tt (of-kind _ _ e (value-read (r .kind) s _ w)) (x .1)), x .2)
 
   front-laid : (k row : ℕ) → row ≤ k → {at : ℕ} {rs : List Row} {vs : List (Given (List ℕ))} → Placed t k rs → Laid s at rs vs → front t row (headsOf rs vs at) ≡ headsOf rs vs at
   unfolding front headsOf
@@ -132,10 +134,11 @@ module _ (t : List Row) {s : List ℕ} where
 -- ---- the judging
 
 pub elements-back : (t : List Row) → apart alike t ≡ true → {s : List ℕ} {at : ℕ} {vs : List (Given (List ℕ))} → Laid s at t vs
-    → got (record { place = howMany vs; spans = spansOf vs at; listed = [] }) ≡ elementsAt t s (howMany vs) at
-unfolding elementsAt judgedOf
+    → got (record { place = howMany vs; spans = spansOf vs at; listed = [] }) ≡ elementsAt t false s (howMany vs) at
+unfolding elementsAt extensionsAt judgedOf unknownOf
 elements-back t d {s} {at} {vs} l =
     let p = placed t d in
-    past _ tt (scan-laid t 0 p l)
+    let x = scan-laid t 0 p l in
+    past _ [] (past _ (x .0) (x .1) (past _ tt (ends-back s (x .0) (x .2)) refl))
     (ap (λ (f : Found). got f)
     (rw (heads-laid l, front-laid t 0 0 (omega arith) p l, heads-length l, eq-eqb (howMany vs) (howMany vs) refl, read-laid t 0 [] refl p l, unknown-laid t 0 p l, missing-laid l)))

@@ -1,20 +1,23 @@
 -- What was read around a value, written again, is the same octets: an element's envelope, a message's frame and its count of elements.
 -- Assumes nothing.
 use mathlib.Core.Path.{_≡_, _∙_, refl, sym, ap, subst}
-use mathlib.Core.Bool.{false}
+use mathlib.Core.Bool.{Bool, true, false}
 use mathlib.Core.List.{List, [], _∷_, _++_}
-use Prim.Native.Nat.{ℕ, _+_, _-_}
+use Prim.Native.Nat.{ℕ, _+_, _-_, _/_, _%_, _^_}
 use native.Mathlib.Omega.{arith}
-use lib.ListN.{length, take, length-append}
+use lib.ListN.{length, getD, take, length-append}
 use lib.Seq.{length-take-le, take-all}
 use Rattle.octets.specs.Read.{got}
+use borrow.Author.Tests.{eqb-false}
+use lib.Dec.{eqb}
+use Rattle.lists.specs.Lists.{pick}
 use Rattle.octets.specs.Field.{bitsAt, plainAt, choiceAt, padAt, numberAt, openAt, endsAt}
-use Rattle.packed.specs.Packed.{_bits_, bit, packed}
+use Rattle.packed.specs.Packed.{bitsOf, _bits_, bit, packedIn, packed}
 use Rattle.octets.specs.Write.{numberOctets, lengthOctets}
 use Rattle.octets.specs.Stands.{Stands, Fills, Octets}
 use Rattle.octets.specs.declared.Span.{Span}
 use Rattle.octets.proofs.Chain.{then-got, same-got}
-use Rattle.octets.proofs.Got.{plain-got, choice-got, number-got, ends-got}
+use Rattle.octets.proofs.Got.{flag-got, plain-got, choice-got, number-got, ends-got}
 use Rattle.octets.proofs.Stood.{stands-one, stands-join, stands-split, stands-front}
 use Rattle.octets.proofs.Back.{length-number}
 use Rattle.octets.proofs.Again.{packed-again, pad-zero, number-again, open-again}
@@ -23,7 +26,8 @@ use Rattle.envelopes.specs.declared.Head.{Head}
 use Rattle.envelopes.specs.Envelope.{criticalityAt, envelopeAt}
 use Rattle.editions.specs.declared.Code.{Code}
 use Rattle.frames.specs.declared.Frame.{Frame}
-use Rattle.frames.specs.Frame.{kindAt, frameAt, countAt}
+use Rattle.frames.specs.Frame.{kindAt, frameAt, containerAt, countAt}
+use Rattle.frames.specs.declared.Count.{Count}
 use Rattle.meaning.specs.Written.{frameOctets}
 use Rattle.round_trips.proofs.Laid.{envelopeOctets}
 
@@ -82,17 +86,39 @@ envelope-again s at h r os o q i c b =
 
 -- ---- a message
 
--- no extension, and how many elements, before what fills the rest
-pub count-again : (s : List ℕ) (from n : ℕ) (os : List ℕ) → Octets s → got n ≡ countAt s from → Fills s (from + 3) os → Fills s from (packed (bit false ∷ []) ∷ (numberOctets 2 n ++ os))
+-- a bit that is not 1 is 0
+unset : (x b : ℕ) → false ≡ eqb (bitsOf x b 1) 1 → bitsOf x b 1 ≡ 0
+unfolding bitsOf
+unset x b e = let n = eqb-false (x / 2 ^ (8 - (b % 8 + 1)) % 2 ^ 1) 1 (sym e) in omega arith
+
+-- the bits in front: no extension, and no container
+opening-again : (c : Bool) (s : List ℕ) (from : ℕ) → Octets s → got tt ≡ plainAt s from 0 → got false ≡ containerAt c s from → got tt ≡ padAt s from (pick c 2 1)
+    → Stands s from (packed (bit false ∷ []) ∷ [])
+unfolding containerAt packedIn
+opening-again false s from o a b p =
+    let x = plain-got s from 0 a in
+    let f : Stands s from (packed (1 bits bitsAt s from 0 1 ∷ []) ∷ []) = packed-again s from (1 ∷ []) o (x .0) (omega arith) (pad-zero s from 1 (omega arith) (omega arith) p) in
+    rw (x .1) at f
+opening-again true s from o a b p =
+    let x = plain-got s from 0 a in
+    let y : bitsAt s from 1 1 ≡ 0 = unset (getD s from 0) 1 (flag-got s from 1 b .1) in
+    let f : Stands s from (packed (1 bits bitsAt s from 0 1 ∷ 1 bits bitsAt s from 1 1 ∷ []) ∷ []) = packed-again s from (1 ∷ 1 ∷ []) o (x .0) (omega arith) (pad-zero s from 2 (omega arith) (omega arith) p) in
+    rw (x .1, y) at f
+
+-- they and how many elements, before what fills the rest
+pub count-again : (c : Bool) (s : List ℕ) (from n : ℕ) (os : List ℕ) → Octets s → got (record { elements = n; container = false }) ≡ countAt c s from → Fills s (from + 3) os
+    → Fills s from (packed (bit false ∷ []) ∷ (numberOctets 2 n ++ os))
 unfolding countAt
-count-again s from n os o q b =
+count-again c s from n os o q b =
     let a = then-got (plainAt s from 0) _ q in
-    let p = then-got (padAt s from 1) _ (a .2) in
-    let x = plain-got s from 0 (a .1) in
-    let f : Stands s from (packed (1 bits bitsAt s from 0 1 ∷ []) ∷ []) = packed-again s from (1 ∷ []) o (x .0) (omega arith) (pad-zero s from 1 (omega arith) (omega arith) (p .1)) in
-    let g : Stands s from (packed (bit false ∷ []) ∷ []) = rw (x .1) at f in
+    let x = then-got (containerAt c s from) _ (a .2) in
+    let p = then-got (padAt s from (pick c 2 1)) _ (x .2) in
+    let k = then-got (numberAt 2 s (from + 1)) _ (p .2) in
+    let e : _≡_ {A = Count} (record { elements = n; container = false }) (record { elements = k .0; container = x .0 }) = same-got (k .2) in
+    let none : false ≡ x .0 = ap (λ (y : Count). y .container) e in
+    let many : n ≡ k .0 = ap (λ (y : Count). y .elements) e in
     let l = length-number 2 n in
-    fills-join g (omega arith) (fills-join (number-again 2 s (from + 1) o (p .2)) (omega arith) b)
+    fills-join (opening-again c s from o (a .1) (rw (← none) at (x .1)) (p .1)) (omega arith) (fills-join (number-again 2 s (from + 1) o (rw (← many) at (k .1))) (omega arith) b)
 
 kind-again : (s : List ℕ) {k : ℕ} → Octets s → got k ≡ kindAt s → Stands s 0 (packed (bit false ∷ 2 bits k ∷ []) ∷ [])
 unfolding kindAt

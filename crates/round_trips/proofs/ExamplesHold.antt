@@ -32,11 +32,11 @@ use Rattle.diagnostics.specs.Diagnostics as diagnostics
 use Rattle.kinds.specs.Kinds.{valueAt}
 use Rattle.rows.specs.Table.{find}
 use Rattle.envelopes.specs.Envelope.{criticalityAt, envelopeAt, scanAt, headsAt}
-use Rattle.elements.specs.Judge.{front, readInto, unknownOf, missingOf, judgedOf, elementsAt}
+use Rattle.elements.specs.Judge.{front, readInto, unknownOf, missingOf, judgedOf, extensionsAt, elementsAt}
 use Rattle.editions.specs.declared.Message.{Message}
 use Rattle.editions.specs.declared.Message.the-variants as message
-use Rattle.editions.specs.Editions.{release18, firstOf, namedBy, numberedBy}
-use Rattle.frames.specs.Frame.{kindAt, frameAt, countAt}
+use Rattle.editions.specs.Editions.{printed, firstOf, namedBy, numberedBy}
+use Rattle.frames.specs.Frame.{kindAt, frameAt, containerAt, countAt}
 use Rattle.meaning.specs.Value.{Given, given, absent, onCarried, saidBy}
 use Rattle.meaning.specs.Value as value
 use Rattle.meaning.specs.Reading.{readAs, valueIn, valuesIn}
@@ -86,7 +86,7 @@ abbrev resetRead : Understood
 resetRead = read 0 4 message.Reset (given (value.cause (record { group = 4; value = 2 })) ∷ given (value.reset (part items)) ∷ [])
 
 pub hold : Hold
-unfolding _>>=_ noMeaning bitsOf flagAt plainAt choiceAt padAt numberAt sameAt longLengthAt lengthAt openAt endsAt packedIn numberOctets lengthOctets many causeAt causeOctets marksAt itemAt itemElementAt itemsAt resetAt itemOctets itemElementOctets itemsOctets resetOctets diagnostics.marksAt diagnostics.headAt diagnostics.diagnosticsAt valueAt find criticalityAt envelopeAt scanAt headsAt front readInto unknownOf missingOf judgedOf elementsAt namedBy firstOf release18 readAs valueIn valuesIn onCarried kindAt frameAt countAt openedAt readOf octetsOf hasOctets saidBy elementsOctets howMany insideOctets messageOctets elementsGood encoded
+unfolding _>>=_ noMeaning bitsOf flagAt plainAt choiceAt padAt numberAt sameAt longLengthAt lengthAt openAt endsAt packedIn numberOctets lengthOctets many causeAt causeOctets marksAt itemAt itemElementAt itemsAt resetAt itemOctets itemElementOctets itemsOctets resetOctets diagnostics.marksAt diagnostics.headAt diagnostics.diagnosticsAt valueAt find criticalityAt envelopeAt scanAt headsAt front readInto unknownOf missingOf judgedOf extensionsAt elementsAt namedBy firstOf printed readAs valueIn valuesIn onCarried kindAt frameAt containerAt countAt openedAt readOf octetsOf hasOctets saidBy elementsOctets howMany insideOctets messageOctets elementsGood encoded
 hold =
     (refl, refl)
     also (refl, refl)
@@ -109,7 +109,7 @@ all-octets (x ∷ s) e zero = let h = ltb-false 255 x (or-left (ltb 255 x) (some
 all-octets (x ∷ s) e (suc i) = all-octets s (or-right (ltb 255 x) (some (λ y. ltb 255 y) s) e) i
 
 pub reset-rewritable : ResetRewritable
-unfolding _>>=_ bitsOf flagAt plainAt choiceAt padAt numberAt sameAt longLengthAt lengthAt openAt endsAt many causeAt marksAt itemAt itemElementAt itemsAt resetAt critAt critsAt valueAt find criticalityAt envelopeAt scanAt headsAt front readInto unknownOf missingOf judgedOf elementsAt namedBy firstOf release18 readAs valueIn valuesIn onCarried kindAt frameAt countAt openedAt readOf saidBy lacking
+unfolding _>>=_ bitsOf flagAt plainAt choiceAt padAt numberAt sameAt longLengthAt lengthAt openAt endsAt many causeAt marksAt itemAt itemElementAt itemsAt resetAt critAt critsAt valueAt find criticalityAt envelopeAt scanAt headsAt front readInto unknownOf missingOf judgedOf extensionsAt elementsAt namedBy firstOf printed readAs valueIn valuesIn onCarried kindAt frameAt containerAt countAt openedAt readOf saidBy lacking
 reset-rewritable = record {
   octets = all-octets partialReset refl;
   what = resetRead;
@@ -126,5 +126,5 @@ reset-rewritable = record {
 }
 
 pub one-message : OneMessage
-unfolding written readRecord recordOctets saidRecord slotsSay slotSays slotOf listsOf eachRow same numberedBy firstOf release18 bitsOf packedIn numberOctets lengthOctets octetsOf hasOctets onCarried saidBy elementsOctets howMany insideOctets messageOctets elementsGood encoded shown slotsShown slotsCarry carriedIn
+unfolding written readRecord recordOctets saidRecord slotsSay slotSays slotOf listsOf eachRow same numberedBy firstOf printed bitsOf packedIn numberOctets lengthOctets octetsOf hasOctets onCarried saidBy elementsOctets howMany insideOctets messageOctets elementsGood encoded shown slotsShown slotsCarry carriedIn
 one-message = (refl, refl, refl, refl)

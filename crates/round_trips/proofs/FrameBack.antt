@@ -2,21 +2,21 @@
 -- Assumes nothing.
 use Prim.Native.Nat.{ℕ, _+_, _<_}
 use mathlib.Core.Path.{_≡_, refl}
-use mathlib.Core.Bool.{false}
+use mathlib.Core.Bool.{Bool, true, false}
 use mathlib.Core.List.{List, [], _∷_, _++_}
 use native.Mathlib.Omega.{arith}
 use lib.ListN.{length, length-append}
 use Rattle.octets.specs.Read.{got}
-use Rattle.packed.specs.Packed.{_bits_, bit, packed, Fit}
+use Rattle.packed.specs.Packed.{_bits_, bit, packedIn, packed, Fit}
 use Rattle.octets.specs.Write.{numberOctets, lengthOctets}
 use Rattle.octets.specs.Stands.{Stands, Fills}
 use Rattle.octets.proofs.Chain.{past}
 use Rattle.octets.proofs.Writing.{number-one}
 use Rattle.octets.proofs.Stood.{stands-split, stands-alone}
-use Rattle.octets.proofs.Back.{length-number, number-back, choice-back, plain-back, rest-back, open-back, ends-back}
+use Rattle.octets.proofs.Back.{length-number, number-back, choice-back, flag-back, plain-back, rest-back, open-back, ends-back}
 use Rattle.editions.specs.declared.Code.{Code}
 use Rattle.rows.specs.declared.Row.{Row}
-use Rattle.frames.specs.Frame.{kindAt, frameAt, countAt}
+use Rattle.frames.specs.Frame.{kindAt, frameAt, containerAt, countAt}
 use Rattle.meaning.specs.Value.{Given}
 use Rattle.meaning.specs.Written.{howMany, elementsOctets, insideOctets, frameOctets}
 use Rattle.round_trips.proofs.Laid.{criticality-back}
@@ -73,13 +73,27 @@ module _ (s : List ℕ) (from : ℕ) (t : List Row) (vs : List (Given (List ℕ)
       let k : from + 1 + length (numberOctets 2 (howMany vs)) ≡ from + 3 = rw (length-number 2 (howMany vs)) (omega arith) in
       (a .0, b .0, rw k at (b .1))
 
-  pub count-back : howMany vs < 65536 → got (howMany vs) ≡ countAt s from
-  unfolding countAt
-  count-back b =
+  -- two bits of zero are one octet with one
+  two : Stands s from (packed (bit false ∷ bit false ∷ []) ∷ [])
+  unfolding packedIn
+  two = inside-stands .0
+
+  -- no container, whether or not the message can have one: the bits are pad, or say so
+  pub count-back : (c : Bool) → howMany vs < 65536 → got (record { elements = howMany vs; container = false }) ≡ countAt c s from
+  unfolding countAt containerAt
+  count-back false b =
       let h = inside-stands in
       past _ tt (plain-back s from [] [] (omega arith, omega arith, tt) (omega arith) (h .0))
+      (past _ false refl
       (past _ tt (rest-back s from (bit false ∷ []) (omega arith, omega arith, tt) (omega arith) (omega arith) (h .0))
-      (number-back 2 s (from + 1) (howMany vs) b (h .1)))
+      (past _ _ (number-back 2 s (from + 1) (howMany vs) b (h .1)) refl)))
+  count-back true b =
+      let h = inside-stands in
+      let fit : Fit 8 (bit false ∷ bit false ∷ []) = (omega arith, omega arith, (omega arith, omega arith, tt)) in
+      past _ tt (plain-back s from [] [] (omega arith, omega arith, tt) (omega arith) (h .0))
+      (past _ false (flag-back s from (bit false ∷ []) false [] fit (omega arith) two)
+      (past _ tt (rest-back s from (bit false ∷ bit false ∷ []) fit (omega arith) (omega arith) two)
+      (past _ _ (number-back 2 s (from + 1) (howMany vs) b (h .1)) refl)))
 
   pub elements-fill : Fills s (from + 3) (elementsOctets t vs)
   unfolding insideOctets

@@ -56,12 +56,12 @@ pub record Placed (s : List ℕ) (v : Span) : Type 0 where
 pub placed-none : (s : List ℕ) → Placed s noSpan
 placed-none s = record { ends = omega arith; some = λ h. absurd (omega arith) }
 
-pub read-placed : (t : List Row) (s : List ℕ) (at : ℕ) (l : List Span) (hs : List Head) → Scanned t s at hs → Each (Placed s) l → Each (Placed s) (readInto t l hs)
+pub read-placed : (t : List Row) (s : List ℕ) (end at : ℕ) (l : List Span) (hs : List Head) → Scanned t s end at hs → Each (Placed s) l → Each (Placed s) (readInto t l hs)
 unfolding readInto
-read-placed t s at l [] q g = g
-read-placed t s at l (h ∷ hs) q g =
+read-placed t s end at l [] q g = g
+read-placed t s end at l (h ∷ hs) q g =
     let x = envelope-in s at (q .0) in
-    read-placed t s (h .value .to) (set l (find (h .id) t) (h .value)) hs (q .2) (each-set (Placed s) l (find (h .id) t) g (record { ends = x .2; some = λ z. x .1 }))
+    read-placed t s end (h .value .to) (set l (find (h .id) t) (h .value)) hs (q .2) (each-set (Placed s) l (find (h .id) t) g (record { ends = x .2; some = λ z. x .1 }))
 
 -- ---- values that have octets
 

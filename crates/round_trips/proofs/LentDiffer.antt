@@ -24,6 +24,7 @@ use Rattle.editions.specs.declared.Message.{Message}
 use Rattle.editions.specs.declared.Named.{Named}
 use Rattle.editions.specs.declared.Named.the-variants as named
 use Rattle.editions.specs.Editions.{tableOf, numberOf, numberedBy}
+use Rattle.editions.proofs.Names.{numbered-listed}
 use Rattle.meaning.specs.Value.{Value, Given, given, absent, carried, mme, mce, tmgi, one, two, cause, wait, name, reset, list, diagnostics, octetsIn, onCarried, onGiven, Said, Record, saidBy, bare}
 use Rattle.meaning.specs.Written.{hasOctets, elementsGood, octets, none, encoded}
 use Rattle.meaning.specs.Ranges.{Ranged}
@@ -133,7 +134,7 @@ abbrev bareOf : Said → Record
 bareOf w = record { message = w .message; crit = 0; values = map (onGiven ofLength) (w .values) }
 
 pub in-types : (e : Edition) (s values os : List ℕ) → Octets s → Octets values → (r : Lent e s values os) → InTypes e (saidBy values (r .what))
-in-types e s values os o h r = subst (λ (x : Record). InTypes e (saidBy values x)) (r .says) (said-types e (r .what .message) s values o h)
+in-types e s values os o h r = subst (λ (x : Record). InTypes e (saidBy values x)) (r .says) (said-types e (r .what .message) s values (numbered-listed e (getD s 0 0) (r .what .message) (r .named)) o h)
 
 module _ (e : Edition) (s values os : List ℕ) (r : Lent e s values os) (g : InTypes e (saidBy values (r .what))) where
   shown-said : shown e s ≡ recordOctets e (bareOf (saidBy values (r .what)))
@@ -141,7 +142,7 @@ module _ (e : Edition) (s values os : List ℕ) (r : Lent e s values os) (g : In
   shown-said =
       let t : List Row = tableOf e (r .what .message) in
       let a : shown e s ≡ getD s 0 0 ∷ 0 ∷ slotsShown t (drop 2 s) = ap (λ (n : Named). getD s 0 0 ∷ 0 ∷ slotsShown (tableBy e n) (drop 2 s)) (r .named) in
-      let b = subst (λ (x : List ℕ). getD x 0 0 ∷ 0 ∷ slotsShown t (drop 2 x) ≡ recordOctets e (bare (r .what))) (r .form) (shown-bare e (r .what) (octetsIn values) g) in
+      let b = subst (λ (x : List ℕ). getD x 0 0 ∷ 0 ∷ slotsShown t (drop 2 x) ≡ recordOctets e (bare (r .what))) (r .form) (shown-bare e (r .what) (octetsIn values) (g .values)) in
       let c : bare (r .what) ≡ bareOf (saidBy values (r .what)) =
       ap (λ (vs : List (Given Span)). record { message = r .what .message; crit = 0; values = vs }) (bare-values values (r .what .values) (written-has e (saidBy values (r .what)) os (r .message))) in
       a ∙ (b ∙ ap (recordOctets e) c)

@@ -2,7 +2,7 @@
 -- Assumes nothing.
 use mathlib.Core.Path.{_≡_, refl}
 use mathlib.Core.Bool.{Bool, false}
-use mathlib.Core.List.{List, [], _∷_, map}
+use mathlib.Core.List.{List, [], _∷_, map, List·Memᴰ}
 use Prim.Native.Nat.{ℕ, zero, suc, min, _+_, _<_}
 use native.Mathlib.Omega.{arith}
 use lib.Dec.{eqb, leb}
@@ -27,6 +27,7 @@ use Rattle.rows.specs.declared.Kind.the-variants as kind
 use Rattle.rows.specs.declared.Row.{Row}
 use Rattle.editions.specs.declared.Edition.{Edition}
 use Rattle.editions.specs.declared.Message.{Message}
+use Rattle.editions.specs.Editions.{messagesOf}
 use Rattle.meaning.specs.Value.{Given, octetsIn, onCarried, onGiven, saidBy}
 use Rattle.meaning.specs.Ranges.{ResetRange, InRange, valueKind, RowRange, Ranged}
 use Rattle.layout.specs.Rows.{rowItem, rowEntry, eachRow}
@@ -100,6 +101,6 @@ module _ (values : List ℕ) (o : Octets values) (l : Lists) (g : ListsRange l) 
     slots-said t (drop 8 p) (octets-drop 8 p h),
   )
 
-pub said-types : (e : Edition) (m : Message) (s values : List ℕ) → Octets s → Octets values → InTypes e (saidBy values (saidRecord e m s))
+pub said-types : (e : Edition) (m : Message) (s values : List ℕ) → List·Memᴰ m (messagesOf e) → Octets s → Octets values → InTypes e (saidBy values (saidRecord e m s))
 unfolding saidBy saidRecord
-said-types e m s values o h = slots-said values h (listsIn s) (lists-said s o) _ (drop 2 s) (octets-drop 2 s o)
+said-types e m s values d o h = record { message = d; values = slots-said values h (listsIn s) (lists-said s o) _ (drop 2 s) (octets-drop 2 s o) }

@@ -11,10 +11,9 @@ use lib.ListN.{length, take, set, getD, length-set}
 use lib.Seq.{getD-set-same, getD-set-other}
 use Rattle.lists.specs.Lists.{pick}
 use Rattle.octets.specs.Read.{Read, got}
-use Rattle.octets.specs.Field.{endsAt}
 use Rattle.octets.specs.declared.Span.{Span}
 use Rattle.octets.specs.Span.{noSpan}
-use Rattle.octets.proofs.Chain.{then-got}
+use Rattle.octets.proofs.Chain.{then-got, same-got}
 use Rattle.octets.specs.Many.{Each}
 use Rattle.kinds.specs.Kinds.{valueAt}
 use Rattle.rows.specs.declared.Row.{Row}
@@ -24,15 +23,15 @@ use Rattle.envelopes.specs.Envelope.{envelopeAt, scanAt, onHead, headsAt}
 use Rattle.elements.specs.Judge.{front, readInto}
 use Rattle.round_trips.specs.Ties.{Regular}
 
-module _ (t : List Row) (s : List ℕ) where
-  -- elements, each with a value that can be read, fill s from the place on
+module _ (t : List Row) (s : List ℕ) (end : ℕ) where
+  -- elements, each with a value that can be read, from the place on up to the end
   abbrev pub Scanned : ℕ → List Head → Type 0
-  Scanned at [] = got tt ≡ endsAt s at
+  Scanned at [] = end ≡ at
   Scanned at (h ∷ hs) = (got h ≡ envelopeAt s at) × (got tt ≡ valueAt (kindOf t (h .id)) (take (h .value .to) s) (h .value .from)) × Scanned (h .value .to) hs
 
-  pub scanned : (n at : ℕ) → got tt ≡ scanAt t s n at → (length (headsAt s n at) ≡ n) × Scanned at (headsAt s n at)
+  pub scanned : (n at : ℕ) → got end ≡ scanAt t s n at → (length (headsAt s n at) ≡ n) × Scanned at (headsAt s n at)
   unfolding scanAt headsAt
-  scanned zero at q = (refl, q)
+  scanned zero at q = (refl, same-got q)
   scanned (suc n) at q =
       let a = then-got (envelopeAt s at) _ q in
       let b = then-got (valueAt (kindOf t (a .0 .id)) (take (a .0 .value .to) s) (a .0 .value .from)) _ (a .2) in

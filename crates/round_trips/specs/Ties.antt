@@ -3,7 +3,7 @@
 use Prim.Native.Nat.{ℕ, _+_}
 use mathlib.Core.Path.{_≡_}
 use mathlib.Core.Bool.{Bool, true, false, _||_}
-use mathlib.Core.List.{List, [], _∷_}
+use mathlib.Core.List.{List, [], _∷_, List·Memᴰ}
 use lib.ListN.{take, getD}
 use Rattle.octets.specs.Read.{got}
 use Rattle.octets.specs.Stands.{Octets}
@@ -18,7 +18,7 @@ use Rattle.envelopes.specs.declared.Head.{Head}
 use Rattle.envelopes.specs.Envelope.{headsAt}
 use Rattle.frames.specs.Frame.{countAt}
 use Rattle.editions.specs.declared.Edition.{Edition}
-use Rattle.editions.specs.Editions.{tableOf, codeOf}
+use Rattle.editions.specs.Editions.{messagesOf, tableOf, codeOf, containerOf}
 use Rattle.meaning.specs.Value.{Given, given, absent, Said, saidBy}
 use Rattle.meaning.specs.Written.{octets, encoded}
 use Rattle.meaning.specs.Ranges.{Ranged}
@@ -57,9 +57,10 @@ lacking (r ∷ t) (given v ∷ vs) = lacking t vs
 lacking (r ∷ t) (absent ∷ vs) = r .mandatory || lacking t vs
 
 module _ (e : Edition) where
-  -- for each row of the message's table none or a value of its kind, in range
-  abbrev pub InTypes : Said → Type 0
-  InTypes w = Ranged (tableOf e (w .message)) (w .values)
+  -- a message of the edition, and for each row of its table none or a value of its kind, in range
+  pub record InTypes (w : Said) : Type 0 where
+    pub message : List·Memᴰ (w .message) (messagesOf e)
+    pub values : Ranged (tableOf e (w .message)) (w .values)
 
   -- octets that are read with answer 0, nothing noted, say this, and have the frame's criticality of the tables
   pub record ReadAs (os : List ℕ) (w : Said) : Type 0 where
@@ -78,7 +79,7 @@ module _ (e : Edition) where
   abbrev pub SaidDiffer : Type 0
   SaidDiffer = (w z : Said) (os : List ℕ) → InTypes w → InTypes z → encoded e w ≡ octets os → encoded e z ≡ octets os → w ≡ z
 
-  -- 01's conditions: only elements of the message's table, the tables' criticalities, the frame's included, no mandatory element lacking, answer 0
+  -- 01's conditions: only elements of the message's table and no container beside them, the tables' criticalities, the frame's included, no mandatory element lacking, answer 0
   pub record Rewritable (s : List ℕ) : Type 0 where
     pub octets : Octets s
     pub what : Understood
@@ -86,7 +87,7 @@ module _ (e : Edition) where
     pub accepted : what .outcome ≡ outcome.Accepted  -- answer 0
     pub crit : what .frame .crit ≡ codeOf e (what .what .message) .crit
     pub count : ℕ
-    pub counted : got count ≡ countAt s (what .frame .from)
+    pub counted : got (record { elements = count; container = false }) ≡ countAt (containerOf e (what .what .message)) s (what .frame .from)
     pub elements : Each (Regular (tableOf e (what .what .message)) s) (headsAt s count (what .frame .from + 3))
     pub complete : lacking (tableOf e (what .what .message)) (what .what .values) ≡ false
 

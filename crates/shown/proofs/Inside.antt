@@ -30,7 +30,7 @@ use Rattle.editions.specs.declared.Edition.{Edition}
 use Rattle.editions.specs.declared.Message.{Message}
 use Rattle.editions.specs.declared.Named.{Named}
 use Rattle.editions.specs.declared.Named.the-variants as named
-use Rattle.editions.specs.Editions.{tableOf, namedBy}
+use Rattle.editions.specs.Editions.{tableOf, containerOf, namedBy}
 use Rattle.frames.specs.declared.Frame.{Frame}
 use Rattle.frames.specs.Frame.{frameAt}
 use Rattle.meaning.specs.Value.{absent}
@@ -108,7 +108,7 @@ opened-inside t m f s (stop x) = tt
 
 module _ (e : Edition) (s : List ℕ) where
   named-inside : (f : Frame) (n : Named) → Inside s (foundIn (ofThose e setupRequests s f n))
-  named-inside f (named.Is m) = on-pick (λ v. Inside s (foundIn v)) (setupRequests m) (opened-inside (tableOf e m) m f s (openedAt (tableOf e m) s (f .from))) tt
+  named-inside f (named.Is m) = on-pick (λ v. Inside s (foundIn v)) (setupRequests m) (opened-inside (tableOf e m) m f s (openedAt (tableOf e m) (containerOf e m) s (f .from))) tt
   named-inside f named.Other = tt
 
   framed-inside : (r : Read Frame) → Inside s (foundIn (framed e setupRequests s r))

@@ -1,6 +1,7 @@
 -- What is found of octets, by the steps in which the code comes to it.
 -- Assumes nothing.
 use Prim.Native.Nat.{ℕ}
+use mathlib.Core.Bool.{Bool}
 use mathlib.Core.Path.{_≡_, _∙_, sym, ap}
 use mathlib.Core.List.{List}
 use Rattle.octets.specs.Read.{Read}
@@ -11,7 +12,7 @@ use Rattle.rows.specs.declared.Rows.{Rows}
 use Rattle.rows.specs.Table.{rowsIn}
 use Rattle.editions.specs.declared.Edition.{Edition}
 use Rattle.editions.specs.declared.Message.{Message}
-use Rattle.editions.specs.Editions.{tableOf, rowsOf}
+use Rattle.editions.specs.Editions.{tableOf, containerOf, rowsOf}
 use Rattle.frames.specs.declared.Frame.{Frame}
 use Rattle.meaning.specs.Reading.{valuesIn}
 use Rattle.verdicts.specs.declared.Refusal.{Refusal}
@@ -33,13 +34,13 @@ module _ (e : Edition) (s : List ℕ) where
   unfolding nameIn
   refused-as q = sym (ap foundIn q)
 
-module _ (e : Edition) (m : Message) (f : Frame) (s : List ℕ) {t : Rows} {o : Opened} {ps : List ℕ} (rows : t ≡ rowsOf e m) (q : Opens (openedAt (rowsIn t) s (f .from)) o ps) where
-  pub not-opened : {x : Stop} → o .gate ≡ gate.Stop x → Nothing ≡ foundIn (verdictOf (tableOf e m) m f s (openedAt (tableOf e m) s (f .from)))
-  not-opened g = sym (ap foundIn (verdict-stops e m f s rows q g))
+module _ (e : Edition) (m : Message) (f : Frame) (s : List ℕ) {t : Rows} {o : Opened} {ps : List ℕ} (rows : t ≡ rowsOf e m) {c : Bool} (container : c ≡ containerOf e m) (q : Opens (openedAt (rowsIn t) c s (f .from)) o ps) where
+  pub not-opened : {x : Stop} → o .gate ≡ gate.Stop x → Nothing ≡ foundIn (verdictOf (tableOf e m) m f s (openedAt (tableOf e m) (containerOf e m) s (f .from)))
+  not-opened g = sym (ap foundIn (verdict-stops e m f s rows container q g))
 
   pub opened : o .gate ≡ gate.Pass → {x : Found} → x ≡ foundAmong (valuesIn (rowsIn t) s (spansIn ps))
-      → ifAccepted (o .outcome) x ≡ foundIn (verdictOf (tableOf e m) m f s (openedAt (tableOf e m) s (f .from)))
+      → ifAccepted (o .outcome) x ≡ foundIn (verdictOf (tableOf e m) m f s (openedAt (tableOf e m) (containerOf e m) s (f .from)))
   opened g {x} a =
-      let y = passed e m f s rows q g in
+      let y = passed e m f s rows container q g in
       let v : x ≡ foundAmong (valuesIn (tableOf e m) s (y .opening .spans)) = a ∙ ap foundAmong (y .values) in
       (λ i. ifAccepted (y .outcome i) (v i)) ∙ sym (ap (λ (r : Read Opening). foundIn (verdictOf (tableOf e m) m f s r)) (y .is))

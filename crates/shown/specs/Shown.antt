@@ -32,6 +32,9 @@ setupRequests message.ResetAcknowledge = false
 setupRequests message.ErrorIndication = false
 setupRequests message.SetupResponse = false
 setupRequests message.SetupFailure = false
+setupRequests message.StopWarningRequest = false
+setupRequests message.StopWarningResponse = false
+setupRequests message.WarningErrorIndication = false
 
 -- where a name's characters stand, of a value or else of the others
 abbrev pub foundBy : Value Span → Found → Found

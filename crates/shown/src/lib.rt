@@ -3,7 +3,7 @@ ghost use mathlib.Core.Path.{_≡_};
 ghost use Rattle.places.specs.Places.{spansIn};
 ghost use Rattle.rows.specs.Table.{rowsIn};
 ghost use Rattle.names.specs.Names.{nameAt};
-ghost use Rattle.editions.specs.Editions.{tableOf};
+ghost use Rattle.editions.specs.Editions.{tableOf, containerOf};
 ghost use Rattle.meaning.specs.Reading.{valueIn, valuesIn};
 ghost use Rattle.verdicts.specs.Verdict.{openedAt, verdictOf};
 ghost use Rattle.shown.specs.Shown.{setupRequests, orElse, foundWith, foundAmong, ifAccepted, foundIn, nameIn, shownPart, shownOf};
@@ -46,6 +46,9 @@ fn is_setup_request(m: Message) -> bool
         Message::ErrorIndication => false,
         Message::SetupResponse => false,
         Message::SetupFailure => false,
+        Message::StopWarningRequest => false,
+        Message::StopWarningResponse => false,
+        Message::WarningErrorIndication => false,
     }
 }
 
@@ -102,11 +105,12 @@ fn if_accepted(o: Outcome, x: Found) -> Found
 
 // The name of a message that is accepted.
 fn name_inside(e: Edition, m: Message, f: Frame, s: &[u8]) -> Found
-    ensures { λ r. ⌜ r ≡ foundIn (verdictOf (tableOf e m) m f (now (s .entry)) (openedAt (tableOf e m) (now (s .entry)) (f .from))) ⌝ }
+    ensures { λ r. ⌜ r ≡ foundIn (verdictOf (tableOf e m) m f (now (s .entry)) (openedAt (tableOf e m) (containerOf e m) (now (s .entry)) (f .from))) ⌝ }
 {
+    let c = editions::has_container(e, m);
     let t = editions::rows_of(e, m);
     let mut places: [usize; 24] = [0; 24];
-    let o = judging::opened_at(t, s, f.from, &mut places);
+    let o = judging::opened_at(t, c, s, f.from, &mut places);
     let gate = o.gate;
     match gate {
         Gate::Pass => {

@@ -1,6 +1,7 @@
 -- What is noted of a message fits the words of entries: an unknown element's numbers are what its octets can say, and a missing one's are its row's.
 -- Assumes nothing.
 use Prim.Native.Nat.{ℕ, zero, suc, _+_, _<_, _≤_}
+use mathlib.Core.Bool.{Bool, true, false}
 use mathlib.Core.Path.{_≡_, _∙_, refl, sym, ap, subst}
 use mathlib.Core.List.{List, [], _∷_, _++_, map}
 use native.Mathlib.Omega.{arith}
@@ -9,7 +10,7 @@ use lib.ListN.{length, take, length-take, length-map}
 use lib.Seq.{length-sets}
 use Rattle.lists.proofs.Tests.{on-pick}
 use Rattle.octets.specs.Read.{Read, got, stop}
-use Rattle.octets.specs.Field.{choiceAt, padAt, numberAt, openAt}
+use Rattle.octets.specs.Field.{choiceAt, padAt, numberAt, belowAt, openAt, endsAt}
 use Rattle.octets.specs.Stands.{Octets}
 use Rattle.octets.specs.declared.Span.{Span}
 use Rattle.octets.specs.Span.{present}
@@ -108,65 +109,83 @@ missing-fit (r ∷ t) (v ∷ l) g =
     (on-pick (Each FitsWord) (ignored (r .crit)) tt (record { id = g .0 .id; crit = omega arith; error = omega arith }, tt)) tt))
     (missing-fit t l (g .1))
 
-listed-fit : (t : List Row) (n : ℕ) (hs : List Head) → Each NumbersFit t → Each HeadFits hs → Each FitsWord (elements.judgedOf t n hs .listed)
+listed-fit : (t : List Row) (n : ℕ) (hs xs : List Head) → Each NumbersFit t → Each HeadFits hs → Each HeadFits xs → Each FitsWord (elements.judgedOf t n hs xs .listed)
 unfolding elements.judgedOf
-listed-fit t n hs l g =
+listed-fit t n hs xs l g h =
     let f : List Head = front t 0 hs in
     each-joined FitsWord (unknownOf t f) _ (unknown-fit t f (front-fits t 0 hs g))
-    (on-pick (Each FitsWord) (eqb (length f) n) (missing-fit t (elements.readOf t f) l) tt)
+    (on-pick (Each FitsWord) (eqb (length f) n)
+    (each-joined FitsWord (unknownOf [] xs) _ (unknown-fit [] xs h) (missing-fit t (elements.readOf t f) l)) tt)
 
 -- ---- the opening
 
+-- the extensions are elements of the message too
+extensions-fit : (s : List ℕ) → Octets s → (container : Bool) (at : ℕ) {xs : List Head} → got xs ≡ elements.extensionsAt container s at → Each HeadFits xs
+unfolding elements.extensionsAt
+extensions-fit s o false at q = subst (Each HeadFits) (sym (same-got (then-got (endsAt s at) _ q .2))) tt
+extensions-fit s o true at q =
+    let a = then-got (belowAt 65535 s at) _ q in
+    let b = then-got (scanAt [] s (a .0 + 1) (at + 2)) _ (a .2) in
+    subst (Each HeadFits) (sym (same-got (then-got (endsAt s (b .0)) _ (b .2) .2))) (heads-fit s o (a .0 + 1) (at + 2))
+
 record Judged (t : List Row) (s : List ℕ) (from : ℕ) (o : Opening) : Type 0 where
   count : ℕ
-  is : openingBy count (elements.judgedOf t count (headsAt s count (from + 3))) ≡ o
+  extensions : List Head
+  fit : Octets s → Each HeadFits extensions
+  is : openingBy count (elements.judgedOf t count (headsAt s count (from + 3)) extensions) ≡ o
 
-judged : (t : List Row) (s : List ℕ) (from : ℕ) {o : Opening} → got o ≡ openedAt t s from → Judged t s from o
+judged : (t : List Row) (c : Bool) (s : List ℕ) (from : ℕ) {o : Opening} → got o ≡ openedAt t c s from → Judged t s from o
 unfolding openedAt elements.elementsAt
-judged t s from {o} q =
-    let a = then-got (countAt s from) _ q in
-    let b = then-got (elements.elementsAt t s (a .0) (from + 3)) _ (a .2) in
-    let d = then-got (scanAt t s (a .0) (from + 3)) _ (b .1) in
-    let x : b .0 ≡ elements.judgedOf t (a .0) (headsAt s (a .0) (from + 3)) = same-got (d .2) in
-    record { count = a .0; is = sym (same-got (b .2) ∙ ap (openingBy (a .0)) x) }
+judged t c s from {o} q =
+    let a = then-got (countAt c s from) _ q in
+    let n = a .0 .elements in
+    let b = then-got (elements.elementsAt t (a .0 .container) s n (from + 3)) _ (a .2) in
+    let x = then-got (elements.extensionsBehind t (a .0 .container) s n (from + 3)) _ (b .1) in
+    let d = then-got (scanAt t s n (from + 3)) _ (x .1) in
+    record {
+      count = n;
+      extensions = x .0;
+      fit = λ o. extensions-fit s o (a .0 .container) (d .0) (d .2);
+      is = sym (same-got (b .2) ∙ ap (openingBy n) (same-got (x .2)));
+    }
 
 pub none-noted : (es : List Entry) → length es ≡ 0 → es ≡ []
 none-noted [] q = refl
 none-noted (x ∷ es) q = absurd (omega arith)
 
-module _ (t : List Row) (s : List ℕ) (from : ℕ) (g : Each NumbersFit t) (o : Octets s) where
-  pub noted-fit : Each FitsWord (notedOf (openedAt t s from))
-  noted-fit = by (openedAt t s from) refl
+module _ (t : List Row) (c : Bool) (s : List ℕ) (from : ℕ) (g : Each NumbersFit t) (o : Octets s) where
+  pub noted-fit : Each FitsWord (notedOf (openedAt t c s from))
+  noted-fit = by (openedAt t c s from) refl
     where
-      by : (r : Read Opening) → r ≡ openedAt t s from → Each FitsWord (notedOf r)
+      by : (r : Read Opening) → r ≡ openedAt t c s from → Each FitsWord (notedOf r)
       by (got x) q =
-          let j = judged t s from q in
-          subst (λ (y : Opening). Each FitsWord (y .noted)) (j .is) (each-first FitsWord 256 (elements.judgedOf t (j .count) (headsAt s (j .count) (from + 3)) .listed) (listed-fit t (j .count) (headsAt s (j .count) (from + 3)) g (heads-fit s o (j .count) (from + 3))))
+          let j = judged t c s from q in
+          subst (λ (y : Opening). Each FitsWord (y .noted)) (j .is) (each-first FitsWord 256 (elements.judgedOf t (j .count) (headsAt s (j .count) (from + 3)) (j .extensions) .listed) (listed-fit t (j .count) (headsAt s (j .count) (from + 3)) (j .extensions) g (heads-fit s o (j .count) (from + 3)) (j .fit o)))
       by (stop x) q = tt
 
-  pub noted-few : length (notedOf (openedAt t s from)) ≤ 256
-  noted-few = by (openedAt t s from) refl
+  pub noted-few : length (notedOf (openedAt t c s from)) ≤ 256
+  noted-few = by (openedAt t c s from) refl
     where
-      by : (r : Read Opening) → r ≡ openedAt t s from → length (notedOf r) ≤ 256
+      by : (r : Read Opening) → r ≡ openedAt t c s from → length (notedOf r) ≤ 256
       by (got x) q =
-          let j = judged t s from q in
-          subst (λ (y : Opening). length (y .noted) ≤ 256) (j .is) (first (elements.judgedOf t (j .count) (headsAt s (j .count) (from + 3)) .listed))
+          let j = judged t c s from q in
+          subst (λ (y : Opening). length (y .noted) ≤ 256) (j .is) (first (elements.judgedOf t (j .count) (headsAt s (j .count) (from + 3)) (j .extensions) .listed))
         where
           first : (es : List Entry) → length (take 256 es) ≤ 256
           first es = let n = length-take 256 es in omega arith
       by (stop x) q = omega arith
 
-  pub noted-within : {l m : List ℕ} {n : ℕ} → length l ≡ 256 → NotedIn l (notedOf (openedAt t s from)) m n → n ≤ length m
+  pub noted-within : {l m : List ℕ} {n : ℕ} → length l ≡ 256 → NotedIn l (notedOf (openedAt t c s from)) m n → n ≤ length m
   noted-within {l} {m} {n} z w =
       let f = noted-few in
       let k = w .count in
-      let x : length m ≡ 256 = ap length (w .words) ∙ (length-sets l 0 (map entryWord (notedOf (openedAt t s from))) ∙ z) in
+      let x : length m ≡ 256 = ap length (w .words) ∙ (length-sets l 0 (map entryWord (notedOf (openedAt t c s from))) ∙ z) in
       omega arith
 
   -- the words say what is noted
-  pub noted-back : {l m : List ℕ} {n : ℕ} → length l ≡ 256 → NotedIn l (notedOf (openedAt t s from)) m n → map entryBy (take n m) ≡ notedOf (openedAt t s from)
+  pub noted-back : {l m : List ℕ} {n : ℕ} → length l ≡ 256 → NotedIn l (notedOf (openedAt t c s from)) m n → map entryBy (take n m) ≡ notedOf (openedAt t c s from)
   noted-back {l} {m} {n} z w =
-      let es : List Entry = notedOf (openedAt t s from) in
+      let es : List Entry = notedOf (openedAt t c s from) in
       let f = noted-few in
       let e : n ≡ length (map entryWord es) = w .count ∙ sym (length-map es entryWord) in
       let k : length (map entryWord es) ≤ length l = omega (arith, length-map es entryWord) in

@@ -2,7 +2,7 @@
 -- Assumes nothing.
 use Prim.Native.Nat.{ℕ, _≤_, _<_}
 use mathlib.Core.Path.{_≡_, _∙_, refl, sym, ap, subst}
-use mathlib.Core.Bool.{false}
+use mathlib.Core.Bool.{Bool, false}
 use mathlib.Core.List.{List, [], _∷_}
 use borrow.Author.Tests.{lt-ltb, le-ltb}
 use lib.ListN.{length}
@@ -19,7 +19,7 @@ use Rattle.rows.specs.Table.{rowsIn}
 use Rattle.editions.specs.declared.Edition.{Edition}
 use Rattle.editions.specs.declared.Message.{Message}
 use Rattle.editions.specs.declared.Named.{Named}
-use Rattle.editions.specs.Editions.{tableOf, rowsOf, namedBy}
+use Rattle.editions.specs.Editions.{tableOf, containerOf, rowsOf, namedBy}
 use Rattle.editions.proofs.Tables.{Fits, rows-fit}
 use Rattle.frames.specs.declared.Frame.{Frame}
 use Rattle.frames.specs.Frame.{frameAt}
@@ -91,14 +91,14 @@ noted-count r q = ap (λ (z : Opened). z .noted) (q .result) ∙ by r
     by (got y) = refl
     by (stop x) = refl
 
-module _ (e : Edition) (m : Message) (f : Frame) (s : List ℕ) {t : Rows} {o : Opened} {ps : List ℕ} (rows : t ≡ rowsOf e m) (q : Opens (openedAt (rowsIn t) s (f .from)) o ps) (g : o .gate ≡ gate.Pass) where
+module _ (e : Edition) (m : Message) (f : Frame) (s : List ℕ) {t : Rows} {o : Opened} {ps : List ℕ} (rows : t ≡ rowsOf e m) {b : Bool} (container : b ≡ containerOf e m) (q : Opens (openedAt (rowsIn t) b s (f .from)) o ps) (g : o .gate ≡ gate.Pass) where
   found : Passed e m f s t o ps
-  found = passed e m f s rows q g
+  found = passed e m f s rows container q g
 
-  noted-is : notedOf (openedAt (rowsIn t) s (f .from)) ≡ found .opening .noted
-  noted-is = ap (λ (x : List Row). notedOf (openedAt x s (f .from))) (rows-of e m rows) ∙ ap notedOf (found .is)
+  noted-is : notedOf (openedAt (rowsIn t) b s (f .from)) ≡ found .opening .noted
+  noted-is = ap notedOf ((λ i. openedAt (rows-of e m rows i) (container i) s (f .from)) ∙ found .is)
 
   pub decided-by : {u : Ruling} → u ≡ ruling (askOf m) (seen (valuesIn (rowsIn t) s (spansIn ps))) (o .outcome) → (c : MceId) (l : Unit)
-      → applied e l f (listsOf (valuesIn (rowsIn t) s (spansIn ps)) .items) (notedOf (openedAt (rowsIn t) s (f .from))) (decision (standing (askedBy c u) (l .held)) c u)
-      ≡ decided e l c (judgedBy e (verdictOf (tableOf e m) m f s (openedAt (tableOf e m) s (f .from))))
+      → applied e l f (listsOf (valuesIn (rowsIn t) s (spansIn ps)) .items) (notedOf (openedAt (rowsIn t) b s (f .from))) (decision (standing (askedBy c u) (l .held)) c u)
+      ≡ decided e l c (judgedBy e (verdictOf (tableOf e m) m f s (openedAt (tableOf e m) (containerOf e m) s (f .from))))
   decided-by a c l = decided-so e m f s c l (found .opening) (found .is) (found .values) noted-is (a ∙ ap (ruling (askOf m) (seen (valuesIn (rowsIn t) s (spansIn ps)))) (found .outcome))

@@ -13,7 +13,7 @@ ghost use Rattle.places.specs.Places.{spansIn};
 ghost use Rattle.units.specs.Unit.{openIn, readUnit};
 ghost use Rattle.requests.specs.Requests.{askOf, answersSetup};
 ghost use Rattle.rows.specs.Table.{rowsIn};
-ghost use Rattle.editions.specs.Editions.{tableOf};
+ghost use Rattle.editions.specs.Editions.{tableOf, containerOf};
 ghost use Rattle.meaning.specs.Reading.{valuesIn};
 ghost use Rattle.layout.specs.Record.{listsOf};
 ghost use Rattle.verdicts.specs.Verdict.{openedAt, verdictOf};
@@ -191,6 +191,7 @@ fn settle_items(
 fn settle_noted(
     e: Edition,
     t: Rows,
+    c: bool,
     f: Frame,
     d: Decision,
     n: usize,
@@ -200,15 +201,15 @@ fn settle_noted(
     unit: &mut [u8],
     room: &mut [u8],
 ) -> Back
-    requires { ⌜ HasRows n (now unit) × (listsItems (d .reply) ≡ resets (d .change)) × Each NumbersFit (rowsIn t) × (noted ≡ length (notedOf (openedAt (rowsIn t) (now message) (f .from)))) ⌝ }
-    ensures { λ r. ⌜ Called (settled e (now (unit .entry)) (now (room .entry)) (applied e (unitIn n (now (unit .entry))) f (listsOf (valuesIn (rowsIn t) (now (message .entry)) (spansIn (now (places .entry)))) .items) (notedOf (openedAt (rowsIn t) (now (message .entry)) (f .from))) d)) r (now (unit .exit)) (now (room .exit)) ⌝ }
+    requires { ⌜ HasRows n (now unit) × (listsItems (d .reply) ≡ resets (d .change)) × Each NumbersFit (rowsIn t) × (noted ≡ length (notedOf (openedAt (rowsIn t) c (now message) (f .from)))) ⌝ }
+    ensures { λ r. ⌜ Called (settled e (now (unit .entry)) (now (room .entry)) (applied e (unitIn n (now (unit .entry))) f (listsOf (valuesIn (rowsIn t) (now (message .entry)) (spansIn (now (places .entry)))) .items) (notedOf (openedAt (rowsIn t) c (now (message .entry)) (f .from))) d)) r (now (unit .exit)) (now (room .exit)) ⌝ }
 {
     if noted == 0 {
         let none: [u64; 1] = [0; 1];
         return settle_items(e, t, f, d, n, message, places, &none[..0], unit, room);
     }
     let mut words: [u64; 256] = [0; 256];
-    let all = judging::noted_into(t, message, f.from, &mut words);
+    let all = judging::noted_into(t, c, message, f.from, &mut words);
     settle_items(e, t, f, d, n, message, places, &words[..all], unit, room)
 }
 
@@ -216,6 +217,7 @@ fn settle_noted(
 fn carried_out(
     e: Edition,
     t: Rows,
+    c: bool,
     f: Frame,
     q: Ruling,
     unit: &mut [u8],
@@ -225,14 +227,15 @@ fn carried_out(
     places: &[usize; 24],
     room: &mut [u8],
 ) -> Back
-    requires { ⌜ NoneListed q × Each NumbersFit (rowsIn t) × (o .noted ≡ length (notedOf (openedAt (rowsIn t) (now message) (f .from)))) ⌝ }
-    ensures { λ r. ⌜ Called (carriedOn e (now (unit .entry)) (now (room .entry)) (λ u. applied e u f (listsOf (valuesIn (rowsIn t) (now (message .entry)) (spansIn (now (places .entry)))) .items) (notedOf (openedAt (rowsIn t) (now (message .entry)) (f .from))) (decision (standing (askedBy offered q) (u .held)) offered q)) (readUnit (now (unit .entry)))) r (now (unit .exit)) (now (room .exit)) ⌝ }
+    requires { ⌜ NoneListed q × Each NumbersFit (rowsIn t) × (o .noted ≡ length (notedOf (openedAt (rowsIn t) c (now message) (f .from)))) ⌝ }
+    ensures { λ r. ⌜ Called (carriedOn e (now (unit .entry)) (now (room .entry)) (λ u. applied e u f (listsOf (valuesIn (rowsIn t) (now (message .entry)) (spansIn (now (places .entry)))) .items) (notedOf (openedAt (rowsIn t) c (now (message .entry)) (f .from))) (decision (standing (askedBy offered q) (u .held)) offered q)) (readUnit (now (unit .entry)))) r (now (unit .exit)) (now (room .exit)) ⌝ }
 {
     match units::look_up(unit, carry::asked(offered, q)) {
         Looked::NoTable => hand_back(Answer::NoUnit, 0),
         Looked::Is(k, n) => settle_noted(
             e,
             t,
+            c,
             f,
             carry::decide(k, offered, q),
             n,
@@ -255,18 +258,19 @@ fn asked(
     offered: MceId,
     room: &mut [u8],
 ) -> Back
-    ensures { λ r. ⌜ Called (settledOn e (now (unit .entry)) (record { message = now (message .entry); offered = offered; room = now (room .entry) }) (verdictOf (tableOf e m) m f (now (message .entry)) (openedAt (tableOf e m) (now (message .entry)) (f .from))) (readUnit (now (unit .entry)))) r (now (unit .exit)) (now (room .exit)) ⌝ }
+    ensures { λ r. ⌜ Called (settledOn e (now (unit .entry)) (record { message = now (message .entry); offered = offered; room = now (room .entry) }) (verdictOf (tableOf e m) m f (now (message .entry)) (openedAt (tableOf e m) (containerOf e m) (now (message .entry)) (f .from))) (readUnit (now (unit .entry)))) r (now (unit .exit)) (now (room .exit)) ⌝ }
 {
+    let c = editions::has_container(e, m);
     let t = editions::rows_of(e, m);
     let mut places: [usize; 24] = [0; 24];
-    let o = judging::opened_at(t, message, f.from, &mut places);
+    let o = judging::opened_at(t, c, message, f.from, &mut places);
     let gate = o.gate;
     match gate {
         Gate::Pass => {
             let outcome = o.outcome;
             let seen = requests::seen_in(t, message, &places);
             let q = carry::rule(requests::ask_of(m), seen, outcome);
-            carried_out(e, t, f, q, unit, message, offered, o, &places, room)
+            carried_out(e, t, c, f, q, unit, message, offered, o, &places, room)
         }
         Gate::Stop(x) => bare(unit, Answer::Stopped(x)),
     }

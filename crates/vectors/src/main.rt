@@ -1,9 +1,10 @@
 // Plays entries from standard input and writes a line for each: what is read of a message, the message written again, what a call on it gives; what a
 // record is written as, what a setup by it gives; what is shown of a request.
 // An entry: what it is (1 octet), two numbers and a length (2 octets each), and that many octets.
-//     0   a message to be read: the verdict, the octets of the record (docs/LAYOUTS.md, "A lent record"), the list of diagnostics. Of the octets,
+//     0   a message to be read, of M3AP (first number 0) or SBc-AP (1; 2 in the lab profile): the verdict, the octets of the record (docs/LAYOUTS.md, "A lent record"), the list of diagnostics. Of the octets,
 //         record= has those in front of the lists, items= and entries= the number of rows and as many rows, since the rows behind are zeros
-//     1   a message to be read and written again, into as many octets of room as the second number says
+//     1   a message to be read and written again, into as many octets of room as the second number says; of M3AP (first number 0), or of SBc-AP (1; 2 if the
+//         lab profile is to write it)
 //     2   a call: the first number is the offered identity, the second the room
 //     3   the unit is fresh again
 //     4   the octet of the unit at the first number is the second one; nothing is written
@@ -114,14 +115,25 @@ fn record(d: &[u8]) {
     text(b" noted:");
 }
 
+fn edition(n: u16) -> Edition {
+    if n == 1 {
+        return Edition::Warnings;
+    }
+    if n == 2 {
+        return Edition::WarningsLab;
+    }
+    Edition::Release18
+}
+
 // What is noted of a message that is understood.
-fn noted(m: &[u8]) {
+fn noted(e: Edition, m: &[u8]) {
     match frames::frame_at(m) {
-        FrameRead::Is(f) => match editions::message_of(Edition::Release18, f.kind, f.code) {
+        FrameRead::Is(f) => match editions::message_of(e, f.kind, f.code) {
             Named::Is(x) => {
                 let mut words: [u64; 256] = [0; 256];
-                let t = editions::rows_of(Edition::Release18, x);
-                let n = judging::noted_into(t, m, f.from, &mut words);
+                let t = editions::rows_of(e, x);
+                let c = editions::has_container(e, x);
+                let n = judging::noted_into(t, c, m, f.from, &mut words);
                 entries(&words, n);
             }
             Named::Other => {}
@@ -130,9 +142,9 @@ fn noted(m: &[u8]) {
     }
 }
 
-fn read(m: &[u8]) {
+fn read(e: Edition, m: &[u8]) {
     let mut d = [0u8; 2662];
-    match reader::read(Edition::Release18, m, &mut d) {
+    match reader::read(e, m, &mut d) {
         Reading::Refused(x) => {
             refusal(x);
             record(&d);
@@ -141,7 +153,7 @@ fn read(m: &[u8]) {
         Reading::Put(o) => {
             outcome(o);
             record(&d);
-            noted(m);
+            noted(e, m);
         }
     }
     text(b"\n");
@@ -242,10 +254,18 @@ fn next_front() -> Front {
     }
 }
 
-fn written_again(m: &[u8], room: &mut [u8]) {
+// What the lab profile is to write, the ordinary one has read.
+fn reading(n: u16) -> Edition {
+    if n == 2 {
+        return Edition::Warnings;
+    }
+    edition(n)
+}
+
+fn written_again(n: u16, m: &[u8], room: &mut [u8]) {
     let mut d = [0u8; 2662];
-    reader::read(Edition::Release18, m, &mut d);
-    let w = put_message::write(Edition::Release18, &d, m, room);
+    reader::read(reading(n), m, &mut d);
+    let w = put_message::write(edition(n), &d, m, room);
     show_written(w, room);
 }
 
@@ -286,11 +306,11 @@ fn given<'a>(
     room: &mut [u8],
 ) {
     if f.what == 0 {
-        read(m);
+        read(edition(f.first), m);
         return;
     }
     if f.what == 1 {
-        written_again(m, room);
+        written_again(f.first, m, room);
         return;
     }
     if f.what == 2 {

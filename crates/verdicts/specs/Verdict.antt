@@ -15,7 +15,7 @@ use Rattle.editions.specs.declared.Message.{Message}
 use Rattle.editions.specs.declared.Named.{Named}
 use Rattle.editions.specs.declared.Named.the-variants as named
 use Rattle.editions.specs.declared.Edition.{Edition}
-use Rattle.editions.specs.Editions.{tableOf, namedBy}
+use Rattle.editions.specs.Editions.{tableOf, containerOf, namedBy}
 use Rattle.frames.specs.declared.Frame.{Frame}
 use Rattle.frames.specs.Frame.{frameAt, countAt}
 use Rattle.meaning.specs.Value.{Record}
@@ -40,12 +40,12 @@ outcomeBy n x = pick (ltb (x .place) n) (Misplaced (x .place)) (pick (some (λ (
 abbrev pub openingBy : ℕ → Found → Opening
 openingBy n x = record { outcome = outcomeBy n x; spans = x .spans; noted = take 256 (x .listed) }
 
--- the count of elements, and the elements behind it
-unfoldable pub openedAt : List Row → List ℕ → ℕ → Read Opening
-openedAt t s from = do
-  n ← countAt s from
-  x ← elementsAt t s n (from + 3)
-  got (openingBy n x)
+-- how the message opens, and the elements behind that; c: it can have a container
+unfoldable pub openedAt : List Row → Bool → List ℕ → ℕ → Read Opening
+openedAt t c s from = do
+  n ← countAt c s from
+  x ← elementsAt t (n .container) s (n .elements) (from + 3)
+  got (openingBy (n .elements) x)
 
 -- ---- the verdict
 
@@ -78,7 +78,7 @@ every m = true
 
 module _ (e : Edition) (among : Message → Bool) where
   abbrev pub ofThose : List ℕ → Frame → Named → Verdict
-  ofThose s f (named.Is m) = pick (among m) (verdictOf (tableOf e m) m f s (openedAt (tableOf e m) s (f .from))) (refused NotAmong)
+  ofThose s f (named.Is m) = pick (among m) (verdictOf (tableOf e m) m f s (openedAt (tableOf e m) (containerOf e m) s (f .from))) (refused NotAmong)
   ofThose s f named.Other = refused NotAmong
 
   abbrev pub framed : List ℕ → Read Frame → Verdict

@@ -60,11 +60,8 @@ enum-known-x-2 c = search needs
 returns-2 : tie.Need-returns-2 Inv-loop μ-loop
 returns-2 c = scan-cut (rowsIn (c .before .before .before .before .before .before .before .args .t)) (now (c .before .before .before .before .before .before .before .args .s)) (c .before .before .before .before .before .loop .left) (c .before .before .before .before .before .loop .at) (λ q. omega arith) (told foundEnvelope (c .before .x2 .given .1) (c .before .before .before .envelope-at .ensures)) ∙ c .before .before .before .before .before .loop .inv
 
-ends-at-requires : tie.Need-ends-at-requires Inv-loop μ-loop
-ends-at-requires c κs = search needs
-
 returns-3 : tie.Need-returns-3 Inv-loop μ-loop
-returns-3 c = c .ends-at .ensures ∙ (scan-none (rowsIn (c .before .before .before .before .args .t)) (now (c .before .before .before .before .args .s)) (c .before .before .loop .left) (c .before .before .loop .at) (omega arith) ∙ c .before .before .loop .inv)
+returns-3 c = scan-none (rowsIn (c .before .before .before .args .t)) (now (c .before .before .before .args .s)) (c .before .loop .left) (c .before .loop .at) (omega arith) ∙ c .before .loop .inv
 
 pub scan-spec : {M : Type 1} → statement M
 scan-spec =
@@ -86,5 +83,4 @@ scan-spec =
     loop-again
     enum-known-x-2
     returns-2
-    ends-at-requires
     returns-3)

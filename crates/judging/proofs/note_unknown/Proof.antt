@@ -5,18 +5,18 @@ use native.Mathlib.Omega.{arith}
 use Rattle.octets.proofs.Chain.{told}
 use Rattle.rows.specs.Table.{rowsIn}
 use Rattle.envelopes.specs.Envelope.{foundEnvelope}
-use Rattle.judging.proofs.NotedLaws.{noted-length, Unknowns, unknowns-none, unknowns-known, unknowns-more, unknowns-all, unknowns-cut}
+use Rattle.judging.proofs.NotedLaws.{Unknowns, unknowns-none, unknowns-known, unknowns-more, unknowns-all, unknowns-cut}
 use Rattle.judging.proofs.note_unknown.Statement.{statement}
 use Rattle.judging.proofs.note_unknown.Tie as tie
 
 abbrev Inv-loop : tie.InvT-loop
-Inv-loop t s n from words₀ count₀ left₀ at₀ words count left at = Unknowns (rowsIn t) s n from words₀ left at words count
+Inv-loop t s n from seen words₀ count₀ left₀ at₀ words count left at = Unknowns (rowsIn t) s n from words₀ count₀ left at words count
 
 abbrev μ-loop : tie.MeasureT-loop
-μ-loop t s n from words₀ count₀ left₀ at₀ words count left at = left
+μ-loop t s n from seen words₀ count₀ left₀ at₀ words count left at = left
 
 loop-holds : tie.Need-loop-holds Inv-loop μ-loop
-loop-holds c = unknowns-none _ _ _ _ _
+loop-holds c = unknowns-none _ _ _ _ _ _
 
 envelope-at-requires : tie.Need-envelope-at-requires Inv-loop μ-loop
 envelope-at-requires c κs = search needs
@@ -25,7 +25,7 @@ enum-told : tie.Need-enum-told Inv-loop μ-loop
 enum-told c = search needs
 
 same-length : tie.Need-same-length Inv-loop μ-loop
-same-length c = noted-length (c .before .before .before .before .loop .inv .words)
+same-length c = c .before .before .before .before .loop .inv .size
 
 returns : tie.Need-returns Inv-loop μ-loop
 returns c = unknowns-cut (c .before .before .before .before .loop .inv) (told foundEnvelope (c .enum-told .given .1) (c .before .before .envelope-at .ensures))
@@ -55,7 +55,7 @@ loop-again-2 : tie.Need-loop-again-2 Inv-loop μ-loop
 loop-again-2 c = unknowns-more (c .before .before .before .before .before .before .before .before .before .before .before .loop .inv) (λ e. omega arith) (c .before .before .before .before .before .before .before .h .given .0 .0) (told foundEnvelope (c .before .before .before .before .before .before .before .h .given .1) (c .before .before .before .before .before .before .before .before .before .envelope-at .ensures)) (sym (c .before .before .before .before .before .is-known .ensures) ∙ c .before .before .before .before .if1 .left) (c .before .before .note .ensures)
 
 same-length-2 : tie.Need-same-length-2 Inv-loop μ-loop
-same-length-2 c = noted-length (c .before .loop .inv .words)
+same-length-2 c = c .before .loop .inv .size
 
 returns-2 : tie.Need-returns-2 Inv-loop μ-loop
 returns-2 c = unknowns-all (c .before .loop .inv) (omega arith)

@@ -1,9 +1,9 @@
--- `judging::opened_at` meets its contract. The count is read, and then the elements behind it. Assumes nothing.
+-- `judging::opened_at` meets its contract. How the message opens is read, and then the elements behind it. Assumes nothing.
 use mathlib.Core.Path.{refl}
 use native.Mathlib.Omega.{arith}
 use denote.Ref.{now}
-use Rattle.octets.specs.Found.{foundTwo}
 use Rattle.octets.proofs.Chain.{past, halt, told}
+use Rattle.frames.specs.Frame.{foundCount}
 use Rattle.verdicts.specs.Verdict.{openedAt}
 use Rattle.judging.proofs.OpenedLaws.{count-in, opens-as}
 use borrow.Author.Needs.{needs}
@@ -20,7 +20,7 @@ wide16-requires : tie.Need-wide16-requires
 wide16-requires c κs = search needs
 
 add-opening-at : tie.Need-add-opening-at
-add-opening-at c = let a = c .before .before .before .before .before .before .args in omega (arith, count-in (now (a .s)) (a .from) (told foundTwo (c .before .before .v .given .1) (c .before .before .before .before .count-at .ensures)))
+add-opening-at c = let a = c .before .before .before .before .before .before .args in omega (arith, count-in (a .c) (now (a .s)) (a .from) (told foundCount (c .before .before .v .given .1) (c .before .before .before .before .count-at .ensures)))
 
 opening-at-requires : tie.Need-opening-at-requires
 opening-at-requires c κs = search needs
@@ -33,11 +33,11 @@ not-opened-requires c κs = search needs
 
 returns : tie.Need-returns
 unfolding openedAt
-returns c = opens-as (past _ _ (told foundTwo (c .before .before .before .before .v .given .1) (c .before .before .before .before .before .before .count-at .ensures)) refl) (rw (c .before .before .wide16 .ensures) at (c .opening-at .ensures))
+returns c = opens-as (past _ _ (told foundCount (c .before .before .before .before .v .given .1) (c .before .before .before .before .before .before .count-at .ensures)) refl) (rw (c .before .before .wide16 .ensures) at (c .opening-at .ensures))
 
 returns-2 : tie.Need-returns-2
 unfolding openedAt
-returns-2 c = opens-as (halt _ (told foundTwo (c .before .before .before .x .given .1) (c .before .before .before .before .before .count-at .ensures))) (c .not-opened .ensures)
+returns-2 c = opens-as (halt _ (told foundCount (c .before .before .before .x .given .1) (c .before .before .before .before .before .count-at .ensures))) (c .not-opened .ensures)
 
 pub opened-at-spec : {M : Type 1} → statement M
 opened-at-spec =

@@ -13,7 +13,7 @@ enum-known-n : tie.Need-enum-known-n
 enum-known-n c = search needs
 
 cast-t10 : tie.Need-cast-t10
-cast-t10 c = let a = c .before .before .before .before .before .before .before .before .before .before .args in record { fits = octets-small (now (a .said)) (now (a .values)) (now (a .room)) (c .before .before .before .before .before .write .ensures) (c .before .n .given .1) }
+cast-t10 c = let a = c .before .before .before .before .before .before .before .before .before .before .args in record { fits = octets-small (a .e) (now (a .said)) (now (a .values)) (now (a .room)) (c .before .before .before .before .before .write .ensures) (c .before .n .given .1) }
 
 enum-told : tie.Need-enum-told
 enum-told c = search needs
@@ -31,19 +31,19 @@ same-length : tie.Need-same-length
 same-length c = search needs
 
 returns : tie.Need-returns
-returns c = let a = c .before .before .before .before .before .before .before .before .before .before .args in put-written (now (a .said)) (now (a .values)) (now (a .room)) (c .before .before .before .before .before .write .ensures) (c .before .n .given .1) refl
+returns c = let a = c .before .before .before .before .before .before .before .before .before .before .args in put-written (a .e) (now (a .said)) (now (a .values)) (now (a .room)) (c .before .before .before .before .before .write .ensures) (c .before .n .given .1) refl
 
 same-length-2 : tie.Need-same-length-2
 same-length-2 c = search needs
 
 returns-2 : tie.Need-returns-2
-returns-2 c = let a = c .before .before .before .before .before .before .before .before .before .before .args in put-written (now (a .said)) (now (a .values)) (now (a .room)) (c .before .before .before .before .before .write .ensures) (c .before .enum-told .given .1) (c .plain .ensures)
+returns-2 c = let a = c .before .before .before .before .before .before .before .before .before .before .args in put-written (a .e) (now (a .said)) (now (a .values)) (now (a .room)) (c .before .before .before .before .before .write .ensures) (c .before .enum-told .given .1) (c .plain .ensures)
 
 same-length-3 : tie.Need-same-length-3
 same-length-3 c = search needs
 
 returns-3 : tie.Need-returns-3
-returns-3 c = let a = c .before .before .before .before .before .before .before .before .before .before .args in put-written (now (a .said)) (now (a .values)) (now (a .room)) (c .before .before .before .before .before .write .ensures) (c .before .enum-told2 .given .1) (c .plain2 .ensures)
+returns-3 c = let a = c .before .before .before .before .before .before .before .before .before .before .args in put-written (a .e) (now (a .said)) (now (a .values)) (now (a .room)) (c .before .before .before .before .before .write .ensures) (c .before .enum-told2 .given .1) (c .plain2 .ensures)
 
 pub write-allowed-spec : {M : Type 1} → statement M
 write-allowed-spec =

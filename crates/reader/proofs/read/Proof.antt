@@ -26,7 +26,7 @@ enum-known-m : tie.Need-enum-known-m
 enum-known-m c = search needs
 
 read-inside-requires : tie.Need-read-inside-requires
-read-inside-requires c κs = search needs
+read-inside-requires c κs = (c .before .before .before .before .before .before .before .before .before .if1 .left, sym (c .before .before .before .before .message-of .ensures) ∙ c .before .before .m .given .1)
 
 enum-told : tie.Need-enum-told
 enum-told c = search needs

@@ -3,7 +3,6 @@ use mathlib.Core.Path.{sym}
 use borrow.Author.Needs.{needs}
 use Rattle.requests.proofs.with_session.Statement.{statement}
 use Rattle.requests.proofs.with_session.Tie as tie
-use Rattle.values.proofs.one_at.Reads as one-at-reads
 
 one-at-requires : tie.Need-one-at-requires
 one-at-requires c κs = search needs

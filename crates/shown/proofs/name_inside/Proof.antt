@@ -6,6 +6,9 @@ use Rattle.shown.proofs.Reading.{not-opened, opened}
 use Rattle.shown.proofs.name_inside.Statement.{statement}
 use Rattle.shown.proofs.name_inside.Tie as tie
 
+has-container-requires : tie.Need-has-container-requires
+has-container-requires c κs = search needs
+
 rows-of-requires : tie.Need-rows-of-requires
 rows-of-requires c κs = search needs
 
@@ -25,15 +28,16 @@ enum-told-2 : tie.Need-enum-told-2
 enum-told-2 c = search needs
 
 returns : tie.Need-returns
-returns c = let a = c .before .before .before .before .before .before .before .before .before .args in c .if-accepted .ensures ∙ opened (a .e) (a .m) (a .f) (now (a .s)) (c .before .before .before .before .before .before .before .rows-of .ensures) (c .before .before .before .before .before .opened-at .ensures) (c .before .before .before .enum-told .given .1) (c .before .name-among .ensures)
+returns c = let a = c .before .before .before .before .before .before .before .before .before .before .args in c .if-accepted .ensures ∙ opened (a .e) (a .m) (a .f) (now (a .s)) (c .before .before .before .before .before .before .before .rows-of .ensures) (c .before .before .before .before .before .before .before .before .has-container .ensures) (c .before .before .before .before .before .opened-at .ensures) (c .before .before .before .enum-told .given .1) (c .before .name-among .ensures)
 
 returns-2 : tie.Need-returns-2
-returns-2 c = let a = c .before .before .before .before .before .before .args in not-opened (a .e) (a .m) (a .f) (now (a .s)) (c .before .before .before .before .rows-of .ensures) (c .before .before .opened-at .ensures) (c .enum-told2 .given .1)
+returns-2 c = let a = c .before .before .before .before .before .before .before .args in not-opened (a .e) (a .m) (a .f) (now (a .s)) (c .before .before .before .before .rows-of .ensures) (c .before .before .before .before .before .has-container .ensures) (c .before .before .opened-at .ensures) (c .enum-told2 .given .1)
 
 pub name-inside-spec : {M : Type 1} → statement M
 name-inside-spec =
     tie.close
     (tie.spec
+    has-container-requires
     rows-of-requires
     opened-at-requires
     enum-told

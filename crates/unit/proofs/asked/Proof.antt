@@ -11,6 +11,9 @@ use borrow.Author.Needs.{needs}
 use Rattle.unit.proofs.asked.Statement.{statement}
 use Rattle.unit.proofs.asked.Tie as tie
 
+has-container-requires : tie.Need-has-container-requires
+has-container-requires c κs = search needs
+
 rows-of-requires : tie.Need-rows-of-requires
 rows-of-requires c κs = search needs
 
@@ -30,7 +33,7 @@ rule-requires : tie.Need-rule-requires
 rule-requires c κs = search needs
 
 carried-out-requires : tie.Need-carried-out-requires
-carried-out-requires c κs = let a = c .before .before .before .before .before .before .before .before .before .before .before .before .before .before .before .args in (none-listed (c .before .before .before .before .ask-of .result) (c .before .before .before .before .before .seen-in .result) (c .before .before .before .before .before .before .before .before .before .opened-at .result .outcome) (c .before .before .before .rule .ensures), numbers-fit (a .e) (a .m) (c .before .before .before .before .before .before .before .before .before .before .before .rows-of .ensures), noted-count _ (c .before .before .before .before .before .before .before .before .before .opened-at .ensures))
+carried-out-requires c κs = let a = c .before .before .before .before .before .before .before .before .before .before .before .before .before .before .before .before .args in (none-listed (c .before .before .before .before .ask-of .result) (c .before .before .before .before .before .seen-in .result) (c .before .before .before .before .before .before .before .before .before .opened-at .result .outcome) (c .before .before .before .rule .ensures), numbers-fit (a .e) (a .m) (c .before .before .before .before .before .before .before .before .before .before .before .rows-of .ensures), noted-count _ (c .before .before .before .before .before .before .before .before .before .opened-at .ensures))
 
 enum-known-gate : tie.Need-enum-known-gate
 enum-known-gate c = search needs
@@ -45,18 +48,19 @@ same-length-2 : tie.Need-same-length-2
 same-length-2 c = search needs
 
 returns : tie.Need-returns
-returns c = let a = c .before .before .before .before .before .before .before .before .before .before .before .before .before .before .before .before .before .before .before .before .args in on-same (a .e) (now (a .unit)) (now (a .room)) (readUnit (now (a .unit))) _ _ (decided-by (a .e) (a .m) (a .f) (now (a .message)) (c .before .before .before .before .before .before .before .before .before .before .before .before .before .before .before .before .rows-of .ensures) (c .before .before .before .before .before .before .before .before .before .before .before .before .before .before .opened-at .ensures) (c .before .before .before .before .before .before .before .before .before .before .before .before .enum-told .given .1) (c .before .before .before .before .before .before .before .before .rule .ensures ∙ (λ i. ruling (c .before .before .before .before .before .before .before .before .before .ask-of .ensures i) (c .before .before .before .before .before .before .before .before .before .before .seen-in .ensures i) (c .before .before .before .before .before .before .before .before .before .before .before .before .before .before .opened-at .result .outcome))) (a .offered)) (c .before .before .before .before .carried-out .ensures)
+returns c = let a = c .before .before .before .before .before .before .before .before .before .before .before .before .before .before .before .before .before .before .before .before .before .args in on-same (a .e) (now (a .unit)) (now (a .room)) (readUnit (now (a .unit))) _ _ (decided-by (a .e) (a .m) (a .f) (now (a .message)) (c .before .before .before .before .before .before .before .before .before .before .before .before .before .before .before .before .rows-of .ensures) (c .before .before .before .before .before .before .before .before .before .before .before .before .before .before .before .before .before .has-container .ensures) (c .before .before .before .before .before .before .before .before .before .before .before .before .before .before .opened-at .ensures) (c .before .before .before .before .before .before .before .before .before .before .before .before .enum-told .given .1) (c .before .before .before .before .before .before .before .before .rule .ensures ∙ (λ i. ruling (c .before .before .before .before .before .before .before .before .before .ask-of .ensures i) (c .before .before .before .before .before .before .before .before .before .before .seen-in .ensures i) (c .before .before .before .before .before .before .before .before .before .before .before .before .before .before .opened-at .result .outcome))) (a .offered)) (c .before .before .before .before .carried-out .ensures)
 
 same-length-3 : tie.Need-same-length-3
 same-length-3 c = search needs
 
 returns-2 : tie.Need-returns-2
-returns-2 c = let a = c .before .before .before .before .before .before .before .before .before .before .before .args in bare-called (a .e) (now (a .unit)) (record { message = now (a .message); offered = a .offered; room = now (a .room) }) (refusal.Stopped (c .before .before .before .gate .given .0 .0)) (verdict-stops (a .e) (a .m) (a .f) (now (a .message)) (c .before .before .before .before .before .before .before .rows-of .ensures) (c .before .before .before .before .before .opened-at .ensures) (c .before .before .before .gate .given .1)) (c .bare .ensures)
+returns-2 c = let a = c .before .before .before .before .before .before .before .before .before .before .before .before .args in bare-called (a .e) (now (a .unit)) (record { message = now (a .message); offered = a .offered; room = now (a .room) }) (refusal.Stopped (c .before .before .before .gate .given .0 .0)) (verdict-stops (a .e) (a .m) (a .f) (now (a .message)) (c .before .before .before .before .before .before .before .rows-of .ensures) (c .before .before .before .before .before .before .before .before .has-container .ensures) (c .before .before .before .before .before .opened-at .ensures) (c .before .before .before .gate .given .1)) (c .bare .ensures)
 
 pub asked-spec : {M : Type 1} → statement M
 asked-spec =
     tie.close
     (tie.spec
+    has-container-requires
     rows-of-requires
     opened-at-requires
     enum-told

@@ -46,7 +46,7 @@ same-length-3 : tie.Need-same-length-3
 same-length-3 c = search needs
 
 returns-2 : tie.Need-returns-2
-returns-2 c = let a = c .before .before .before .before .before .before .before .before .before .before .before .before .before .before .before .before .before .args in let x = found (now (c .before .before .before .before .before .before .before .before .before .before .before .before .before .before .before .before .before .args .unit)) (c .before .before .before .before .before .before .before .before .before .before .before .before .asked .result) (sym (c .before .before .before .before .before .before .before .before .before .k .given .1) ∙ c .before .before .before .before .before .before .before .before .before .before .before .look-up .ensures) in on-decision (a .e) (now (a .unit)) (now (a .room)) (a .f) (listsOf (valuesIn (rowsIn (a .t)) (now (a .message)) (spansIn (now (a .places)))) .items) (notedOf (openedAt (rowsIn (a .t)) (now (a .message)) (a .f .from))) (a .offered) (a .q) (x .rows .0) (c .before .before .before .before .before .before .before .before .before .before .before .before .asked .ensures) (x .standing) (c .before .before .before .before .before .before .before .decide .ensures) (c .before .before .before .before .settle-noted .ensures)
+returns-2 c = let a = c .before .before .before .before .before .before .before .before .before .before .before .before .before .before .before .before .before .args in let x = found (now (c .before .before .before .before .before .before .before .before .before .before .before .before .before .before .before .before .before .args .unit)) (c .before .before .before .before .before .before .before .before .before .before .before .before .asked .result) (sym (c .before .before .before .before .before .before .before .before .before .k .given .1) ∙ c .before .before .before .before .before .before .before .before .before .before .before .look-up .ensures) in on-decision (a .e) (now (a .unit)) (now (a .room)) (a .f) (listsOf (valuesIn (rowsIn (a .t)) (now (a .message)) (spansIn (now (a .places)))) .items) (notedOf (openedAt (rowsIn (a .t)) (a .c) (now (a .message)) (a .f .from))) (a .offered) (a .q) (x .rows .0) (c .before .before .before .before .before .before .before .before .before .before .before .before .asked .ensures) (x .standing) (c .before .before .before .before .before .before .before .decide .ensures) (c .before .before .before .before .settle-noted .ensures)
 
 pub carried-out-spec : {M : Type 1} → statement M
 carried-out-spec =

@@ -1,9 +1,9 @@
--- `link::m3ap_write` meets its contract: 12 for a name that is refused, else what becomes of the record. Assumes nothing.
+-- `link::write_in` meets its contract: 12 for a name that is refused, else what becomes of the record. Assumes nothing.
 use mathlib.Core.Path.{refl, sym, _∙_}
 use borrow.Author.Needs.{needs}
 use Rattle.link.specs.Link.{writeFor}
-use Rattle.link.proofs.m3ap_write.Statement.{statement}
-use Rattle.link.proofs.m3ap_write.Tie as tie
+use Rattle.link.proofs.write_in.Statement.{statement}
+use Rattle.link.proofs.write_in.Tie as tie
 
 name-refused-requires : tie.Need-name-refused-requires
 name-refused-requires c κs = search needs
@@ -25,5 +25,5 @@ returns-2 : tie.Need-returns-2
 unfolding writeFor
 returns-2 c = rw (sym (c .before .before .before .before .before .name-refused .ensures) ∙ c .before .before .before .before .if1 .left) (c .before .before .write-allowed .ensures)
 
-pub m3ap-write-spec : {M : Type 1} → statement M
-m3ap-write-spec = tie.close (tie.spec name-refused-requires plain-requires returns write-allowed-requires same-length returns-2)
+pub write-in-spec : {M : Type 1} → statement M
+write-in-spec = tie.close (tie.spec name-refused-requires plain-requires returns write-allowed-requires same-length returns-2)
