@@ -43,8 +43,8 @@ unitAfter t (keeps a r) = t
 unitAfter t (changes u r) = unitOctets u
 unitAfter t (fails u w r) = unitOctets u
 
-abbrev pub nothing : Answer → List ℕ → List ℕ → Back
-nothing a t d = record { answer = a; reply = []; unit = t; room = d }
+abbrev pub withoutReply : Answer → List ℕ → List ℕ → Back
+withoutReply a t d = record { answer = a; reply = []; unit = t; room = d }
 
 module _ (e : Edition) where
   abbrev pub replyOf : Decided → List ℕ
@@ -53,7 +53,7 @@ module _ (e : Edition) where
   -- the reply fits the room, or not
   abbrev pub settledIf : Bool → List ℕ → List ℕ → Decided → Back
   settledIf true t d x = record { answer = answerOf x; reply = replyOf x; unit = unitAfter t x; room = replyOf x ++ drop (length (replyOf x)) d }
-  settledIf false t d x = nothing answer.NoRoom t d
+  settledIf false t d x = withoutReply answer.NoRoom t d
 
   abbrev pub fits : List ℕ → Decided → Bool
   fits d x = leb (length (replyOf x)) (length d)
@@ -67,7 +67,7 @@ module _ (e : Edition) where
 
   abbrev pub onUnit : List ℕ → Call → MaybeUnit → Back
   onUnit t c (isUnit u) = settled t (c .room) (decidedOn u c)
-  onUnit t c noUnit = nothing answer.NoUnit t (c .room)
+  onUnit t c noUnit = withoutReply answer.NoUnit t (c .room)
 
   unfoldable pub call : List ℕ → Call → Back
   call t c = onUnit t c (readUnit t)

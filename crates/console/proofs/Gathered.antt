@@ -19,7 +19,7 @@ use Rattle.distinct.specs.Series.{sameMme, sameMce}
 use Rattle.table.specs.Table.{State, distinctHeld}
 use Rattle.table.specs.declared.Association.{Association}
 use Rattle.console.specs.Console.{tmgiOf, standsFor, sameTmgi, hasTmgi, noTable, isTable, counted, elsewhere, countedRun}
-use Rattle.console.specs.Numbers.{Octets, Octets3, numberOf, threeOf, tmgiNumber, mmeOf, mceOf, noMme, noMce, gathered, putIn, countedIn}
+use Rattle.console.specs.Numbers.{Octets6, Octets3, sixOf, threeOf, tmgiNumber, mmeOf, mceOf, noMme, noMce, gathered, putIn, countedIn}
 use Rattle.console.specs.declared.Three.{Three}
 use Rattle.console.specs.declared.TmgiOctets.{TmgiOctets}
 use Rattle.console.specs.declared.Record.{Record}
@@ -41,13 +41,13 @@ gathered-more ys i d h k = λ j. record { mmes = field noMme mmeOf j; mces = fie
 -- of each record the TMGI is octets
 abbrev pub Each : List Record → Type 0
 Each [] = Unit {0}
-Each (r ∷ l) = Octets (r .tmgi) × Each l
+Each (r ∷ l) = Octets6 (r .tmgi) × Each l
 
-each-behind : (l : List Record) (r : Record) → Each l → Octets (r .tmgi) → Each (l ++ (r ∷ []))
+each-behind : (l : List Record) (r : Record) → Each l → Octets6 (r .tmgi) → Each (l ++ (r ∷ []))
 each-behind [] r h o = (o, tt)
 each-behind (a ∷ l) r h o = (h .0, each-behind l r (h .1) o)
 
-pub each-more : (ys : List Record) (i : ℕ) (d : Record) → i < length ys → Each (take i ys) → Octets (getD ys i d .tmgi) → Each (take (i + 1) ys)
+pub each-more : (ys : List Record) (i : ℕ) (d : Record) → i < length ys → Each (take i ys) → Octets6 (getD ys i d .tmgi) → Each (take (i + 1) ys)
 each-more ys i d h e o = rw (take-next ys i d h) (each-behind (take i ys) (getD ys i d) e o)
 
 -- digits below the base are told by the sum
@@ -66,8 +66,8 @@ same-three a b h k e =
     let v = low _ _ _ _ (u .0) (h .1) (k .1) in
     λ i. record { 0 = v .0 i; 1 = v .1 i; 2 = u .1 i }
 
-same-octets : (a b : TmgiOctets) → Octets a → Octets b → numberOf a ≡ numberOf b → a ≡ b
-unfolding numberOf
+same-octets : (a b : TmgiOctets) → Octets6 a → Octets6 b → sixOf a ≡ sixOf b → a ≡ b
+unfolding sixOf
 same-octets a b h k e =
     let u = high _ _ _ _ e (three-below (a .service) (h .service)) (three-below (b .service) (k .service)) in
     let p = same-three (a .plmn) (b .plmn) (h .plmn) (k .plmn) (u .0) in
@@ -93,9 +93,9 @@ equal-octets a b e =
     }
 
 -- numbers are equal where all six octets are
-same-number : (a b : TmgiOctets) → Octets a → Octets b → eqb (numberOf a) (numberOf b) ≡ sameTmgi (tmgiOf a) (tmgiOf b)
+same-number : (a b : TmgiOctets) → Octets6 a → Octets6 b → eqb (sixOf a) (sixOf b) ≡ sameTmgi (tmgiOf a) (tmgiOf b)
 same-number a b h k =
-    both-ways _ _ (λ e. rw (same-octets a b h k (eqb-true _ _ e)) whole) (λ e. eq-eqb _ _ (ap numberOf (equal-octets a b e)))
+    both-ways _ _ (λ e. rw (same-octets a b h k (eqb-true _ _ e)) whole) (λ e. eq-eqb _ _ (ap sixOf (equal-octets a b e)))
   where
     self : (x : ℕ) → eqb x x ≡ true
     self x = eq-eqb x x refl
@@ -104,8 +104,8 @@ same-number a b h k =
     whole = rw (self (b .plmn .0), self (b .plmn .1), self (b .plmn .2), self (b .service .0), self (b .service .1), self (b .service .2))
 
 -- as many numbers are the TMGI's as associations have the TMGI
-same-count : (t : TmgiOctets) → Octets t → (ys : List Record) → Each ys →
-    length (keep (λ (x : ℕ). eqb x (numberOf t)) (map tmgiNumber ys)) ≡ length (keep (hasTmgi (tmgiOf t)) (map standsFor ys))
+same-count : (t : TmgiOctets) → Octets6 t → (ys : List Record) → Each ys →
+    length (keep (λ (x : ℕ). eqb x (sixOf t)) (map tmgiNumber ys)) ≡ length (keep (hasTmgi (tmgiOf t)) (map standsFor ys))
 same-count t o [] e = refl
 same-count t o (r ∷ ys) e = rw (same-number (r .tmgi) t (e .0) o) (one (sameTmgi (tmgiOf (r .tmgi)) (tmgiOf t)) _ _ (same-count t o ys (e .1)))
   where
@@ -125,7 +125,7 @@ module _ {B : Type 0} (z : B) (f : Record → B) where
       ∙ sym (apart-map (λ (a b : Association). alike (g a) (g b)) standsFor ys)
 
 -- a run of at most 256, all of it gathered
-small : (t : TmgiOctets) → Octets t → (ys : List Record) → Each ys → countedIn (gathered ys) (length ys) (numberOf t) ≡ countedRun (tmgiOf t) ys
+small : (t : TmgiOctets) → Octets6 t → (ys : List Record) → Each ys → countedIn (gathered ys) (length ys) (sixOf t) ≡ countedRun (tmgiOf t) ys
 unfolding countedIn gathered countedRun counted isTable distinctHeld
 small t o ys e =
     rw (series noMme mmeOf sameMme (λ (a : Association). a .mme) (λ r. refl) ys, series noMce mceOf sameMce (λ (a : Association). a .mce) (λ r. refl) ys, front 0 tmgiNumber ys, length-map ys standsFor, same-count t o ys e)
@@ -137,7 +137,7 @@ small t o ys e =
     by false few alone c = refl
 
 -- a longer run is no table, whatever was gathered
-long : (t : TmgiOctets) (ys zs : List Record) → leb (length ys) 256 ≡ false → countedIn (gathered zs) (length ys) (numberOf t) ≡ countedRun (tmgiOf t) ys
+long : (t : TmgiOctets) (ys zs : List Record) → leb (length ys) 256 ≡ false → countedIn (gathered zs) (length ys) (sixOf t) ≡ countedRun (tmgiOf t) ys
 unfolding countedIn countedRun counted isTable
 long t ys zs h = rw (length-map ys standsFor, h) (by (some elsewhere ys))
   where
@@ -145,10 +145,10 @@ long t ys zs h = rw (length-map ys standsFor, h) (by (some elsewhere ys))
     by true = refl
     by false = refl
 
-pub answered : (t : TmgiOctets) → Octets t → (ys : List Record) (i : ℕ) → min (length ys) 256 ≤ i → i ≤ min (length ys) 256 → Each (take i ys) →
-    countedIn (gathered (take i ys)) (length ys) (numberOf t) ≡ countedRun (tmgiOf t) ys
+pub answered : (t : TmgiOctets) → Octets6 t → (ys : List Record) (i : ℕ) → min (length ys) 256 ≤ i → i ≤ min (length ys) 256 → Each (take i ys) →
+    countedIn (gathered (take i ys)) (length ys) (sixOf t) ≡ countedRun (tmgiOf t) ys
 answered t o ys i g h e = by (leb (length ys) 256) refl
   where
-    by : (b : Bool) → leb (length ys) 256 ≡ b → countedIn (gathered (take i ys)) (length ys) (numberOf t) ≡ countedRun (tmgiOf t) ys
+    by : (b : Bool) → leb (length ys) 256 ≡ b → countedIn (gathered (take i ys)) (length ys) (sixOf t) ≡ countedRun (tmgiOf t) ys
     by true w = let k : length ys ≤ 256 = leb-true _ _ w in let q : take i ys ≡ ys = take-all i ys (omega arith) in rw q (small t o ys (rw q at e))
     by false w = long t ys (take i ys) w

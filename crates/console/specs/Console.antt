@@ -21,16 +21,16 @@ tmgiOf t = record {
   service = record { 0 = t .service .0; 1 = t .service .1; 2 = t .service .2 };
 }
 
-abbrev sessionOf : Bool → ℕ → Session
-sessionOf true s = session.Is s
-sessionOf false s = session.Absent
+abbrev sessionBy : Bool → ℕ → Session
+sessionBy true s = session.Is s
+sessionBy false s = session.Absent
 
 abbrev pub standsFor : Record → Association
 standsFor r = record {
   mme = r .mme;
   mce = r .mce;
   tmgi = tmgiOf (r .tmgi);
-  session = sessionOf (r .flag) (r .session);
+  session = sessionBy (r .flag) (r .session);
 }
 
 -- PLMN and service are equal, octet by octet

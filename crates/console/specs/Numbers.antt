@@ -19,18 +19,18 @@ abbrev pub threeOf : Three → ℕ
 threeOf t = (t .0 * 256 + t .1) * 256 + t .2
 
 -- six octets as one number, the first the highest
-unfoldable pub numberOf : TmgiOctets → ℕ
-numberOf t = threeOf (t .plmn) * 16777216 + threeOf (t .service)
+unfoldable pub sixOf : TmgiOctets → ℕ
+sixOf t = threeOf (t .plmn) * 16777216 + threeOf (t .service)
 
 abbrev pub Octets3 : Three → Type 0
 Octets3 t = (t .0 < 256) × (t .1 < 256) × (t .2 < 256)
 
-pub record Octets (t : TmgiOctets) : Type 0 where
+pub record Octets6 (t : TmgiOctets) : Type 0 where
   pub plmn : Octets3 (t .plmn)
   pub service : Octets3 (t .service)
 
 abbrev pub tmgiNumber : Record → ℕ
-tmgiNumber r = numberOf (r .tmgi)
+tmgiNumber r = sixOf (r .tmgi)
 
 abbrev pub mmeOf : Record → MmeId
 mmeOf r = r .mme
@@ -59,7 +59,7 @@ unfoldable pub putIn : Numbers → ℕ → Record → Numbers
 putIn g i r = record {
   mmes = set (g .mmes) i (r .mme);
   mces = set (g .mces) i (r .mce);
-  tmgis = set (g .tmgis) i (numberOf (r .tmgi));
+  tmgis = set (g .tmgis) i (sixOf (r .tmgi));
   elsewhere = g .elsewhere || elsewhere r;
 }
 

@@ -6,7 +6,7 @@ ghost use lib.Dec.{eqb};
 ghost use lib.ListN.{length};
 ghost use Rattle.lists.specs.Lists.{keep};
 ghost use Rattle.console.specs.Console.{tmgiOf, countedRun};
-ghost use Rattle.console.specs.Numbers.{Octets, numberOf, gathered, putIn, countedIn};
+ghost use Rattle.console.specs.Numbers.{Octets6, sixOf, gathered, putIn, countedIn};
 use identity::MceId;
 use identity::MmeId;
 
@@ -91,7 +91,7 @@ pub fn count_numbers(g: Numbers, n: usize, tmgi: u64) -> Counted
 
 // Six octets as one number, the first the highest; each is an octet, by its type.
 fn number_of(t: TmgiOctets) -> u64
-    ensures { λ r. ⌜ (r ≡ numberOf t) × Octets t ⌝ }
+    ensures { λ r. ⌜ (r ≡ sixOf t) × Octets6 t ⌝ }
 {
     let a = ((t.plmn.0 as u64) * 256 + (t.plmn.1 as u64)) * 256 + (t.plmn.2 as u64);
     let b = ((t.service.0 as u64) * 256 + (t.service.1 as u64)) * 256 + (t.service.2 as u64);
@@ -122,7 +122,7 @@ fn none_yet() -> Numbers
 // The record's numbers are stored.
 fn with_record(g: Numbers, at: usize, row: Record) -> Numbers
     requires { ⌜ at < 256 ⌝ }
-    ensures { λ r. ⌜ (r ≡ putIn g at row) × Octets (row .tmgi) ⌝ }
+    ensures { λ r. ⌜ (r ≡ putIn g at row) × Octets6 (row .tmgi) ⌝ }
 {
     let t = row.tmgi;
     let x = number_of(t);
@@ -140,7 +140,7 @@ fn with_record(g: Numbers, at: usize, row: Record) -> Numbers
 
 // The answer for a run of n records, for a TMGI by its octets.
 fn judged(g: Numbers, n: usize, tmgi: TmgiOctets) -> Counted
-    ensures { λ r. ⌜ (r ≡ countedIn g n (numberOf tmgi)) × Octets tmgi ⌝ }
+    ensures { λ r. ⌜ (r ≡ countedIn g n (sixOf tmgi)) × Octets6 tmgi ⌝ }
 {
     let x = number_of(tmgi);
     count_numbers(g, n, x)

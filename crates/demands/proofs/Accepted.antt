@@ -22,7 +22,7 @@ use Rattle.names.specs.Names.{nameAt}
 use Rattle.items.specs.Items.{itemsAt, resetAt}
 use Rattle.entries.specs.declared.Entry.{Entry}
 use Rattle.diagnostics.specs.Diagnostics.{diagnosticsAt}
-use Rattle.kinds.specs.Kinds.{valueAt}
+use Rattle.kinds.specs.Kinds.{legibleAt}
 use Rattle.rows.specs.declared.Kind.{Kind}
 use Rattle.rows.specs.declared.Kind.the-variants as kind
 use Rattle.rows.specs.declared.Row.{Row}
@@ -109,7 +109,7 @@ row-present (r ∷ t) (v ∷ l) (suc k) n b e m c =
 
 module _ (t : List Row) (s : List ℕ) where
   abbrev Readable : Head → Type 0
-  Readable h = got tt ≡ valueAt (kindOf t (h .id)) (take (h .value .to) s) (h .value .from)
+  Readable h = got tt ≡ legibleAt (kindOf t (h .id)) (take (h .value .to) s) (h .value .from)
 
   each-readable : (end at : ℕ) (hs : List Head) → Scanned t s end at hs → Each Readable hs
   each-readable end at [] q = tt
@@ -117,13 +117,13 @@ module _ (t : List Row) (s : List ℕ) where
 
   -- each row that has a value has one that can be read
   abbrev Rows : List Span → Type 0
-  Rows l = (j : ℕ) → present (getD l j noSpan) ≡ true → got tt ≡ valueAt (getD t j noRow .kind) (take (getD l j noSpan .to) s) (getD l j noSpan .from)
+  Rows l = (j : ℕ) → present (getD l j noSpan) ≡ true → got tt ≡ legibleAt (getD t j noRow .kind) (take (getD l j noSpan .to) s) (getD l j noSpan .from)
 
   set-rows : (l : List Span) (h : Head) → Readable h → Rows l → Rows (set l (find (h .id) t) (h .value))
   set-rows l h r g j = by (eqb j (find (h .id) t)) refl (ltb (find (h .id) t) (length l)) refl
     where
       One : Span → Type 0
-      One v = present v ≡ true → got tt ≡ valueAt (getD t j noRow .kind) (take (v .to) s) (v .from)
+      One v = present v ≡ true → got tt ≡ legibleAt (getD t j noRow .kind) (take (v .to) s) (v .from)
 
       by : (a : Bool) → eqb j (find (h .id) t) ≡ a → (b : Bool) → ltb (find (h .id) t) (length l) ≡ b → One (getD (set l (find (h .id) t) (h .value)) j noSpan)
       by true e true f =

@@ -14,10 +14,10 @@ use Rattle.octets.specs.Field.{flagAt, plainAt, choiceAt, padAt, numberAt, same
 use Rattle.octets.specs.Write.{numberOctets, lengthOctets}
 use Rattle.octets.specs.Many as several
 use Rattle.values.specs.Values.{causeAt, waitAt}
-use Rattle.item.specs.Item.{marksAt, itemAt, itemElementAt}
+use Rattle.item.specs.Item.{itemMarksAt, itemAt, itemElementAt}
 use Rattle.items.specs.Items.{itemsAt, resetAt}
 use Rattle.items.specs.Written.{itemOctets, itemElementOctets, itemsOctets}
-use Rattle.kinds.specs.Kinds.{valueAt}
+use Rattle.kinds.specs.Kinds.{legibleAt}
 use Rattle.rows.specs.Table.{find}
 use Rattle.envelopes.specs.Envelope.{criticalityAt, envelopeAt, scanAt, headsAt}
 use Rattle.elements.specs.Judge as elements
@@ -41,7 +41,7 @@ use Rattle.carry.specs.declared.Answer.the-variants as answer
 use Rattle.calls.specs.Judged.{judgedBy, setupAnswer}
 use Rattle.calls.specs.Decided.{Decided, decided}
 use Rattle.calls.specs.Call.{call, decidedOn, replyOf, repliedIn, answerOf, unitAfter, fits, settledIf, settled}
-use Rattle.demands.specs.Occur.{unitHolding, offer, pair, whole, response, failure, emptyReset, opened, Does, BenchCalls, Demand2}
+use Rattle.demands.specs.Occur.{unitHolding, offer, pair, wholeReset, response, failure, emptyReset, opened, Does, BenchCalls, Demand2}
 use Rattle.demands.proofs.Settle.{none-said}
 use Rattle.demands.proofs.Decisions.{none-good}
 use Rattle.demands.proofs.UnitOut.{call-on}
@@ -78,12 +78,12 @@ silently l s v g a r t d =
     ∙ settled-silently (unitOctets (opened l)) d (decidedOn Release18 (opened l) (of s)) a r t
 
 pub bench-calls : BenchCalls
-unfolding decidedOn setupAnswer decided judgedBy unitOctets readOf frameAt kindAt containerAt countAt openedAt extensionsAt elementsAt elements.judgedOf front find readInto unknownOf missingOf scanAt headsAt envelopeAt criticalityAt valueAt resetAt causeAt waitAt readAs valueIn valuesIn seen listsOf printed firstOf namedBy flagAt plainAt choiceAt padAt numberAt openAt lengthAt longLengthAt endsAt sameAt bitsOf cutShort noMeaning leftOver extended _>>=_ numberOctets replyOctets encoded replied listOnly valueOf elementsGood elementsOctets messageOctets insideOctets howMany lengthOctets packedIn itemsAt several.many itemElementAt itemAt marksAt without named hasOctets octetsOf itemsOctets itemElementOctets itemOctets
+unfolding decidedOn setupAnswer decided judgedBy unitOctets readOf frameAt kindAt containerAt countAt openedAt extensionsAt elementsAt elements.judgedOf front find readInto unknownOf missingOf scanAt headsAt envelopeAt criticalityAt legibleAt resetAt causeAt waitAt readAs valueIn valuesIn seen listsOf printed firstOf namedBy flagAt plainAt choiceAt padAt numberAt openAt lengthAt longLengthAt endsAt sameAt bitsOf cutShort noMeaning leftOver extended _>>=_ numberOctets replyOctets encoded replied listOnly valueOf elementsGood elementsOctets messageOctets insideOctets howMany lengthOctets packedIn itemsAt several.many itemElementAt itemAt itemMarksAt without named hasOctets octetsOf itemsOctets itemElementOctets itemOctets
 bench-calls = record {
   named = does (pair 1 2 ∷ []) partialReset [] (one-good 1 2 (omega arith) (omega arith)) refl refl refl;
   unknown = does [] partialReset [] none-good refl refl refl;
   kept = does (pair 1 3 ∷ []) partialReset (pair 1 3 ∷ []) (one-good 1 3 (omega arith) (omega arith)) refl refl refl;
-  whole = does (pair 1 3 ∷ []) whole [] (one-good 1 3 (omega arith) (omega arith)) refl refl refl;
+  whole = does (pair 1 3 ∷ []) wholeReset [] (one-good 1 3 (omega arith) (omega arith)) refl refl refl;
   empty = does (pair 1 3 ∷ []) emptyReset (pair 1 3 ∷ []) (one-good 1 3 (omega arith) (omega arith)) refl refl refl;
   set-up = silently (pair 1 3 ∷ []) response fresh (one-good 1 3 (omega arith) (omega arith)) refl refl refl;
   set-up-failed = silently (pair 1 3 ∷ []) failure (with (pair 1 3 ∷ [])) (one-good 1 3 (omega arith) (omega arith)) refl refl refl;

@@ -19,7 +19,7 @@ use Rattle.identity.specs.declared.Item.{Item}
 use Rattle.values.specs.declared.Cause.{Cause}
 use Rattle.values.specs.Written.{tmgiOctets, GoodCause}
 use Rattle.items.specs.Items.{part}
-use Rattle.items.specs.Written.{reject, resetOctets, GoodItems}
+use Rattle.items.specs.Written.{resetCrit, resetOctets, GoodItems}
 use Rattle.rows.specs.declared.Kind.the-variants as kind
 use Rattle.rows.specs.declared.Row.{Row}
 use Rattle.editions.specs.declared.Message.the-variants as message
@@ -72,7 +72,7 @@ resetElements k items = id-Cause is value.cause k ∷ id-ResetType is value.rese
 reset-suits : (k : Cause) (items : List Item) → GoodCause k → GoodItems items → Taken (tableOf Release18 message.Reset) (saying Release18 message.Reset (resetElements k items) .values) 2317
 unfolding printed valueOf hasOctets octetsOf resetOctets
 reset-suits k items g h =
-    let n = items-size reject items (h .1) in
+    let n = items-size resetCrit items (h .1) in
     taken-more (takes-cause k refl g)
     (taken-more (takes-value (value.reset (part items)) 2306 refl (h .2) (counted-good (length items) (h .0) (h .1)) (omega arith)) taken-none)
 

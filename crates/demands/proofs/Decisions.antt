@@ -29,7 +29,7 @@ use Rattle.table.specs.declared.Association.{Association}
 use Rattle.table.specs.declared.Standing.{Standing}
 use Rattle.table.specs.Table.{State, without, full, starting, stopping, holdsMme, holdsMce, holdsPair, standing, distinctHeld}
 use Rattle.table.proofs.Rules.{always}
-use Rattle.lent.specs.Lent.{InRange, Good}
+use Rattle.lent.specs.Lent.{IdentitiesInRange, Good}
 use Rattle.replies.specs.Replies.{abstractSyntax, falselyConstructed, hasIdentity, Replied, replied}
 use Rattle.units.specs.Unit as units
 use Rattle.units.specs.Unit.{GoodUnit}
@@ -82,15 +82,15 @@ module _ (l : State) (g : Good l) where
       let f = g .few in
       record { few = omega arith; apart = always .reset-apart items l (g .apart); each = λ a k. g .each a (mem-keep _ l .0 k .0) }
 
-  pub starting-good : (a : Association) → InRange a → holdsMme (a .mme) l ≡ false → holdsMce (a .mce) l ≡ false → Good (starting a l)
+  pub starting-good : (a : Association) → IdentitiesInRange a → holdsMme (a .mme) l ≡ false → holdsMce (a .mce) l ≡ false → Good (starting a l)
   unfolding starting
   starting-good a r h k = record {
     few = always .start-size a l (g .few);
     apart = always .start-apart a l h k (g .apart);
-    each = λ x. on-pick (λ (z : State). List·Memᴰ x z → InRange x) (full l) (g .each x) (λ m. one x (List·Memᴰ·append-cases l m));
+    each = λ x. on-pick (λ (z : State). List·Memᴰ x z → IdentitiesInRange x) (full l) (g .each x) (λ m. one x (List·Memᴰ·append-cases l m));
   }
     where
-      one : (x : Association) → List·Memᴰ x l ⊎ List·Memᴰ x (a ∷ []) → InRange x
+      one : (x : Association) → List·Memᴰ x l ⊎ List·Memᴰ x (a ∷ []) → IdentitiesInRange x
       one x (inl m) = g .each x m
       one x (inr m) = rw (List·Memᴰ·eq-of-singleton m) r
 

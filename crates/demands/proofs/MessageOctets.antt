@@ -22,7 +22,7 @@ use Rattle.values.specs.Written.{tmgiOctets, causeOctets, GoodCause}
 use Rattle.values.proofs.Back.{cause-octets}
 use Rattle.values.proofs.Roots.{root-width, root-group}
 use Rattle.items.specs.Items.{part}
-use Rattle.items.specs.Written.{Maybe, There, None, mmeIn, mceIn, isThere, maybeOctets, itemOctets, itemElementOctets, itemsOctets, reject, resetOctets}
+use Rattle.items.specs.Written.{Maybe, There, None, mmeIn, mceIn, isThere, maybeOctets, itemOctets, itemElementOctets, itemsOctets, resetCrit, resetOctets}
 use Rattle.rows.specs.declared.Row.{Row}
 use Rattle.editions.specs.declared.Message.{Message}
 use Rattle.editions.specs.declared.Code.{Code}
@@ -75,15 +75,15 @@ all-item i =
     let y : Maybe = mceIn (i .mce) in
     all-packed (bit false ∷ bit (isThere x) ∷ bit (isThere y) ∷ bit false ∷ []) (marks-fit (isThere x) (isThere y)) (all-join (all-maybe x) (all-maybe y))
 
-all-element : (i : Item) → All (itemElementOctets reject i)
+all-element : (i : Item) → All (itemElementOctets resetCrit i)
 unfolding itemElementOctets
-all-element i = all-join (all-number 2 14) (all-crit reject (omega arith) (all-item i))
+all-element i = all-join (all-number 2 14) (all-crit resetCrit (omega arith) (all-item i))
 
 all-reset : (is : List Item) → All (resetOctets (part is))
 unfolding resetOctets itemsOctets
 all-reset is =
     all-packed (bit false ∷ bit true ∷ []) (omega arith, omega arith, (omega arith, omega arith, tt))
-    (all-join (all-number 1 (length is - 1)) (all-each (itemElementOctets reject) all-element is))
+    (all-join (all-number 1 (length is - 1)) (all-each (itemElementOctets resetCrit) all-element is))
 
 -- ---- the message
 

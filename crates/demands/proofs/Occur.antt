@@ -18,7 +18,7 @@ use Rattle.octets.specs.Write.{numberOctets, lengthOctets}
 use Rattle.identity.specs.declared.MceId.{MceId}
 use Rattle.values.specs.Values.{mmeAt, mceAt, tmgiAt}
 use Rattle.items.specs.Items.{resetAt}
-use Rattle.kinds.specs.Kinds.{valueAt}
+use Rattle.kinds.specs.Kinds.{legibleAt}
 use Rattle.rows.specs.Table.{find}
 use Rattle.envelopes.specs.Envelope.{criticalityAt, envelopeAt, scanAt, headsAt}
 use Rattle.elements.specs.Judge as elements
@@ -33,7 +33,7 @@ use Rattle.verdicts.specs.Verdict.{openedAt, readOf}
 use Rattle.layout.specs.Record.{listsOf}
 use Rattle.table.specs.declared.Association.{Association}
 use Rattle.table.specs.Table.{State, full, holdsMme, holdsMce, distinctHeld}
-use Rattle.lent.specs.Lent.{rowsOctets, rowsOf, same, InRange, Good}
+use Rattle.lent.specs.Lent.{rowsOctets, rowsOf, same, IdentitiesInRange, Good}
 use Rattle.units.specs.Unit.{Unit, fresh, unitOctets, MaybeUnit, isUnit, noUnit, readUnit, GoodUnit}
 use Rattle.units.proofs.OneForm.{one-unit}
 use Rattle.requests.specs.Requests.{seen}
@@ -45,7 +45,7 @@ use Rattle.answers.specs.Answers.{numbered}
 use Rattle.calls.specs.Judged.{judgedBy, setupAnswer}
 use Rattle.calls.specs.Decided.{Decided, keeps, changes, fails, decided}
 use Rattle.calls.specs.Call.{Call, decidedOn, Back, replyOf, answerOf, fits, settled, onUnit, call}
-use Rattle.demands.specs.Occur.{offer, Gives, pair, many, start, stop, whole, error, response, cutResponse, numberOf, EveryAnswer}
+use Rattle.demands.specs.Occur.{offer, Gives, pair, manyHeld, start, stop, wholeReset, error, response, cutResponse, numberGiven, EveryAnswer}
 use Rattle.demands.proofs.Settle.{none-said}
 use Rattle.demands.proofs.Written.{Spoken}
 use Rattle.demands.proofs.Decisions.{none-good, Sure}
@@ -98,14 +98,14 @@ pub one-good : (m c : ℕ) → m < 65536 → c < 65536 → Good (pair m c ∷ []
 unfolding distinctHeld
 one-good m c g h = record { few = omega arith; apart = refl; each = λ a k. rw (List·Memᴰ·eq-of-singleton k) (record { mme = g; mce = h }) }
 
-many-range : (n : ℕ) → n ≤ 256 → (a : Association) → List·Memᴰ a (many n) → InRange a
-unfolding many
+many-range : (n : ℕ) → n ≤ 256 → (a : Association) → List·Memᴰ a (manyHeld n) → IdentitiesInRange a
+unfolding manyHeld
 many-range zero h a k = absurd (List·Memᴰ·not-nil k)
 many-range (suc n) h a (List·Memᴰ·head e) = rw e (record { mme = omega arith; mce = omega arith })
 many-range (suc n) h a (List·Memᴰ·tail k) = many-range n (omega arith) a k
 
-many-good : Good (many 256)
-unfolding many distinctHeld
+many-good : Good (manyHeld 256)
+unfolding manyHeld distinctHeld
 many-good = record { few = omega arith; apart = refl; each = many-range 256 (omega arith) }
 
 -- a decision without a reply is settled in any room
@@ -113,18 +113,18 @@ silent-number : (t d : List ℕ) (a : Answer) → numbered (settled Release18 t 
 unfolding settled
 silent-number t d a = rw (none-said Release18, le-leb 0 (length d) (omega arith))
 
-long-number : (t s d : List ℕ) (u : Unit) → readUnit t ≡ isUnit u → 8192 < length s → numberOf t s d ≡ 1
+long-number : (t s d : List ℕ) (u : Unit) → readUnit t ≡ isUnit u → 8192 < length s → numberGiven t s d ≡ 1
 unfolding decidedOn decided judgedBy readOf setupAnswer
 long-number t s d u q h =
     let e : decidedOn Release18 u (record { message = s; offered = offer; room = d }) ≡ keeps answer.TooLong silent = rw (lt-ltb 8192 (length s) h) in
     ap (λ (b : Back). numbered (b .answer) .number) (call-on Release18 t (record { message = s; offered = offer; room = d }) u q)
     ∙ (ap (λ (x : Decided). numbered (settled Release18 t d x .answer) .number) e ∙ silent-number t d answer.TooLong)
 
-none-number : (t s d : List ℕ) → readUnit t ≡ noUnit → numberOf t s d ≡ 21
+none-number : (t s d : List ℕ) → readUnit t ≡ noUnit → numberGiven t s d ≡ 21
 unfolding call
 none-number t s d q = ap (λ (x : MaybeUnit). numbered (onUnit Release18 t (record { message = s; offered = offer; room = d }) x .answer) .number) q
 
-pub room-number : (s : List ℕ) {n : ℕ} → length (replyOf Release18 (decidedOn Release18 fresh (of s))) ≡ n → (d : List ℕ) → length d < n → numberOf (unitOctets fresh) s d ≡ 10
+pub room-number : (s : List ℕ) {n : ℕ} → length (replyOf Release18 (decidedOn Release18 fresh (of s))) ≡ n → (d : List ℕ) → length d < n → numberGiven (unitOctets fresh) s d ≡ 10
 unfolding settled decidedOn
 room-number s k d h =
     let f : fits Release18 d (decidedOn Release18 fresh (of s)) ≡ false = lt-leb _ (length d) (omega arith) in
@@ -132,7 +132,7 @@ room-number s k d h =
 
 -- the rest is computed
 pub every-answer : EveryAnswer
-unfolding many decidedOn setupAnswer decided judgedBy rejection started stopped full readOf frameAt kindAt containerAt countAt openedAt extensionsAt elementsAt elements.judgedOf front find readInto unknownOf missingOf scanAt headsAt envelopeAt criticalityAt valueAt mmeAt mceAt tmgiAt resetAt readAs valueIn valuesIn seen listsOf printed firstOf namedBy flagAt plainAt choiceAt padAt numberAt stringAt openAt lengthAt longLengthAt endsAt bitsOf cutShort noMeaning leftOver extended _>>=_ readUnit unitOctets same rowsOf rowsOctets numberOctets distinctHeld replyOctets encoded replied listOnly valueOf elementsGood elementsOctets messageOctets insideOctets howMany lengthOctets packedIn
+unfolding manyHeld decidedOn setupAnswer decided judgedBy rejection started stopped full readOf frameAt kindAt containerAt countAt openedAt extensionsAt elementsAt elements.judgedOf front find readInto unknownOf missingOf scanAt headsAt envelopeAt criticalityAt legibleAt mmeAt mceAt tmgiAt resetAt readAs valueIn valuesIn seen listsOf printed firstOf namedBy flagAt plainAt choiceAt padAt numberAt stringAt openAt lengthAt longLengthAt endsAt bitsOf cutShort noMeaning leftOver extended _>>=_ readUnit unitOctets same rowsOf rowsOctets numberOctets distinctHeld replyOctets encoded replied listOnly valueOf elementsGood elementsOctets messageOctets insideOctets howMany lengthOctets packedIn
 every-answer = record {
   carried-out = gives [] start none-good refl refl;
   too-long = long-number;
@@ -146,8 +146,8 @@ every-answer = record {
   offer-held = gives (pair 1 9 ∷ []) start (one-good 1 9 (omega arith) (omega arith)) refl refl;
   pair-not-held = gives (pair 5 1 ∷ []) stop (one-good 5 1 (omega arith) (omega arith)) refl refl;
   all-held = λ l g n h k. gives l start g refl (nine l n h k);
-  so-many = gives (many 256) start many-good refl (nine (many 256) refl refl refl);
-  no-room = room-number whole refl;
+  so-many = gives (manyHeld 256) start many-good refl (nine (manyHeld 256) refl refl refl);
+  no-room = room-number wholeReset refl;
   no-unit = none-number;
   not-a-unit = (refl, refl);
 }

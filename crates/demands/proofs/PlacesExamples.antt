@@ -14,7 +14,7 @@ use Rattle.items.specs.Written.{GoodItems}
 use Rattle.editions.specs.declared.Edition.the-variants.{Release18}
 use Rattle.table.specs.declared.Association.{Association}
 use Rattle.table.specs.Table.{named, without, distinctHeld}
-use Rattle.lent.specs.Lent.{rowOctets, InRange}
+use Rattle.lent.specs.Lent.{rowOctets, IdentitiesInRange}
 use Rattle.units.specs.Unit.{Unit, unitOctets, GoodUnit}
 use Rattle.requests.specs.declared.Request.the-variants as request
 use Rattle.demands.specs.Words.{Lends}
@@ -54,7 +54,7 @@ in-two P x y a (List·Memᴰ·tail (List·Memᴰ·tail m)) = absurd (List·Mem�
 
 good : GoodUnit two
 unfolding distinctHeld
-good = record { held = record { few = omega arith; apart = refl; each = in-two InRange (record { mme = omega arith; mce = omega arith }) (record { mme = omega arith; mce = omega arith }) } }
+good = record { held = record { few = omega arith; apart = refl; each = in-two IdentitiesInRange (record { mme = omega arith; mce = omega arith }) (record { mme = omega arith; mce = omega arith }) } }
 
 lent : Lends (unitOctets two) two
 lent = unit-lent two good (in-two (λ (a : Association). Octets (rowOctets a)) (row-octets 1 11) (row-octets 2 12))

@@ -30,7 +30,7 @@ use Rattle.meaning.specs.Ranges as ranges
 use Rattle.table.specs.declared.Association.{Association}
 use Rattle.table.specs.Table.{State, hasMme, hasMce, hasPair, names, named, without, full, starting, stopping, holdsMme, holdsMce, holdsPair}
 use Rattle.table.proofs.Rules.{resets, always}
-use Rattle.lent.specs.Lent.{valueOf, rowOctets, InRange}
+use Rattle.lent.specs.Lent.{sessionOctet, rowOctets, IdentitiesInRange}
 use Rattle.units.specs.Unit.{Unit, isUnit, readUnit, withHeld, GoodUnit}
 use Rattle.units.proofs.OneForm.{one-unit}
 use Rattle.requests.specs.declared.Request.the-variants as request
@@ -71,7 +71,7 @@ module _ (a : Association) (o : Octets (rowOctets a)) where
   unfolding numberOctets
   session-range = by (a .session) (o 11)
     where
-      by : (v : Session) → valueOf v < 256 → GoodSession v
+      by : (v : Session) → sessionOctet v < 256 → GoodSession v
       by (session.Is v) h = h
       by session.Absent h = tt
 
@@ -125,7 +125,7 @@ module _ (e : Edition) (j : ofM3ap e ≡ true) where
   unfolding started full
   start-fits u w a b q f = rw (q, f, lt-leb 256 (length (u .held)) b)
 
-  starts : (t : List ℕ) (u : Unit) (a : Association) (items : List Item) → Lends t u → InRange a → Octets (rowOctets a) →
+  starts : (t : List ℕ) (u : Unit) (a : Association) (items : List Item) → Lends t u → IdentitiesInRange a → Octets (rowOctets a) →
       length (u .held) < 256 → holdsMme (a .mme) (u .held) ≡ false → holdsMce (a .mce) (u .held) ≡ false → GoodItems items → named items a ≡ false →
       SomeNeighbours e t u (request.Start (a .mme) (a .tmgi) (a .session)) items
   starts t u a items h r o b q f i n =

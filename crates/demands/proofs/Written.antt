@@ -27,12 +27,12 @@ use Rattle.values.specs.declared.Cause.{Cause}
 use Rattle.values.specs.Written.{GoodCause, causeOctets}
 use Rattle.items.proofs.Back.{item-size}
 use Rattle.packed.specs.Packed.{_bits_, packed}
-use Rattle.items.specs.Written.{ignore, itemOctets, itemElementOctets, itemsOctets, mmeIn, mceIn, GoodMaybe, GoodItem}
+use Rattle.items.specs.Written.{acknowledgementCrit, itemOctets, itemElementOctets, itemsOctets, mmeIn, mceIn, GoodMaybe, GoodItem}
 use Rattle.entries.specs.declared.Entry.{Entry}
 use Rattle.diagnostics.specs.declared.Head.{Head}
 use Rattle.diagnostics.specs.declared.Number.the-variants as number
 use Rattle.diagnostics.specs.Diagnostics.{Diagnostics}
-use Rattle.diagnostics.specs.Written.{headOctets, listOctets, diagnosticsOctets, GoodEntry, Good}
+use Rattle.diagnostics.specs.Written.{headOctets, entryListOctets, diagnosticsOctets, GoodEntry, GoodDiagnostics}
 use Rattle.put_diagnostics.proofs.Sizes.{head-small, list-size}
 use Rattle.rows.specs.declared.Kind.the-variants as kind
 use Rattle.rows.specs.declared.Row.{Row}
@@ -119,11 +119,11 @@ items-size crit items h =
     let b = each-small crit items in
     rw (length-append (numberOctets 1 (length items - 1)) (eachOctets (itemElementOctets crit) items)) (omega arith)
 
-diagnostics-size : (n : ℕ) (d : Diagnostics) → Good n d → length (diagnosticsOctets d) ≤ 773
+diagnostics-size : (n : ℕ) (d : Diagnostics) → GoodDiagnostics n d → length (diagnosticsOctets d) ≤ 773
 unfolding diagnosticsOctets
 diagnostics-size n d g = rw length-append (by (d .head .listed))
   where
-    by : (t : Bool) → length (headOctets (d .head)) + length (listOctets t (d .entries)) ≤ 773
+    by : (t : Bool) → length (headOctets (d .head)) + length (entryListOctets t (d .entries)) ≤ 773
     by true = let a = head-small (d .head) in let b = list-size (d .entries) in let c = g .count in omega arith
     by false = let a = head-small (d .head) in omega arith
 
@@ -142,9 +142,9 @@ module _ {r : Row} where
 
   takes-list : (items : List Item) → kind.Acknowledged ≡ r .kind → 0 < length items → length items ≤ 256 → Each GoodItem items → Takes r (given (value.list items)) 2310
   unfolding hasOctets octetsOf
-  takes-list items k p b g = takes-value (value.list items) 2305 k g (counted-good (length items) p b) (items-size ignore items b)
+  takes-list items k p b g = takes-value (value.list items) 2305 k g (counted-good (length items) p b) (items-size acknowledgementCrit items b)
 
-  takes-diagnostics : (t : Triggers) (d : Diagnostics) → kind.Diagnostics t ≡ r .kind → Good (meanings t) d → Takes r (given (value.diagnostics t d)) 778
+  takes-diagnostics : (t : Triggers) (d : Diagnostics) → kind.Diagnostics t ≡ r .kind → GoodDiagnostics (meanings t) d → Takes r (given (value.diagnostics t d)) 778
   unfolding hasOctets octetsOf
   takes-diagnostics t d k g =
       takes-value (value.diagnostics t d) 773 k

@@ -66,10 +66,10 @@ faulty (got a) = false
 faulty (stop (Fault p)) = true
 faulty (stop (Extension p)) = false
 
-abbrev pub extended : {A : Type 0} → Read A → Bool
-extended (got a) = false
-extended (stop (Fault p)) = false
-extended (stop (Extension p)) = true
+abbrev pub extensionMet : {A : Type 0} → Read A → Bool
+extensionMet (got a) = false
+extensionMet (stop (Fault p)) = false
+extensionMet (stop (Extension p)) = true
 
 -- inside the frame: which request the message is; the first fault or extension; and of the elements, as far as they can be read,
 -- what the judging comes to and which values are there
@@ -115,9 +115,9 @@ abbrev pub isLent : MaybeUnit → Bool
 isLent (isUnit u) = true
 isLent noUnit = false
 
-abbrev held : (State → Bool) → MaybeUnit → Bool
-held p (isUnit u) = p (u .held)
-held p noUnit = false
+abbrev ofHeld : (State → Bool) → MaybeUnit → Bool
+ofHeld p (isUnit u) = p (u .held)
+ofHeld p noUnit = false
 
 abbrev pub isOpenIn : MaybeUnit → Bool
 isOpenIn (isUnit u) = u .isOpen
@@ -183,16 +183,16 @@ refusals u s f i c =
     21 when not (isLent u) reply none
     ∷ 1 when ltb 8192 (length s) reply none
     ∷ 2 when faulty f reply none
-    ∷ 3 when extended f reply none
+    ∷ 3 when extensionMet f reply none
     ∷ 4 when not (of (λ x. isAsked (x .ask)) i) reply none
     ∷ 14 when of (λ x. answersSetup (x .ask)) i && not (isOpenIn u) reply none
     ∷ 2 when of (λ x. faulty (x .opened)) i reply none
-    ∷ 3 when of (λ x. extended (x .opened)) i reply none
+    ∷ 3 when of (λ x. extensionMet (x .opened)) i reply none
     ∷ 5 when of (λ x. notAccepted (x .outcome)) i reply to (λ x. rejectedReply (x .ask) (x .seen)) i
-    ∷ 6 when of (λ x. isStart (x .ask) && held (heldBy (x .seen .mme) mce.Absent) u) i reply sends message.StartFailure
-    ∷ 7 when of (λ x. isStart (x .ask) && held (holdsMce c) u) i reply none
-    ∷ 8 when of (λ x. isStop (x .ask) && held (λ l. not (heldBy (x .seen .mme) (x .seen .mce) l)) u) i reply sends message.ErrorIndication
-    ∷ 9 when of (λ x. isStart (x .ask) && held full u) i reply sends message.StartFailure ∷ []
+    ∷ 6 when of (λ x. isStart (x .ask) && ofHeld (heldBy (x .seen .mme) mce.Absent) u) i reply sends message.StartFailure
+    ∷ 7 when of (λ x. isStart (x .ask) && ofHeld (holdsMce c) u) i reply none
+    ∷ 8 when of (λ x. isStop (x .ask) && ofHeld (λ l. not (heldBy (x .seen .mme) (x .seen .mce) l)) u) i reply sends message.ErrorIndication
+    ∷ 9 when of (λ x. isStart (x .ask) && ofHeld full u) i reply sends message.StartFailure ∷ []
 
 -- where none is due: carried out
 abbrev pub dueFor : MaybeUnit → List ℕ → Read Frame → MaybeInside → MceId → Due

@@ -43,9 +43,9 @@ pair m c = record {
 }
 
 -- n associations, of the identities from 100 on
-unfoldable pub many : ℕ → State
-many zero = []
-many (suc n) = pair (n + 100) (n + 100) ∷ many n
+unfoldable pub manyHeld : ℕ → State
+manyHeld zero = []
+manyHeld (suc n) = pair (n + 100) (n + 100) ∷ manyHeld n
 
 -- START REQUEST of MME identity 5, with what is mandatory; STOP REQUEST of the pair 5 and 9; RESET of the whole
 abbrev pub start : List ℕ
@@ -62,8 +62,8 @@ start =
 abbrev pub stop : List ℕ
 stop = 0x00 ∷ 0x01 ∷ 0x00 ∷ 0x0f ∷ 0x00 ∷ 0x00 ∷ 0x02 ∷ 0x00 ∷ 0x00 ∷ 0x00 ∷ 0x02 ∷ 0x00 ∷ 0x05 ∷ 0x00 ∷ 0x01 ∷ 0x00 ∷ 0x02 ∷ 0x00 ∷ 0x09 ∷ []
 
-abbrev pub whole : List ℕ
-whole = 0x00 ∷ 0x04 ∷ 0x00 ∷ 0x08 ∷ 0x00 ∷ 0x00 ∷ 0x01 ∷ 0x00 ∷ 0x0d ∷ 0x00 ∷ 0x01 ∷ 0x00 ∷ []
+abbrev pub wholeReset : List ℕ
+wholeReset = 0x00 ∷ 0x04 ∷ 0x00 ∷ 0x08 ∷ 0x00 ∷ 0x00 ∷ 0x01 ∷ 0x00 ∷ 0x0d ∷ 0x00 ∷ 0x01 ∷ 0x00 ∷ []
 
 abbrev pub error : List ℕ
 error = 0x00 ∷ 0x02 ∷ 0x40 ∷ 0x08 ∷ 0x00 ∷ 0x00 ∷ 0x01 ∷ 0x00 ∷ 0x62 ∷ 0x00 ∷ 0x01 ∷ 0xff ∷ []
@@ -80,14 +80,14 @@ failure = 0x40 ∷ 0x07 ∷ 0x00 ∷ 0x08 ∷ 0x00 ∷ 0x00 ∷ 0x01 ∷ 0x00 �
 
 -- ---- every answer
 
-abbrev pub numberOf : List ℕ → List ℕ → List ℕ → ℕ
-numberOf t s d = numbered (call Release18 t (record { message = s; offered = offer; room = d }) .answer) .number
+abbrev pub numberGiven : List ℕ → List ℕ → List ℕ → ℕ
+numberGiven t s d = numbered (call Release18 t (record { message = s; offered = offer; room = d }) .answer) .number
 
 pub record EveryAnswer : Type 0 where
   -- a start, on a fresh unit
   pub carried-out : Gives [] start 0
   -- any message of over 8,192 octets, on any unit
-  pub too-long : (t s d : List ℕ) (u : Unit) → readUnit t ≡ isUnit u → 8192 < length s → numberOf t s d ≡ 1
+  pub too-long : (t s d : List ℕ) (u : Unit) → readUnit t ≡ isUnit u → 8192 < length s → numberGiven t s d ≡ 1
   -- no octets; an octet with the extension bit
   pub fault : Gives [] [] 2
   pub extension : Gives [] (0x80 ∷ []) 3
@@ -105,11 +105,11 @@ pub record EveryAnswer : Type 0 where
   pub pair-not-held : Gives (pair 5 1 ∷ []) stop 8
   -- the start, where 256 are held, and neither identity
   pub all-held : (l : State) → Good l → length l ≡ 256 → holdsMme (record { 0 = 5 }) l ≡ false → holdsMce offer l ≡ false → Gives l start 9
-  pub so-many : Gives (many 256) start 9
+  pub so-many : Gives (manyHeld 256) start 9
   -- the whole reset, whose reply has seven octets
-  pub no-room : (d : List ℕ) → length d < 7 → numberOf (unitHolding []) whole d ≡ 10
+  pub no-room : (d : List ℕ) → length d < 7 → numberGiven (unitHolding []) wholeReset d ≡ 10
   -- any call on octets that are no unit; no octets are none, nor is a table without its marks
-  pub no-unit : (t s d : List ℕ) → readUnit t ≡ noUnit → numberOf t s d ≡ 21
+  pub no-unit : (t s d : List ℕ) → readUnit t ≡ noUnit → numberGiven t s d ≡ 21
   pub not-a-unit : (readUnit [] ≡ noUnit) × (readUnit (replicate 3074 0) ≡ noUnit)
 
 -- ---- 01's bench examples of calls
@@ -143,7 +143,7 @@ pub record BenchCalls : Type 0 where
   -- held (1, 3): the item (1, 2) removes nothing and is acknowledged
   pub kept : Does (pair 1 3 ∷ []) partialReset acknowledgement (pair 1 3 ∷ [])
   -- the acknowledgement of a whole reset, or of empty items only
-  pub whole : Does (pair 1 3 ∷ []) whole noList []
+  pub whole : Does (pair 1 3 ∷ []) wholeReset noList []
   pub empty : Does (pair 1 3 ∷ []) emptyReset noList (pair 1 3 ∷ [])
   -- with a setup request open, its response empties the table, and its failure keeps it and hands back a Time to Wait; both close it, whatever the room
   pub set-up : (d : List ℕ) → call Release18 (unitOctets (opened (pair 1 3 ∷ []))) (record { message = response; offered = offer; room = d })
@@ -153,7 +153,7 @@ pub record BenchCalls : Type 0 where
   -- each Time to Wait in seconds, as its name in 9.3.5 says
   pub in-seconds : map (λ (v : ℕ). numbered (answer.SetupFailed (wait.Is v)) .wait) (0 ∷ 1 ∷ 2 ∷ 3 ∷ 4 ∷ 5 ∷ []) ≡ 1 ∷ 2 ∷ 5 ∷ 10 ∷ 20 ∷ 60 ∷ []
   -- a reply room of 20 for the 21 octets
-  pub no-room : (d : List ℕ) → length d ≡ 20 → numberOf (unitHolding []) partialReset d ≡ 10
+  pub no-room : (d : List ℕ) → length d ≡ 20 → numberGiven (unitHolding []) partialReset d ≡ 10
 
 -- Demand 2: each answer is given exactly when 01's table says, with the reply that it says, and each is given; what is done to the unit;
 -- and both round trips.

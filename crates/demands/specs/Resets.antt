@@ -25,14 +25,14 @@ use Rattle.requests.specs.declared.MaybeReset.the-variants as reset
 use Rattle.requests.specs.Requests.{seen}
 use Rattle.table.specs.Table.{State, named, without, holdsMme, holdsMce}
 use Rattle.table.specs.declared.Association.{Association}
-use Rattle.lent.specs.Lent.{rowOctets, InRange}
+use Rattle.lent.specs.Lent.{rowOctets, IdentitiesInRange}
 use Rattle.units.specs.Unit.{Unit, unitOctets, GoodUnit}
 use Rattle.replies.specs.Replies.{hasIdentity}
 use Rattle.calls.specs.Judged.{Accepted, accepts, judged, verdict}
 use Rattle.calls.specs.Decided.{about}
 use Rattle.calls.specs.Call.{Call, call}
 use Rattle.demands.specs.Answered.{Handed, numberOf}
-use Rattle.demands.specs.Words.{Lends, resetBy, someNamed, Asks, PartialReset, OfSession, Resets, resetMessage, joined, given, Again, run, replies, AllAccepted, PartialResets, Acknowledged}
+use Rattle.demands.specs.Words.{Lends, resetBy, someNamed, Asks, PartialReset, OfSession, Resets, resetMessage, joined, givenMce, Again, run, replies, AllAccepted, PartialResets, Acknowledged}
 
 module _ (e : Edition) where
   -- ==== dealing
@@ -84,11 +84,11 @@ module _ (e : Edition) where
     pub session : (judged e (s .message) ≡ accepts a) × OfSession (a .request) × Again s′ s
     pub reset : (Resets e p is) × Again p′ p
     -- the same MCE identity is offered
-    pub offered : given (resetBy is u) s′ ≡ given u s
+    pub offered : givenMce (resetBy is u) s′ ≡ givenMce u s
     -- both are accepted in either order
     pub accepted : AllAccepted e t (s ∷ p ∷ []) × AllAccepted e t (p′ ∷ s′ ∷ [])
     -- no item names what the session's message is about, in either order (the second follows: what is left behind the reset is not named)
-    pub spared : (someNamed is (about u (given u s) a) ≡ false) × (someNamed is (about (resetBy is u) (given (resetBy is u) s′) a) ≡ false)
+    pub spared : (someNamed is (about u (givenMce u s) a) ≡ false) × (someNamed is (about (resetBy is u) (givenMce (resetBy is u) s′) a) ≡ false)
 
   -- Changing places. Both orders end in the same octets, and get the same two replies.
   pub record SameEnds (t : List ℕ) (s p p′ s′ : Call) : Type 0 where
@@ -111,7 +111,7 @@ module _ (e : Edition) where
 
   pub record ChangingPlacesIsReal : Type 0 where
     -- a start of any association for which the unit has room, and whose identities it does not hold
-    pub starts : (t : List ℕ) (u : Unit) (a : Association) (is : List Item) → Lends t u → InRange a → Octets (rowOctets a) →
+    pub starts : (t : List ℕ) (u : Unit) (a : Association) (is : List Item) → Lends t u → IdentitiesInRange a → Octets (rowOctets a) →
         length (u .held) < 256 → holdsMme (a .mme) (u .held) ≡ false → holdsMce (a .mce) (u .held) ≡ false → GoodItems is → named is a ≡ false →
         SomeNeighbours t u (request.Start (a .mme) (a .tmgi) (a .session)) is
     -- a stop of any association that the unit holds

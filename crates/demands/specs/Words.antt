@@ -74,8 +74,8 @@ pub record Acknowledgement (v : Verdict) (l : List Item) : Type 0 where
   pub items : itemsIn (what .what) ≡ l
 
 -- the MCE identity that a start is given in a unit
-abbrev pub given : units.Unit → Call → MceId
-given u c = c .offered
+abbrev pub givenMce : units.Unit → Call → MceId
+givenMce u c = c .offered
 
 -- the same message handed over once more, with whatever room
 abbrev pub Again : Call → Call → Type 0

@@ -22,15 +22,15 @@ use Rattle.entries.specs.declared.Entry.{Entry}
 use Rattle.diagnostics.specs.declared.Head.{Head}
 use Rattle.diagnostics.specs.Diagnostics.{Diagnostics, headAt, diagnosticsAt}
 use Rattle.entries.specs.Entries.{listAt, maybeListAt}
-use Rattle.diagnostics.specs.Written.{headOctets, entriesOctets, listOctets, diagnosticsOctets, GoodEntry, GoodHead, Good}
+use Rattle.diagnostics.specs.Written.{headOctets, entriesOctets, entryListOctets, diagnosticsOctets, GoodEntry, GoodHead, GoodDiagnostics}
 use Rattle.diagnostics.proofs.HeadAgain.{head-again}
 use Rattle.diagnostics.proofs.EntriesBack.{entries-length}
 use Rattle.diagnostics.proofs.EntriesAgain.{entries-again}
 
 module _ (s : List ℕ) (o : Octets s) where
   record List-again (at : ℕ) (b : Bool) (es : List Entry) : Type 0 where
-    octets : Stands s at (listOctets b es)
-    ends : length s ≤ at + length (listOctets b es)
+    octets : Stands s at (entryListOctets b es)
+    ends : length s ≤ at + length (entryListOctets b es)
     listed : b ≡ ltb 0 (length es)
     count : length es ≤ 256
     good : Each GoodEntry es
@@ -62,14 +62,14 @@ module _ (s : List ℕ) (o : Octets s) where
       }
 
   abbrev pub Again : ℕ → ℕ → Diagnostics → Type 0
-  Again n at d = Stands s at (diagnosticsOctets d) × (length s ≡ at + length (diagnosticsOctets d)) × Good n d
+  Again n at d = Stands s at (diagnosticsOctets d) × (length s ≡ at + length (diagnosticsOctets d)) × GoodDiagnostics n d
 
   joined : (n at next : ℕ) (h : Head) (es : List Entry) → Stands s at (headOctets h) → next ≡ at + length (headOctets h) → GoodHead n h → List-again next (h .listed) es
       → Again n at (record { head = h; entries = es })
   unfolding diagnosticsOctets
   joined n at next h es x e g l =
-      let a = length-append (headOctets h) (listOctets (h .listed) es) in
-      let both = stands-join {vs = headOctets h} {ws = listOctets (h .listed) es} x (rw e at (l .octets)) in
+      let a = length-append (headOctets h) (entryListOctets (h .listed) es) in
+      let both = stands-join {vs = headOctets h} {ws = entryListOctets (h .listed) es} x (rw e at (l .octets)) in
       let r = both .room in
       let z = l .ends in
       (both, omega arith, record { head = g; entries = l .good; listed = l .listed; count = l .count })

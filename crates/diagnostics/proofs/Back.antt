@@ -18,12 +18,12 @@ use Rattle.octets.proofs.Back.{number-back, ends-back, length-number}
 use Rattle.entries.specs.declared.Entry.{Entry}
 use Rattle.diagnostics.specs.Diagnostics.{Diagnostics, diagnosticsAt}
 use Rattle.entries.specs.Entries.{listAt, maybeListAt}
-use Rattle.diagnostics.specs.Written.{headOctets, entriesOctets, listOctets, diagnosticsOctets, GoodEntry, Good}
+use Rattle.diagnostics.specs.Written.{headOctets, entriesOctets, entryListOctets, diagnosticsOctets, GoodEntry, GoodDiagnostics}
 use Rattle.diagnostics.proofs.HeadBack.{head-back}
 use Rattle.diagnostics.proofs.EntriesBack.{entries-length, entries-back}
 
 module _ (s : List ℕ) where
-  list-back : (at : ℕ) (b : Bool) (es : List Entry) → b ≡ ltb 0 (length es) → length es ≤ 256 → Each GoodEntry es → Stands s at (listOctets b es) → length s ≡ at + length (listOctets b es)
+  list-back : (at : ℕ) (b : Bool) (es : List Entry) → b ≡ ltb 0 (length es) → length es ≤ 256 → Each GoodEntry es → Stands s at (entryListOctets b es) → length s ≡ at + length (entryListOctets b es)
       → got es ≡ maybeListAt b s at
   unfolding listAt
   list-back at false es t n g h e =
@@ -39,10 +39,10 @@ module _ (s : List ℕ) where
       past _ _ (number-back 1 s at (length es - 1) (omega arith) (x .0))
       (rw m (entries-back s (at + 1) es l g (rw d at (x .1)) (omega (arith, entries-length [] es))))
 
-  pub diagnostics-back : (n : ℕ) → n ≤ 4 → (at : ℕ) (d : Diagnostics) → Good n d → Stands s at (diagnosticsOctets d) → length s ≡ at + length (diagnosticsOctets d) → got d ≡ diagnosticsAt n s at
+  pub diagnostics-back : (n : ℕ) → n ≤ 4 → (at : ℕ) (d : Diagnostics) → GoodDiagnostics n d → Stands s at (diagnosticsOctets d) → length s ≡ at + length (diagnosticsOctets d) → got d ≡ diagnosticsAt n s at
   unfolding diagnosticsAt diagnosticsOctets
   diagnostics-back n w at d g h e =
-      let x = stands-split (headOctets (d .head)) (listOctets (d .head .listed) (d .entries)) h in
-      let a = length-append (headOctets (d .head)) (listOctets (d .head .listed) (d .entries)) in
+      let x = stands-split (headOctets (d .head)) (entryListOctets (d .head .listed) (d .entries)) h in
+      let a = length-append (headOctets (d .head)) (entryListOctets (d .head .listed) (d .entries)) in
       past _ _ (head-back n w s at (d .head) (g .head) (x .0))
       (past _ _ (list-back (at + length (headOctets (d .head))) (d .head .listed) (d .entries) (g .listed) (g .count) (g .entries) (x .1) (omega arith)) refl)

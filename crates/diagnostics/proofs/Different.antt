@@ -9,11 +9,11 @@ use Rattle.octets.specs.Stands.{StaysDifferent}
 use Rattle.octets.proofs.Chain.{same-got}
 use Rattle.octets.proofs.Stood.{stands-alone}
 use Rattle.diagnostics.specs.Diagnostics.{Diagnostics, diagnosticsAt}
-use Rattle.diagnostics.specs.Written.{diagnosticsOctets, Good}
+use Rattle.diagnostics.specs.Written.{diagnosticsOctets, GoodDiagnostics}
 use Rattle.diagnostics.proofs.Back.{diagnostics-back}
 
-pub diagnostics : (n : ℕ) → n ≤ 4 → StaysDifferent (Good n) diagnosticsOctets
+pub diagnostics : (n : ℕ) → n ≤ 4 → StaysDifferent (GoodDiagnostics n) diagnosticsOctets
 diagnostics n l v w a b e = same-got (alone v a ∙ (ap (λ (s : List ℕ). diagnosticsAt n s 0) e ∙ sym (alone w b)))
   where
-    alone : (d : Diagnostics) → Good n d → got d ≡ diagnosticsAt n (diagnosticsOctets d) 0
+    alone : (d : Diagnostics) → GoodDiagnostics n d → got d ≡ diagnosticsAt n (diagnosticsOctets d) 0
     alone d g = diagnostics-back (diagnosticsOctets d) n l 0 d g (stands-alone (diagnosticsOctets d)) (sym (zero-add _))

@@ -9,9 +9,9 @@ use Rattle.octets.specs.Many.{many}
 use Rattle.diagnostics.specs.Diagnostics.{marksAt, codeAt, maybeAt, headAt, diagnosticsAt}
 use Rattle.entries.specs.Entries.{critAt, entryAt, entriesAt, listAt}
 use Rattle.diagnostics.specs.Written.{pairs, headOctets, entriesOctets, diagnosticsOctets}
-use Rattle.diagnostics.specs.Examples.{Hold}
+use Rattle.diagnostics.specs.Examples.{DiagnosticsHold}
 
-pub hold : Hold
+pub hold : DiagnosticsHold
 unfolding _>>=_ bitsOf flagAt plainAt choiceAt padAt numberAt endsAt many marksAt codeAt maybeAt headAt critAt entryAt entriesAt listAt diagnosticsAt
     packedIn numberOctets pairs headOctets entriesOctets diagnosticsOctets
 hold = (refl, refl, refl, refl)

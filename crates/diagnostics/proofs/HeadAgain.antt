@@ -24,7 +24,7 @@ use Rattle.octets.proofs.Again.{number-again, value-below}
 use Rattle.diagnostics.specs.declared.Number.{Number}
 use Rattle.diagnostics.specs.declared.Head.{Head}
 use Rattle.diagnostics.specs.Diagnostics.{Marks, after, behindCode, behindTrigger, behindCrit, marksAt, codeAt, maybeAt, headAt}
-use Rattle.diagnostics.specs.Written.{isThere, marksOf, marks, numbers, octetOf, pairs, withCode, headOctets, Under, GoodHead}
+use Rattle.diagnostics.specs.Written.{hasNumber, marksOf, marks, presentNumber, octetOf, pairs, withCode, headOctets, Under, GoodHead}
 use Rattle.diagnostics.proofs.Fields.{bits-mod, pair-small, fields-behind, bit-again, pad-low, octet-again}
 use Rattle.diagnostics.proofs.Pairs.{Begun, begun-none, begun-more, begun-marks, more, more-width, octet-some}
 use Rattle.diagnostics.proofs.HeadBack.{head-length}
@@ -61,13 +61,13 @@ module _ (s : List ℕ) (o : Octets s) (at : ℕ) where
       (ws : List Field) × Held ws q × ((xs : List ℕ) → Stands s (at + q / 8) (pairs ws xs) → Stands s (at + p / 8) (pairs us (vs ++ xs)))
 
   held-number : (n : ℕ) (m : Bool) (y : Number) (us : List Field) (p : ℕ) → Held us p → got y ≡ maybeAt n m s at p
-      → (m ≡ isThere y) × Under n y × Held-then us p (after m 2 p) (numbers y)
+      → (m ≡ hasNumber y) × Under n y × Held-then us p (after m 2 p) (presentNumber y)
   unfolding maybeAt Held-then pairs
-  held-number n false y us p k q = subst (λ (x : Number). (false ≡ isThere x) × Under n x × Held-then us p p (numbers x)) (sym (same-got q)) (refl, tt, (us, k, λ xs h. h))
+  held-number n false y us p k q = subst (λ (x : Number). (false ≡ hasNumber x) × Under n x × Held-then us p p (presentNumber x)) (sym (same-got q)) (refl, tt, (us, k, λ xs h. h))
   held-number n true y us p k q =
       let t = then-got (choiceAt n 2 s (at + p / 8) p) _ q in
       let g = choice-got s (at + p / 8) n 2 p (t .1) in
-      subst (λ (x : Number). (true ≡ isThere x) × Under n x × Held-then us p (p + 2) (numbers x)) (sym (same-got (t .2)))
+      subst (λ (x : Number). (true ≡ hasNumber x) × Under n x × Held-then us p (p + 2) (presentNumber x)) (sym (same-got (t .2)))
       (refl, g .2, by (t .0) (g .0) (g .1) (ltb (widths (more us (t .0))) 8) refl)
     where
       held-more : (v : ℕ) → v ≡ bitsOf (getD s (at + p / 8) 0) p 2 → more us v ≡ fieldsOf (getD s (at + p / 8) 0) 0 (k .ws ++ 2 ∷ [])
@@ -129,11 +129,11 @@ module _ (s : List ℕ) (o : Octets s) (at : ℕ) where
   Coded b m c =
       (us : List Field) × Held us (after b 10 6) × ((xs : List ℕ) → Stands s (at + after b 10 6 / 8) (pairs us xs) → Stands s at (withCode c (map bit (marks m)) xs))
 
-  held-code : (b : Bool) (c : Number) (m : Marks) → Six (map bit (marks m)) → got c ≡ codeAt b s at → (b ≡ isThere c) × Under 256 c × Coded b m c
+  held-code : (b : Bool) (c : Number) (m : Marks) → Six (map bit (marks m)) → got c ≡ codeAt b s at → (b ≡ hasNumber c) × Under 256 c × Coded b m c
   unfolding codeAt Six Coded
   held-code false c m x q =
       let r = x .0 in
-      subst (λ (y : Number). (false ≡ isThere y) × Under 256 y × Coded false m y) (sym (same-got q)) (
+      subst (λ (y : Number). (false ≡ hasNumber y) × Under 256 y × Coded false m y) (sym (same-got q)) (
         refl,
         tt,
         (
@@ -152,7 +152,7 @@ module _ (s : List ℕ) (o : Octets s) (at : ℕ) where
       let l = length-number 1 (t .0) in
       let e : at + 1 + length (numberOctets 1 (t .0)) ≡ at + 2 = omega arith in
       let r = g .0 in
-      subst (λ (y : Number). (true ≡ isThere y) × Under 256 y × Coded true m y) (sym (same-got (t .2))) (
+      subst (λ (y : Number). (true ≡ hasNumber y) × Under 256 y × Coded true m y) (sym (same-got (t .2))) (
         refl,
         rw (g .1) (value-below 1 s (at + 1) o),
         (
@@ -178,8 +178,8 @@ module _ (s : List ℕ) (o : Octets s) (at : ℕ) where
       let z = held-number 3 (m .crit) k (y .2 .0) (behindTrigger m) (y .2 .1) qk in
       let h : Head = record { code = c; trigger = t; crit = k; listed = m .listed } in
       let e : m ≡ marksOf h = λ i. record { code = x .0 i; trigger = y .0 i; crit = z .0 i; listed = m .listed } in
-      let last = rw (append-nil (numbers k)) at (z .2 .2 [] (held-end (z .2 .0) (behindCrit m) (z .2 .1) qp)) in (
-        subst (λ (y : Marks). Stands s at (withCode c (map bit (marks y)) (numbers t ++ numbers k))) e (x .2 .2 (numbers t ++ numbers k) (y .2 .2 (numbers k) last)),
+      let last = rw (append-nil (presentNumber k)) at (z .2 .2 [] (held-end (z .2 .0) (behindCrit m) (z .2 .1) qp)) in (
+        subst (λ (y : Marks). Stands s at (withCode c (map bit (marks y)) (presentNumber t ++ presentNumber k))) e (x .2 .2 (presentNumber t ++ presentNumber k) (y .2 .2 (presentNumber k) last)),
         ap (λ (y : Marks). at + (behindCrit y + 7) / 8) e ∙ ap (λ (y : ℕ). at + y) (sym (head-length h)),
         record { code = x .1; trigger = y .1; crit = z .1 },
       )

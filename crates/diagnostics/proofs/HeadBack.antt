@@ -22,7 +22,7 @@ use Rattle.diagnostics.specs.declared.Number.{Number}
 use Rattle.diagnostics.specs.declared.Number.the-variants.{Is, Absent}
 use Rattle.diagnostics.specs.declared.Head.{Head}
 use Rattle.diagnostics.specs.Diagnostics.{Marks, after, behindCrit, marksAt, codeAt, maybeAt, headAt}
-use Rattle.diagnostics.specs.Written.{isThere, marksOf, marks, numbers, octetOf, pairs, withCode, headOctets, Under, GoodHead}
+use Rattle.diagnostics.specs.Written.{hasNumber, marksOf, marks, presentNumber, octetOf, pairs, withCode, headOctets, Under, GoodHead}
 use Rattle.diagnostics.proofs.Pairs.{Begun, begun-none, begun-more, begun-marks, more, more-width, more-fit, octet-some, pairs-length}
 use Rattle.diagnostics.proofs.Fields.{bits-width, flag-in, plain-in, choice-in, pad-in}
 
@@ -53,8 +53,8 @@ module _ (s : List ℕ) where
     Next : ℕ → List ℕ → Type 0
     Next p vs = (us : List Field) × Begun us p × Stands s (at + p / 8) (pairs us vs)
 
-    number-next : (n : ℕ) → n ≤ 4 → (y : Number) (vs : List ℕ) (us : List Field) (p : ℕ) → Under n y → Begun us p → Stands s (at + p / 8) (pairs us (numbers y ++ vs))
-        → (got y ≡ maybeAt n (isThere y) s at p) × Next (after (isThere y) 2 p) vs
+    number-next : (n : ℕ) → n ≤ 4 → (y : Number) (vs : List ℕ) (us : List Field) (p : ℕ) → Under n y → Begun us p → Stands s (at + p / 8) (pairs us (presentNumber y ++ vs))
+        → (got y ≡ maybeAt n (hasNumber y) s at p) × Next (after (hasNumber y) 2 p) vs
     unfolding maybeAt pairs Next
     number-next n w Absent vs us p g b h = (refl, (us, b, h))
     number-next n w (Is v) vs us p g b h = by (ltb (widths (more us v)) 8) refl h
@@ -108,7 +108,7 @@ module _ (s : List ℕ) (at : ℕ) where
       refl)))))
 
   code-back : (c : Number) (m : Marks) (vs : List ℕ) → Under 256 c → Stands s at (withCode c (map bit (marks m)) vs)
-      → (got m ≡ marksAt s at) × (got c ≡ codeAt (isThere c) s at) × Next s at (after (isThere c) 10 6) vs
+      → (got m ≡ marksAt s at) × (got c ≡ codeAt (hasNumber c) s at) × Next s at (after (hasNumber c) 10 6) vs
   unfolding codeAt Next
   code-back Absent m vs g h =
       let x = whole s at (map bit (marks m)) vs 6 (begun-marks m) (omega arith) h in
@@ -124,29 +124,29 @@ module _ (s : List ℕ) (at : ℕ) where
         ([], begun-none 16 refl, rw e at (y .1)),
       )
 
-after-two : (n : Number) (p : ℕ) → after (isThere n) 2 p ≡ p + 2 * length (numbers n)
+after-two : (n : Number) (p : ℕ) → after (hasNumber n) 2 p ≡ p + 2 * length (presentNumber n)
 after-two (Is v) p = refl
 after-two Absent p = sym (add-zero p)
 
 pub head-length : (h : Head) → length (headOctets h) ≡ (behindCrit (marksOf h) + 7) / 8
 unfolding headOctets
-head-length h = by (h .code) (length-append (numbers (h .trigger)) (numbers (h .crit)))
+head-length h = by (h .code) (length-append (presentNumber (h .trigger)) (presentNumber (h .crit)))
   where
-    by : (c : Number) → length (numbers (h .trigger) ++ numbers (h .crit)) ≡ length (numbers (h .trigger)) + length (numbers (h .crit))
-        → length (withCode c (map bit (marks (marksOf h))) (numbers (h .trigger) ++ numbers (h .crit)))
-        ≡ (after (isThere (h .crit)) 2 (after (isThere (h .trigger)) 2 (after (isThere c) 10 6)) + 7) / 8
+    by : (c : Number) → length (presentNumber (h .trigger) ++ presentNumber (h .crit)) ≡ length (presentNumber (h .trigger)) + length (presentNumber (h .crit))
+        → length (withCode c (map bit (marks (marksOf h))) (presentNumber (h .trigger) ++ presentNumber (h .crit)))
+        ≡ (after (hasNumber (h .crit)) 2 (after (hasNumber (h .trigger)) 2 (after (hasNumber c) 10 6)) + 7) / 8
     by (Is v) n =
-        let e = pairs-length [] (numbers (h .trigger) ++ numbers (h .crit)) 16 (begun-none 16 refl) in
-        rw (after-two (h .crit) (after (isThere (h .trigger)) 2 16), after-two (h .trigger) 16, length-append, length-number) (omega arith)
+        let e = pairs-length [] (presentNumber (h .trigger) ++ presentNumber (h .crit)) 16 (begun-none 16 refl) in
+        rw (after-two (h .crit) (after (hasNumber (h .trigger)) 2 16), after-two (h .trigger) 16, length-append, length-number) (omega arith)
     by Absent n =
-        let e = pairs-length (map bit (marks (marksOf h))) (numbers (h .trigger) ++ numbers (h .crit)) 6 (begun-marks (marksOf h)) in
-        rw (after-two (h .crit) (after (isThere (h .trigger)) 2 6), after-two (h .trigger) 6) (omega arith)
+        let e = pairs-length (map bit (marks (marksOf h))) (presentNumber (h .trigger) ++ presentNumber (h .crit)) 6 (begun-marks (marksOf h)) in
+        rw (after-two (h .crit) (after (hasNumber (h .trigger)) 2 6), after-two (h .trigger) 6) (omega arith)
 
 pub head-back : (n : ℕ) → n ≤ 4 → (s : List ℕ) (at : ℕ) (h : Head) → GoodHead n h → Stands s at (headOctets h)
     → got (record { value = h; next = at + length (headOctets h) }) ≡ headAt n s at
 unfolding headAt headOctets Next
 head-back n w s at h g k =
-    let c = code-back s at (h .code) (marksOf h) (numbers (h .trigger) ++ numbers (h .crit)) (g .code) k in
-    let t = number-next s at n w (h .trigger) (numbers (h .crit)) (c .2 .0) _ (g .trigger) (c .2 .1) (c .2 .2) in
-    let d = number-next s at 3 (omega arith) (h .crit) [] (t .1 .0) _ (g .crit) (t .1 .1) (rw (append-nil (numbers (h .crit))) (t .1 .2)) in
+    let c = code-back s at (h .code) (marksOf h) (presentNumber (h .trigger) ++ presentNumber (h .crit)) (g .code) k in
+    let t = number-next s at n w (h .trigger) (presentNumber (h .crit)) (c .2 .0) _ (g .trigger) (c .2 .1) (c .2 .2) in
+    let d = number-next s at 3 (omega arith) (h .crit) [] (t .1 .0) _ (g .crit) (t .1 .1) (rw (append-nil (presentNumber (h .crit))) (t .1 .2)) in
     past _ _ (c .0) (past _ _ (c .1) (past _ _ (t .0) (past _ _ (d .0) (past _ _ (pad-end s at (d .1 .0) _ (d .1 .1) (d .1 .2)) (rw (head-length h))))))

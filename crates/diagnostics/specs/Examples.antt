@@ -9,16 +9,16 @@ use Rattle.diagnostics.specs.declared.Number.the-variants.{Is, Absent}
 use Rattle.diagnostics.specs.Diagnostics.{Diagnostics, emptyHead, diagnosticsAt}
 use Rattle.diagnostics.specs.Written.{diagnosticsOctets}
 
-pub record Example : Type 0 where
+pub record DiagnosticsExample : Type 0 where
   pub octets : List ℕ
   pub value : Diagnostics
 
-pub record Refusal : Type 0 where
+pub record RefusedDiagnostics : Type 0 where
   pub octets : List ℕ
   pub reason : Stop
 
-abbrev pub examples : List Example
-examples =
+abbrev pub diagnosticsExamples : List DiagnosticsExample
+diagnosticsExamples =
     -- nothing is there
     record { octets = 0x00 ∷ []; value = record { head = emptyHead; entries = [] } }
     -- without a code the triggering message stands in the first octet
@@ -44,8 +44,8 @@ examples =
     }
     ∷ []
 
-abbrev pub refusals : List Refusal
-refusals =
+abbrev pub refusedDiagnostics : List RefusedDiagnostics
+refusedDiagnostics =
     -- extensions present, before a criticality with no meaning in the list
     record { octets = 0x0C ∷ 0x00 ∷ 0x30 ∷ 0x00 ∷ 0x63 ∷ 0x00 ∷ []; reason = extended 0 }
     -- a triggering message with no meaning
@@ -57,9 +57,9 @@ refusals =
     ∷ []
 
 -- of three meanings, each is written as its octets and read back whole, and each refusal stops where it says; of four, the last is one
-abbrev pub Hold : Type 0
-Hold =
-    (map (λ (e : Example). diagnosticsOctets (e .value)) examples ≡ map (λ (e : Example). e .octets) examples)
-    × (map (λ (e : Example). diagnosticsAt 3 (e .octets) 0) examples ≡ map (λ (e : Example). got (e .value)) examples)
-    × (map (λ (r : Refusal). diagnosticsAt 3 (r .octets) 0) refusals ≡ map (λ (r : Refusal). stop (r .reason)) refusals)
+abbrev pub DiagnosticsHold : Type 0
+DiagnosticsHold =
+    (map (λ (e : DiagnosticsExample). diagnosticsOctets (e .value)) diagnosticsExamples ≡ map (λ (e : DiagnosticsExample). e .octets) diagnosticsExamples)
+    × (map (λ (e : DiagnosticsExample). diagnosticsAt 3 (e .octets) 0) diagnosticsExamples ≡ map (λ (e : DiagnosticsExample). got (e .value)) diagnosticsExamples)
+    × (map (λ (r : RefusedDiagnostics). diagnosticsAt 3 (r .octets) 0) refusedDiagnostics ≡ map (λ (r : RefusedDiagnostics). stop (r .reason)) refusedDiagnostics)
     × (diagnosticsAt 4 (0x23 ∷ []) 0 ≡ got (record { head = record { code = Absent; trigger = Is 3; crit = Absent; listed = false }; entries = [] }))

@@ -1,4 +1,4 @@
--- The readers' answers, as readings.
+-- Scaffolding: no demand speaks of it. The readers' answers, as readings.
 use Rattle.octets.specs.Read.{Read, got, stop}
 use Rattle.octets.specs.Many.{Part}
 use Rattle.diagnostics.specs.Diagnostics.{Marks}

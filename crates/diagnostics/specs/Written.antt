@@ -16,20 +16,20 @@ use Rattle.diagnostics.specs.declared.Number.the-variants.{Is, Absent}
 use Rattle.diagnostics.specs.declared.Head.{Head}
 use Rattle.diagnostics.specs.Diagnostics.{Diagnostics, Marks}
 
-abbrev pub isThere : Number → Bool
-isThere (Is v) = true
-isThere Absent = false
+abbrev pub hasNumber : Number → Bool
+hasNumber (Is v) = true
+hasNumber Absent = false
 
 abbrev pub marksOf : Head → Marks
-marksOf h = record { code = isThere (h .code); trigger = isThere (h .trigger); crit = isThere (h .crit); listed = h .listed }
+marksOf h = record { code = hasNumber (h .code); trigger = hasNumber (h .trigger); crit = hasNumber (h .crit); listed = h .listed }
 
 -- extension, what is there, extensions present
 abbrev pub marks : Marks → List Bool
 marks m = false ∷ m .code ∷ m .trigger ∷ m .crit ∷ m .listed ∷ false ∷ []
 
-abbrev pub numbers : Number → List ℕ
-numbers (Is v) = v ∷ []
-numbers Absent = []
+abbrev pub presentNumber : Number → List ℕ
+presentNumber (Is v) = v ∷ []
+presentNumber Absent = []
 
 abbrev pub octetOf : List Field → List ℕ
 octetOf [] = []
@@ -48,7 +48,7 @@ withCode (Is v) us vs = packed us ∷ numberOctets 1 v ++ pairs [] vs
 withCode Absent us vs = pairs us vs
 
 unfoldable pub headOctets : Head → List ℕ
-headOctets h = withCode (h .code) (map bit (marks (marksOf h))) (numbers (h .trigger) ++ numbers (h .crit))
+headOctets h = withCode (h .code) (map bit (marks (marksOf h))) (presentNumber (h .trigger) ++ presentNumber (h .crit))
 
 -- an entry up to its criticality: extension, extensions present, criticality
 abbrev pub critFields : ℕ → List Field
@@ -64,12 +64,12 @@ entriesOctets us [] = packed us ∷ []
 entriesOctets us (e ∷ es) = packed (us ++ critFields (e .crit)) ∷ numberOctets 2 (e .id) ++ entriesOctets (errorFields (e .error)) es
 
 -- the number of entries less 1, and the entries
-abbrev pub listOctets : Bool → List Entry → List ℕ
-listOctets false es = []
-listOctets true es = numberOctets 1 (length es - 1) ++ entriesOctets [] es
+abbrev pub entryListOctets : Bool → List Entry → List ℕ
+entryListOctets false es = []
+entryListOctets true es = numberOctets 1 (length es - 1) ++ entriesOctets [] es
 
 unfoldable pub diagnosticsOctets : Diagnostics → List ℕ
-diagnosticsOctets d = headOctets (d .head) ++ listOctets (d .head .listed) (d .entries)
+diagnosticsOctets d = headOctets (d .head) ++ entryListOctets (d .head .listed) (d .entries)
 
 -- ---- good values: each number fits its field and has a meaning, one of n for the triggering message
 
@@ -88,7 +88,7 @@ pub record GoodHead (n : ℕ) (h : Head) : Type 0 where
   pub crit : Under 3 (h .crit)
 
 -- a list is there exactly if it has an entry; it has at most 256
-pub record Good (n : ℕ) (d : Diagnostics) : Type 0 where
+pub record GoodDiagnostics (n : ℕ) (d : Diagnostics) : Type 0 where
   pub head : GoodHead n (d .head)
   pub entries : Each GoodEntry (d .entries)
   pub listed : d .head .listed ≡ ltb 0 (length (d .entries))

@@ -12,7 +12,7 @@ use Rattle.lists.proofs.Apart.{apart-map}
 use Rattle.lists.proofs.Copy.{Copied, copied-all}
 use Rattle.identity.specs.declared.MmeId.{MmeId}
 use Rattle.identity.specs.declared.MceId.{MceId}
-use Rattle.distinct.specs.Bits.{bit, withBit, inSet, withIn}
+use Rattle.distinct.specs.Bits.{hasBit, withBit, inSet, withIn}
 use Rattle.distinct.specs.Series.{mmeMet, mceMet}
 use Rattle.distinct.specs.declared.MmeWord.{MmeWord}
 use Rattle.distinct.specs.declared.MceWord.{MceWord}
@@ -49,9 +49,9 @@ module _ {A : Type 0} (f : A → ℕ) where
     word-at : getD (map f l) (x % w) 0 ≡ f (getD l (x % w) z)
     word-at = ap (getD (map f l) (x % w)) (sym e) ∙ List·getD-map f l (x % w) z
 
-    pub in-words : {b : Bool} → b ≡ bit (f (getD l (x % w) z)) (x / w) → b ≡ inSet w (map f l) x
+    pub in-words : {b : Bool} → b ≡ hasBit (f (getD l (x % w) z)) (x / w) → b ≡ inSet w (map f l) x
     unfolding inSet
-    in-words q = q ∙ ap (λ (v : ℕ). bit v (x / w)) (sym word-at)
+    in-words q = q ∙ ap (λ (v : ℕ). hasBit v (x / w)) (sym word-at)
 
     pub with-word : (a : A) → f a ≡ withBit (f (getD l (x % w) z)) (x / w) → map f (set l (x % w) a) ≡ withIn w (map f l) x
     unfolding withIn

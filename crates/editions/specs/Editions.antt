@@ -168,8 +168,8 @@ abbrev pub numberOf : Edition → Message → ℕ
 numberOf e m = formOf e m .number
 
 -- a table as the code has it
-abbrev pub rowsOf : Edition → Message → Rows
-rowsOf e m = record { rows = fill noRow 12 (tableOf e m); count = length (tableOf e m) }
+abbrev pub tableRows : Edition → Message → Rows
+tableRows e m = record { rows = fill noRow 12 (tableOf e m); count = length (tableOf e m) }
 
 -- the first message that passes a test
 unfoldable pub firstOf : (Message → Bool) → List Message → Named

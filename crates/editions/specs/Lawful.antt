@@ -1,4 +1,4 @@
--- What the definitions ask of a table: at most twelve rows, ids apart, and at most one row for what a record has one of.
+-- Scaffolding: no demand speaks of it. What the definitions ask of a table: at most twelve rows, ids apart, and at most one row for what a record has one of.
 -- One computed test for all tables of an edition (proofs/Tables.antt); no law looks into a table for another reason.
 use Prim.Native.Nat.{ℕ}
 use mathlib.Core.Bool.{Bool, not, _&&_}

@@ -1,4 +1,4 @@
--- What the steps of the code give of a form: number and frame in a row, and the table as an array.
+-- Scaffolding: no demand speaks of it. What the steps of the code give of a form: number and frame in a row, and the table as an array.
 use mathlib.Core.Path.{_≡_}
 use lib.ListN.{length}
 use Rattle.lists.specs.Lists.{fill}

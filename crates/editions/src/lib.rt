@@ -7,7 +7,7 @@ ghost use lib.Dec.{eqb};
 ghost use lib.ListN.{length, getD};
 ghost use Rattle.lists.specs.Lists.{fill};
 ghost use Rattle.rows.specs.Table.{noRow};
-ghost use Rattle.editions.specs.Editions.{printedForm, inLab, formOf, messagesOf, rowsOf, codeOf, containerOf, numberOf, namedBy, numberedBy};
+ghost use Rattle.editions.specs.Editions.{printedForm, inLab, formOf, messagesOf, tableRows, codeOf, containerOf, numberOf, namedBy, numberedBy};
 ghost use Rattle.editions.specs.Steps.{Heads, rowsBy};
 use rows::Kind;
 use rows::Row;
@@ -531,7 +531,7 @@ fn lab_rows(m: Message) -> Rows
 
 // The table of a message.
 pub fn rows_of(e: Edition, m: Message) -> Rows
-    ensures { λ r. ⌜ r ≡ rowsOf e m ⌝ }
+    ensures { λ r. ⌜ r ≡ tableRows e m ⌝ }
 {
     match e {
         Edition::Release18 => printed_rows(m),

@@ -5,14 +5,13 @@ use mathlib.Core.List.{List, [], _∷_, _++_, append-assoc, append-nil}
 use Prim.Native.Nat.{ℕ, _+_, _-_, _*_}
 use native.Mathlib.Nat.{sub-zero}
 use lib.ListN.{length, replicate, replicate-append-replicate}
-use Rattle.octets.specs.Read.{Read, got, stop}
+use Rattle.octets.specs.Read.{Read, got, stop, orNone}
 use Rattle.octets.specs.Many.{eachOctets}
 use Rattle.octets.specs.Write.{Wrote, numberOctets}
 use Rattle.octets.specs.declared.Stop.{Stop}
 use Rattle.octets.proofs.EachWritten.{each-size}
 use Rattle.octets.proofs.Writing.{wrote-then}
 use Rattle.layout.specs.Rows.{listOctets}
-use Rattle.entry_rows.specs.EntryRows.{orNone}
 
 module _ {A : Type 0} (row : A → List ℕ) where
   pub rows-more : (l : List A) (a : A) → eachOctets row (l ++ a ∷ []) ≡ eachOctets row l ++ row a

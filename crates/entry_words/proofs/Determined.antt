@@ -10,7 +10,7 @@ use Rattle.octets.proofs.OneFound.{one-gate}
 use Rattle.entries.specs.declared.Entry.{Entry}
 use Rattle.entries.specs.Entries.{maybeListAt}
 use Rattle.entry_words.specs.declared.Taken.{Taken}
-use Rattle.entry_words.specs.EntryWords.{Taking}
+use Rattle.entry_words.specs.EntryWords.{EntriesTaking}
 use Rattle.entry_words.proofs.entry_word.Kinds as entry-word'
 use Rattle.entry_words.proofs.entry_word.Reads as entry-word
 use Rattle.entry_words.proofs.entry_of.Kinds as entry-of'
@@ -24,7 +24,7 @@ use Rattle.entry_words.proofs.diagnostics_gate.Reads as diagnostics-gat
 use Rattle.entry_words.proofs.list_into.Kinds as list-into'
 use Rattle.entry_words.proofs.list_into.Reads as list-into
 
-one-taking : (r : Read (List Entry)) (l : List ℕ) {m n : List ℕ} {a b : Taken} → Taking r l a m → Taking r l b n → (a ≡ b) × (m ≡ n)
+one-taking : (r : Read (List Entry)) (l : List ℕ) {m n : List ℕ} {a b : Taken} → EntriesTaking r l a m → EntriesTaking r l b n → (a ≡ b) × (m ≡ n)
 one-taking (got es) l e f = (e .0 same f .0, e .1 same f .1)
 one-taking (stop x) l e f = (e .0 same f .0, e .1 same f .1)
 

@@ -9,7 +9,7 @@ use mathlib.Core.Bool.{false}
 use mathlib.Core.List.{List, [], map}
 use Prim.Native.Nat.{ℕ, _+_}
 use lib.ListN.{length}
-use Rattle.octets.specs.Read.{Read, got, stop, _>>=_, _>>_}
+use Rattle.octets.specs.Read.{Read, got, stop, _>>=_, _>>_, checked}
 use Rattle.octets.specs.Field.{numberAt, padAt, endsAt}
 use Rattle.octets.specs.Many.{Part, many}
 use Rattle.octets.specs.Write.{Wrote}
@@ -19,7 +19,7 @@ use Rattle.octets.proofs.ManyLaws.{many-each}
 use Rattle.entries.specs.declared.Entry.{Entry}
 use Rattle.entries.specs.Entries.{entryAt, entriesAt, listAt, maybeListAt}
 use Rattle.entry_words.specs.declared.Taken.the-variants as taken
-use Rattle.entry_words.specs.EntryWords.{checked, entryWord, WroteIf, Taking}
+use Rattle.entry_words.specs.EntryWords.{entryWord, WroteIf, EntriesTaking}
 
 -- ---- gates
 
@@ -75,8 +75,8 @@ module _ {A : Type 0} (put : A → List ℕ) {f : Read (Part A)} (l : List ℕ) 
   wrote-known q w = subst (λ (y : Read (Part A)). WroteIf put y l at m r) (sym q) w
 
 module _ {r : Read (List Entry)} (l : List ℕ) where
-  pub taken-stop : {x : Stop} → stop x ≡ r → Taking r l (taken.Stop x) l
-  taken-stop {x} q = subst (λ (y : Read (List Entry)). Taking y l (taken.Stop x) l) q (refl, refl)
+  pub taken-stop : {x : Stop} → stop x ≡ r → EntriesTaking r l (taken.Stop x) l
+  taken-stop {x} q = subst (λ (y : Read (List Entry)). EntriesTaking y l (taken.Stop x) l) q (refl, refl)
 
-  pub taken-all : (es : List Entry) {m : List ℕ} {k n : ℕ} → got es ≡ r → length es ≡ n → Wrote l 0 (map entryWord es) m k → Taking r l (taken.Is n) m
-  taken-all es {m} {k} {n} q h w = subst (λ (y : Read (List Entry)). Taking y l (taken.Is n) m) q (ap taken.Is (sym h), w .octets)
+  pub taken-all : (es : List Entry) {m : List ℕ} {k n : ℕ} → got es ≡ r → length es ≡ n → Wrote l 0 (map entryWord es) m k → EntriesTaking r l (taken.Is n) m
+  taken-all es {m} {k} {n} q h w = subst (λ (y : Read (List Entry)). EntriesTaking y l (taken.Is n) m) q (ap taken.Is (sym h), w .octets)

@@ -1,19 +1,15 @@
--- Entries as words, and what stands in lent words after a list was read into them.
+-- Scaffolding: no demand speaks of it. Entries as words, and what stands in lent words after a list was read into them.
 use Prim.Native.Nat.{ℕ, _+_, _*_, _/_, _%_}
 use mathlib.Core.Path.{_≡_}
 use mathlib.Core.List.{List, map}
 use lib.ListN.{length}
 use lib.Seq.{sets}
-use Rattle.octets.specs.Read.{Read, got, stop, _>>_}
+use Rattle.octets.specs.Read.{Read, got, stop}
 use Rattle.octets.specs.Many.{Part}
 use Rattle.octets.specs.Write.{Wrote}
 use Rattle.entries.specs.declared.Entry.{Entry}
 use Rattle.entry_words.specs.declared.Taken.{Taken}
 use Rattle.entry_words.specs.declared.Taken.the-variants as taken
-
--- whether something can be read
-abbrev pub checked : {A : Type 0} → Read A → Read Unit
-checked x = x >> got tt
 
 -- id, criticality, type of error, from the low end on
 abbrev pub entryWord : Entry → ℕ
@@ -24,9 +20,9 @@ abbrev pub entryBy : ℕ → Entry
 entryBy w = record { id = w % 65536; crit = w / 65536 % 256; error = w / 16777216 % 256 }
 
 -- l and m are the words before and after, r is the answer
-abbrev pub Taking : Read (List Entry) → List ℕ → Taken → List ℕ → Type 0
-Taking (got es) l r m = (r ≡ taken.Is (length es)) × (m ≡ sets l 0 (map entryWord es))
-Taking (stop x) l r m = (r ≡ taken.Stop x) × (m ≡ l)
+abbrev pub EntriesTaking : Read (List Entry) → List ℕ → Taken → List ℕ → Type 0
+EntriesTaking (got es) l r m = (r ≡ taken.Is (length es)) × (m ≡ sets l 0 (map entryWord es))
+EntriesTaking (stop x) l r m = (r ≡ taken.Stop x) × (m ≡ l)
 
 -- what was read is put in from the place on; nothing is said where reading stops
 abbrev pub WroteIf : {A : Type 0} → (A → List ℕ) → Read (Part A) → List ℕ → ℕ → List ℕ → ℕ → Type 0

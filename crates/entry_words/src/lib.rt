@@ -4,9 +4,10 @@ ghost use mathlib.Core.List.{[], _∷_, map};
 ghost use Rattle.octets.specs.Many.{many};
 ghost use Rattle.octets.specs.Found.{foundGate};
 ghost use Rattle.octets.specs.Write.{Wrote};
+ghost use Rattle.octets.specs.Read.{checked};
 ghost use Rattle.entries.specs.Entries.{entryAt, entriesAt, maybeListAt};
 ghost use Rattle.diagnostics.specs.Diagnostics.{diagnosticsAt};
-ghost use Rattle.entry_words.specs.EntryWords.{checked, entryWord, entryBy, WroteIf, Taking};
+ghost use Rattle.entry_words.specs.EntryWords.{entryWord, entryBy, WroteIf, EntriesTaking};
 use diagnostics::HeadRead;
 use entries::Entry;
 use entries::EntryRead;
@@ -120,7 +121,7 @@ fn words_from(n: usize, s: &[u8], from: usize, words: &mut [u64]) -> usize
 
 // The list, if it is there, into the front of the words; where it cannot be read they stay as they were.
 pub fn list_into(there: bool, s: &[u8], at: usize, words: &mut [u64]) -> Taken
-    ensures { λ r. ⌜ Taking (maybeListAt there (now (s .entry)) at) (now (words .entry)) r (now (words .exit)) ⌝ }
+    ensures { λ r. ⌜ EntriesTaking (maybeListAt there (now (s .entry)) at) (now (words .entry)) r (now (words .exit)) ⌝ }
 {
     match list_gate(there, s, at) {
         Gate::Pass => {}

@@ -14,7 +14,7 @@ use Rattle.octets.specs.Field.{numberAt, openAt}
 use Rattle.octets.specs.declared.Stop.{Stop}
 use Rattle.octets.proofs.Chain.{past, halt, then-got, same-got}
 use Rattle.octets.proofs.Got.{open-in}
-use Rattle.kinds.specs.Kinds.{valueAt}
+use Rattle.kinds.specs.Kinds.{legibleAt}
 use Rattle.rows.specs.declared.Row.{Row}
 use Rattle.envelopes.specs.declared.Head.{Head}
 use Rattle.rows.specs.Table.{kindOf}
@@ -35,21 +35,21 @@ module _ (t : List Row) (s : List ℕ) (m at : ℕ) where
   unfolding scanAt
   scan-none h = rw h
 
-  scan-suc : (n : ℕ) → (envelopeAt s at >>= λ h. valueAt (kindOf t (h .id)) (take (h .value .to) s) (h .value .from) >> scanAt t s n (h .value .to)) ≡ scanAt t s (suc n) at
+  scan-suc : (n : ℕ) → (envelopeAt s at >>= λ h. legibleAt (kindOf t (h .id)) (take (h .value .to) s) (h .value .from) >> scanAt t s n (h .value .to)) ≡ scanAt t s (suc n) at
   unfolding scanAt
   scan-suc n = refl
 
-  scan-one : (m ≡ 0 → ⊥) → (envelopeAt s at >>= λ h. valueAt (kindOf t (h .id)) (take (h .value .to) s) (h .value .from) >> scanAt t s (m - 1) (h .value .to)) ≡ scanAt t s m at
+  scan-one : (m ≡ 0 → ⊥) → (envelopeAt s at >>= λ h. legibleAt (kindOf t (h .id)) (take (h .value .to) s) (h .value .from) >> scanAt t s (m - 1) (h .value .to)) ≡ scanAt t s m at
   scan-one h = let k : suc (m - 1) ≡ m = omega arith in scan-suc (m - 1) ∙ ap (λ (n : ℕ). scanAt t s n at) k
 
   pub scan-cut : (m ≡ 0 → ⊥) → {x : Stop} → stop x ≡ envelopeAt s at → stop x ≡ scanAt t s m at
   scan-cut e q = halt _ q ∙ scan-one e
 
   module _ (e : m ≡ 0 → ⊥) (h : Head) (q : got h ≡ envelopeAt s at) where
-    pub scan-bad : {x : Stop} → stop x ≡ valueAt (kindOf t (h .id)) (take (h .value .to) s) (h .value .from) → stop x ≡ scanAt t s m at
+    pub scan-bad : {x : Stop} → stop x ≡ legibleAt (kindOf t (h .id)) (take (h .value .to) s) (h .value .from) → stop x ≡ scanAt t s m at
     scan-bad r = past _ h q (halt _ r) ∙ scan-one e
 
-    pub scan-more : got tt ≡ valueAt (kindOf t (h .id)) (take (h .value .to) s) (h .value .from) → scanAt t s (m - 1) (h .value .to) ≡ scanAt t s m at
+    pub scan-more : got tt ≡ legibleAt (kindOf t (h .id)) (take (h .value .to) s) (h .value .from) → scanAt t s (m - 1) (h .value .to) ≡ scanAt t s m at
     scan-more r = past _ h q (past _ tt r refl) ∙ scan-one e
 
   heads-suc : (n : ℕ) (h : Head) → got h ≡ envelopeAt s at → headsAt s (suc n) at ≡ h ∷ headsAt s n (h .value .to)

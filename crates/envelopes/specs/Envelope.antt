@@ -4,7 +4,7 @@ use mathlib.Core.List.{List, [], _∷_}
 use lib.ListN.{take}
 use Rattle.octets.specs.Read.{Read, got, stop, _>>=_, _>>_}
 use Rattle.octets.specs.Field.{choiceAt, padAt, numberAt, openAt}
-use Rattle.kinds.specs.Kinds.{valueAt}
+use Rattle.kinds.specs.Kinds.{legibleAt}
 use Rattle.rows.specs.declared.Row.{Row}
 use Rattle.envelopes.specs.declared.Head.{Head}
 use Rattle.envelopes.specs.declared.End.{End}
@@ -41,7 +41,7 @@ unfoldable pub scanAt : List Row → List ℕ → ℕ → ℕ → Read ℕ
 scanAt t s zero at = got at
 scanAt t s (suc n) at = do
   h ← envelopeAt s at
-  valueAt (kindOf t (h .id)) (take (h .value .to) s) (h .value .from)
+  legibleAt (kindOf t (h .id)) (take (h .value .to) s) (h .value .from)
   scanAt t s n (h .value .to)
 
 -- the elements, as far as they can be read

@@ -17,18 +17,18 @@ use Rattle.answers.specs.Answers.{numbered}
 use Rattle.calls.specs.Call.{Back, decidedOn, replyOf, settledIf, fits, settled, onUnit, call}
 use Rattle.evening.specs.declared.Turn.{Turn}
 use Rattle.evening.specs.declared.Played as own
-use Rattle.evening.specs.Capture.{sizeIn, whole, callIn, heldIn, turnOf, Played, behind, nothing, playedIn, captured, Plays}
+use Rattle.evening.specs.Capture.{sizeIn, isWhole, callIn, heldIn, turnOf, Played, playedAfter, noTurns, playedIn, captured, Plays}
 use Rattle.evening.proofs.Playing.{four, not-whole, within, behind-behind, behind-none, played-more, played-not}
 
 -- what is played of s behind a first part
 abbrev pub after : ℕ → List ℕ → Played → Played
-after k s p = behind (p .turns) (p .octets) (playedIn k (drop (p .octets) s) (p .unit) (p .room))
+after k s p = playedAfter (p .turns) (p .octets) (playedIn k (drop (p .octets) s) (p .unit) (p .room))
 
 -- the first j entries, and then k more from where they end
 pub in-parts : (j k : ℕ) (s t d : List ℕ) → playedIn (j + k) s t d ≡ after k s (playedIn j s t d)
 unfolding playedIn
 in-parts zero k s t d = rw (zero-add k) (behind-none (playedIn k s t d))
-in-parts (suc j) k s t d = rw (suc-add j k) (by (whole s) refl (in-parts j k (drop (sizeIn s) s) (call Release18 t (callIn s d) .unit) (call Release18 t (callIn s d) .room)))
+in-parts (suc j) k s t d = rw (suc-add j k) (by (isWhole s) refl (in-parts j k (drop (sizeIn s) s) (call Release18 t (callIn s d) .unit) (call Release18 t (callIn s d) .room)))
   where
     b : Back
     b = call Release18 t (callIn s d)
@@ -36,40 +36,40 @@ in-parts (suc j) k s t d = rw (suc-add j k) (by (whole s) refl (in-parts j k (dr
     p : Played
     p = playedIn j (drop (sizeIn s) s) (call Release18 t (callIn s d) .unit) (call Release18 t (callIn s d) .room)
 
-    by : (w : Bool) → whole s ≡ w → playedIn (j + k) (drop (sizeIn s) s) (call Release18 t (callIn s d) .unit) (call Release18 t (callIn s d) .room) ≡ after k (drop (sizeIn s) s) p
+    by : (w : Bool) → isWhole s ≡ w → playedIn (j + k) (drop (sizeIn s) s) (call Release18 t (callIn s d) .unit) (call Release18 t (callIn s d) .room) ≡ after k (drop (sizeIn s) s) p
         → playedIn (suc (j + k)) s t d ≡ after k s (playedIn (suc j) s t d)
-    by false w r = rw (played-not (suc (j + k)) s t d w, played-not (suc j) s t d w, played-not k s t d w) (behind-none (nothing t d))
+    by false w r = rw (played-not (suc (j + k)) s t d w, played-not (suc j) s t d w, played-not k s t d w) (behind-none (noTurns t d))
     by true w r =
-        played-more (j + k) s t d w ∙ (ap (behind (turnOf b ∷ []) (sizeIn s)) r
+        played-more (j + k) s t d w ∙ (ap (playedAfter (turnOf b ∷ []) (sizeIn s)) r
         ∙ (rw (drop-drop (p .octets) (sizeIn s) s) (behind-behind (turnOf b ∷ []) (p .turns) (sizeIn s) (p .octets) (playedIn k (drop (sizeIn s + p .octets) s) (p .unit) (p .room)))
         ∙ ap (after k s) (sym (played-more j s t d w))))
 
 -- as many entries as there are octets are all that are whole: what is left over does not begin with one
-pub left-over : (k : ℕ) (s t d : List ℕ) → length s ≤ k → whole (drop (playedIn k s t d .octets) s) ≡ false
+pub left-over : (k : ℕ) (s t d : List ℕ) → length s ≤ k → isWhole (drop (playedIn k s t d .octets) s) ≡ false
 unfolding playedIn
 left-over zero s t d h = not-whole s (omega (arith, four s))
-left-over (suc k) s t d h = by (whole s) refl (left-over k (drop (sizeIn s) s) (call Release18 t (callIn s d) .unit) (call Release18 t (callIn s d) .room) (omega (arith, length-drop (sizeIn s) s, four s)))
+left-over (suc k) s t d h = by (isWhole s) refl (left-over k (drop (sizeIn s) s) (call Release18 t (callIn s d) .unit) (call Release18 t (callIn s d) .room) (omega (arith, length-drop (sizeIn s) s, four s)))
   where
     p : Played
     p = playedIn k (drop (sizeIn s) s) (call Release18 t (callIn s d) .unit) (call Release18 t (callIn s d) .room)
 
-    by : (w : Bool) → whole s ≡ w → whole (drop (p .octets) (drop (sizeIn s) s)) ≡ false → whole (drop (playedIn (suc k) s t d .octets) s) ≡ false
+    by : (w : Bool) → isWhole s ≡ w → isWhole (drop (p .octets) (drop (sizeIn s) s)) ≡ false → isWhole (drop (playedIn (suc k) s t d .octets) s) ≡ false
     by false w r = rw (played-not (suc k) s t d w) w
     by true w r = rw (played-more k s t d w, ← drop-drop (p .octets) (sizeIn s) s) r
 
-pub all-whole : (s : List ℕ) → whole (drop (captured s .octets) s) ≡ false
+pub all-whole : (s : List ℕ) → isWhole (drop (captured s .octets) s) ≡ false
 all-whole s = left-over (length s) s (unitOctets fresh) (replicate 8192 0) (omega arith)
 
 -- the entries stand within the octets
 pub inside : (k : ℕ) (s t d : List ℕ) → playedIn k s t d .octets ≤ length s
 unfolding playedIn
 inside zero s t d = omega arith
-inside (suc k) s t d = by (whole s) refl (inside k (drop (sizeIn s) s) (call Release18 t (callIn s d) .unit) (call Release18 t (callIn s d) .room))
+inside (suc k) s t d = by (isWhole s) refl (inside k (drop (sizeIn s) s) (call Release18 t (callIn s d) .unit) (call Release18 t (callIn s d) .room))
   where
     p : Played
     p = playedIn k (drop (sizeIn s) s) (call Release18 t (callIn s d) .unit) (call Release18 t (callIn s d) .room)
 
-    by : (w : Bool) → whole s ≡ w → p .octets ≤ length (drop (sizeIn s) s) → playedIn (suc k) s t d .octets ≤ length s
+    by : (w : Bool) → isWhole s ≡ w → p .octets ≤ length (drop (sizeIn s) s) → playedIn (suc k) s t d .octets ≤ length s
     by false w r = rw (played-not (suc k) s t d w) (omega arith)
     by true w r = rw (played-more k s t d w) (omega (arith, within s w, length-drop (sizeIn s) s))
 
@@ -107,7 +107,7 @@ pub record Alike (p q : Played) : Type 0 where
   pub unit : p .unit ≡ q .unit
   pub octets : p .octets ≡ q .octets
 
-behind-alike : {x y : Turn} (n : ℕ) {p q : Played} → x ≡ y → Alike p q → Alike (behind (x ∷ []) n p) (behind (y ∷ []) n q)
+behind-alike : {x y : Turn} (n : ℕ) {p q : Played} → x ≡ y → Alike p q → Alike (playedAfter (x ∷ []) n p) (playedAfter (y ∷ []) n q)
 behind-alike n e r = record { turns = λ i. e i ∷ r .turns i; unit = r .unit; octets = ap (n +_) (r .octets) }
 
 -- what stands in the room before does not matter to what the entries give, nor to the unit
@@ -116,10 +116,10 @@ unfolding playedIn
 any-room zero s t d e h = record { turns = refl; unit = refl; octets = refl }
 any-room (suc k) s t d e h =
     let q = call-same s t d e h in
-    by (whole s) (behind-alike (sizeIn s) (turn-same q)
+    by (isWhole s) (behind-alike (sizeIn s) (turn-same q)
     (subst (λ (u : List ℕ). Alike (playedIn k (drop (sizeIn s) s) (call Release18 t (callIn s d) .unit) (call Release18 t (callIn s d) .room)) (playedIn k (drop (sizeIn s) s) u (call Release18 t (callIn s e) .room))) (q .unit)
     (any-room k (drop (sizeIn s) s) (call Release18 t (callIn s d) .unit) (call Release18 t (callIn s d) .room) (call Release18 t (callIn s e) .room) (q .room))))
   where
-    by : (w : Bool) {p q : Played} → Alike p q → Alike (pick w p (nothing t d)) (pick w q (nothing t e))
+    by : (w : Bool) {p q : Played} → Alike p q → Alike (pick w p (noTurns t d)) (pick w q (noTurns t e))
     by true r = r
     by false r = record { turns = refl; unit = refl; octets = refl }

@@ -20,7 +20,7 @@ use Rattle.calls.specs.Call.{call}
 use Rattle.unit.specs.Unit.{Called}
 use Rattle.unit.specs.declared.Back as back
 use Rattle.evening.specs.declared.Turn.{Turn}
-use Rattle.evening.specs.Capture.{sizeIn, whole, callIn, heldIn, turnOf, Played, behind, nothing, playedIn, numbers, Turned, Plays}
+use Rattle.evening.specs.Capture.{sizeIn, isWhole, callIn, heldIn, turnOf, Played, playedAfter, noTurns, playedIn, turnNumbers, Turned, Plays}
 
 -- ---- the entry at the front
 module _ (s : List ℕ) where
@@ -32,40 +32,40 @@ module _ (s : List ℕ) where
   unfolding sizeIn
   four = omega arith
 
-  pub is-whole : sizeIn s ≤ length s → whole s ≡ true
-  unfolding whole
+  pub is-whole : sizeIn s ≤ length s → isWhole s ≡ true
+  unfolding isWhole
   is-whole h = le-leb (sizeIn s) (length s) h
 
-  pub not-whole : length s < sizeIn s → whole s ≡ false
-  unfolding whole
+  pub not-whole : length s < sizeIn s → isWhole s ≡ false
+  unfolding isWhole
   not-whole h = lt-leb (sizeIn s) (length s) h
 
-  pub size-short : length s < 4 → 0 ≡ pick (whole s) (sizeIn s) 0
+  pub size-short : length s < 4 → 0 ≡ pick (isWhole s) (sizeIn s) 0
   size-short h = rw (not-whole (omega (arith, four)))
 
   module _ {n : ℕ} (e : n ≡ valueAt 2 s 2) where
-    pub size-over : length s < 4 + n → 0 ≡ pick (whole s) (sizeIn s) 0
+    pub size-over : length s < 4 + n → 0 ≡ pick (isWhole s) (sizeIn s) 0
     size-over h = rw (not-whole (omega (arith, sized e)))
 
-    pub size-is : 4 + n ≤ length s → 4 + n ≡ pick (whole s) (sizeIn s) 0
+    pub size-is : 4 + n ≤ length s → 4 + n ≡ pick (isWhole s) (sizeIn s) 0
     size-is h = rw (is-whole (omega (arith, sized e))) (sized e)
 
-  pub size-none : {n : ℕ} → n ≡ pick (whole s) (sizeIn s) 0 → n ≡ 0 → whole s ≡ false
-  size-none {n} e z = by (whole s) refl
+  pub size-none : {n : ℕ} → n ≡ pick (isWhole s) (sizeIn s) 0 → n ≡ 0 → isWhole s ≡ false
+  size-none {n} e z = by (isWhole s) refl
     where
-      by : (b : Bool) → whole s ≡ b → whole s ≡ false
+      by : (b : Bool) → isWhole s ≡ b → isWhole s ≡ false
       by false q = q
       by true q = let f : n ≡ sizeIn s = e ∙ rw q in absurd (omega (arith, four))
 
-  pub size-some : {n : ℕ} → n ≡ pick (whole s) (sizeIn s) 0 → (n ≡ 0 → ⊥) → (n ≡ sizeIn s) × (whole s ≡ true)
-  size-some {n} e z = by (whole s) refl
+  pub size-some : {n : ℕ} → n ≡ pick (isWhole s) (sizeIn s) 0 → (n ≡ 0 → ⊥) → (n ≡ sizeIn s) × (isWhole s ≡ true)
+  size-some {n} e z = by (isWhole s) refl
     where
-      by : (b : Bool) → whole s ≡ b → (n ≡ sizeIn s) × (whole s ≡ true)
+      by : (b : Bool) → isWhole s ≡ b → (n ≡ sizeIn s) × (isWhole s ≡ true)
       by false q = absurd (z (e ∙ rw q))
       by true q = (e ∙ rw q, q)
 
-  pub within : whole s ≡ true → sizeIn s ≤ length s
-  unfolding whole
+  pub within : isWhole s ≡ true → sizeIn s ≤ length s
+  unfolding isWhole
   within e = leb-true (sizeIn s) (length s) e
 
 -- ---- what is held
@@ -94,34 +94,34 @@ turned s t d {n} {v} {b} {a} {h} {t′} {d′} e f q u w =
     }
 
 -- ---- the loop
-pub behind-behind : (l m : List Turn) (i j : ℕ) (p : Played) → behind l i (behind m j p) ≡ behind (l ++ m) (i + j) p
+pub behind-behind : (l m : List Turn) (i j : ℕ) (p : Played) → playedAfter l i (playedAfter m j p) ≡ playedAfter (l ++ m) (i + j) p
 behind-behind l m i j p = rw (append-assoc l m (p .turns), add-assoc i j (p .octets))
 
-pub behind-none : (p : Played) → p ≡ behind [] 0 p
+pub behind-none : (p : Played) → p ≡ playedAfter [] 0 p
 behind-none p = rw (zero-add (p .octets))
 
-pub played-more : (k : ℕ) (s t d : List ℕ) → whole s ≡ true
-    → playedIn (suc k) s t d ≡ behind (turnOf (call Release18 t (callIn s d)) ∷ []) (sizeIn s) (playedIn k (drop (sizeIn s) s) (call Release18 t (callIn s d) .unit) (call Release18 t (callIn s d) .room))
+pub played-more : (k : ℕ) (s t d : List ℕ) → isWhole s ≡ true
+    → playedIn (suc k) s t d ≡ playedAfter (turnOf (call Release18 t (callIn s d)) ∷ []) (sizeIn s) (playedIn k (drop (sizeIn s) s) (call Release18 t (callIn s d) .unit) (call Release18 t (callIn s d) .room))
 unfolding playedIn
 played-more k s t d e = rw e
 
-pub played-not : (k : ℕ) (s t d : List ℕ) → whole s ≡ false → playedIn k s t d ≡ nothing t d
+pub played-not : (k : ℕ) (s t d : List ℕ) → isWhole s ≡ false → playedIn k s t d ≡ noTurns t d
 unfolding playedIn
 played-not zero s t d e = refl
 played-not (suc k) s t d e = rw e
 
-length-numbers : (l : List Turn) → length (numbers l) ≡ 3 * length l
-unfolding numbers
+length-numbers : (l : List Turn) → length (turnNumbers l) ≡ 3 * length l
+unfolding turnNumbers
 length-numbers [] = refl
 length-numbers (x ∷ l) = let h = length-numbers l in omega arith
 
-numbers-append : (l m : List Turn) → numbers (l ++ m) ≡ numbers l ++ numbers m
-unfolding numbers
+numbers-append : (l m : List Turn) → turnNumbers (l ++ m) ≡ turnNumbers l ++ turnNumbers m
+unfolding turnNumbers
 numbers-append [] m = refl
 numbers-append (x ∷ l) m = rw (numbers-append l m)
 
-one : (x : Turn) → numbers (x ∷ []) ≡ x .answer ∷ x .reply ∷ x .held ∷ []
-unfolding numbers
+one : (x : Turn) → turnNumbers (x ∷ []) ≡ x .answer ∷ x .reply ∷ x .held ∷ []
+unfolding turnNumbers
 one x = refl
 
 -- of p, the whole play of at most k entries from t₀, d₀ and o, i entries of at octets are passed
@@ -130,13 +130,13 @@ pub record Going (p : Played) (k : ℕ) (s t₀ d₀ o t d e : List ℕ) (at i :
   pub count : i ≡ length passed
   pub few : i ≤ k
   pub inside : at ≤ length s
-  pub rest : p ≡ behind passed at (playedIn (k - i) (drop at s) t d)
-  pub out : e ≡ sets o 0 (numbers passed)
+  pub rest : p ≡ playedAfter passed at (playedIn (k - i) (drop at s) t d)
+  pub out : e ≡ sets o 0 (turnNumbers passed)
   pub unit : length t ≡ length t₀
   pub room : length d ≡ length d₀
 
 pub going-none : (k : ℕ) (s t d o : List ℕ) → Going (playedIn k s t d) k s t d o t d o 0 0
-unfolding numbers
+unfolding turnNumbers
 going-none k s t d o = record {
   passed = [];
   count = refl;
@@ -149,10 +149,10 @@ going-none k s t d o = record {
 }
 
 module _ {p : Played} {k : ℕ} {s t₀ d₀ o t d e : List ℕ} {at i : ℕ} (g : Going p k s t₀ d₀ o t d e at i) where
-  pub going-on : {n : ℕ} → n ≡ sizeIn (drop at s) → whole (drop at s) ≡ true → at + n ≤ length s
+  pub going-on : {n : ℕ} → n ≡ sizeIn (drop at s) → isWhole (drop at s) ≡ true → at + n ≤ length s
   going-on size w = omega (arith, within (drop at s) w, length-drop at s, g .inside)
 
-  pub going-more : {n : ℕ} {x : Turn} {t′ d′ e′ : List ℕ} → i < k → n ≡ sizeIn (drop at s) → whole (drop at s) ≡ true
+  pub going-more : {n : ℕ} {x : Turn} {t′ d′ e′ : List ℕ} → i < k → n ≡ sizeIn (drop at s) → isWhole (drop at s) ≡ true
       → Turned (call Release18 t (callIn (drop at s) d)) x t′ d′ → length t′ ≡ length t → length d′ ≡ length d
       → e′ ≡ sets e (3 * i) (x .answer ∷ x .reply ∷ x .held ∷ []) → Going p k s t₀ d₀ o t′ d′ e′ (at + n) (i + 1)
   going-more {n} {x} {t′} {d′} {e′} h size w q a b f = record {
@@ -164,31 +164,31 @@ module _ {p : Played} {k : ℕ} {s t₀ d₀ o t d e : List ℕ} {at i : ℕ} (g
         let u : k - i ≡ suc (k - (i + 1)) = omega arith in
         g .rest ∙ (rw (u, played-more (k - (i + 1)) (drop at s) t d w, ← q .turn, ← q .unit, ← q .room, ← size, drop-drop n at s) (behind-behind (g .passed) (x ∷ []) at n (playedIn (k - (i + 1)) (drop (at + n) s) t′ d′)));
     out =
-        let u : 3 * i ≡ 0 + length (numbers (g .passed)) = omega (arith, g .count, length-numbers (g .passed)) in
-        f ∙ rw (u, g .out, numbers-append (g .passed) (x ∷ []), one x) (sym (sets-append o 0 (numbers (g .passed)) (x .answer ∷ x .reply ∷ x .held ∷ [])));
+        let u : 3 * i ≡ 0 + length (turnNumbers (g .passed)) = omega (arith, g .count, length-numbers (g .passed)) in
+        f ∙ rw (u, g .out, numbers-append (g .passed) (x ∷ []), one x) (sym (sets-append o 0 (turnNumbers (g .passed)) (x .answer ∷ x .reply ∷ x .held ∷ [])));
     unit = a ∙ g .unit;
     room = b ∙ g .room;
   }
 
   pub going-length : length e ≡ length o
-  going-length = ap length (g .out) ∙ length-sets o 0 (numbers (g .passed))
+  going-length = ap length (g .out) ∙ length-sets o 0 (turnNumbers (g .passed))
 
   module _ (h : 3 * k ≤ length o) where
-    ended : playedIn (k - i) (drop at s) t d ≡ nothing t d → Plays p o (record { entries = i; octets = at }) t d e
+    ended : playedIn (k - i) (drop at s) t d ≡ noTurns t d → Plays p o (record { entries = i; octets = at }) t d e
     ended q =
-        let r : p ≡ behind (g .passed) at (nothing t d) = g .rest ∙ ap (behind (g .passed) at) q in
+        let r : p ≡ playedAfter (g .passed) at (noTurns t d) = g .rest ∙ ap (playedAfter (g .passed) at) q in
         rw (r, append-nil (g .passed), add-zero at) (record {
           entries = g .count;
           octets = refl;
           unit = refl;
           room = refl;
           out =
-              let u : length (numbers (g .passed)) ≡ 3 * length (g .passed) = length-numbers (g .passed) in
-              g .out ∙ (sets-front o (numbers (g .passed)) (omega (arith, g .count, g .few)) ∙ rw u);
+              let u : length (turnNumbers (g .passed)) ≡ 3 * length (g .passed) = length-numbers (g .passed) in
+              g .out ∙ (sets-front o (turnNumbers (g .passed)) (omega (arith, g .count, g .few)) ∙ rw u);
         })
 
     -- the next entry is not whole
-    pub going-stop : whole (drop at s) ≡ false → Plays p o (record { entries = i; octets = at }) t d e
+    pub going-stop : isWhole (drop at s) ≡ false → Plays p o (record { entries = i; octets = at }) t d e
     going-stop w = ended (played-not (k - i) (drop at s) t d w)
 
     -- there is no room for its numbers

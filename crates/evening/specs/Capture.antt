@@ -21,8 +21,8 @@ unfoldable pub sizeIn : List ℕ → ℕ
 sizeIn s = 4 + valueAt 2 s 2
 
 -- the entry at the front is whole
-unfoldable pub whole : List ℕ → Bool
-whole s = leb (sizeIn s) (length s)
+unfoldable pub isWhole : List ℕ → Bool
+isWhole s = leb (sizeIn s) (length s)
 
 -- what it hands to the call, with room for a reply
 unfoldable pub callIn : List ℕ → List ℕ → Call
@@ -44,18 +44,18 @@ pub record Played : Type 0 where
   pub octets : ℕ
 
 -- some entries of n octets, and then the rest
-abbrev pub behind : List Turn → ℕ → Played → Played
-behind l n p = record { turns = l ++ p .turns; unit = p .unit; room = p .room; octets = n + p .octets }
+abbrev pub playedAfter : List Turn → ℕ → Played → Played
+playedAfter l n p = record { turns = l ++ p .turns; unit = p .unit; room = p .room; octets = n + p .octets }
 
-abbrev pub nothing : List ℕ → List ℕ → Played
-nothing t d = record { turns = []; unit = t; room = d; octets = 0 }
+abbrev pub noTurns : List ℕ → List ℕ → Played
+noTurns t d = record { turns = []; unit = t; room = d; octets = 0 }
 
 -- at most k entries at the front of s are played, from the unit t, each with the room as the last one left it
 unfoldable pub playedIn : ℕ → List ℕ → List ℕ → List ℕ → Played
-playedIn zero s t d = nothing t d
+playedIn zero s t d = noTurns t d
 playedIn (suc k) s t d =
     let b : Back = call Release18 t (callIn s d) in
-    pick (whole s) (behind (turnOf b ∷ []) (sizeIn s) (playedIn k (drop (sizeIn s) s) (b .unit) (b .room))) (nothing t d)
+    pick (isWhole s) (playedAfter (turnOf b ∷ []) (sizeIn s) (playedIn k (drop (sizeIn s) s) (b .unit) (b .room))) (noTurns t d)
 
 -- a capture whole, from the fresh unit: all entries that are whole, for each has four octets and more;
 -- it is cut exactly if octets are left over behind the last of them
@@ -66,9 +66,9 @@ abbrev pub cut : List ℕ → Bool
 cut s = ltb (captured s .octets) (length s)
 
 -- three numbers an entry
-unfoldable pub numbers : List Turn → List ℕ
-numbers [] = []
-numbers (x ∷ l) = x .answer ∷ x .reply ∷ x .held ∷ numbers l
+unfoldable pub turnNumbers : List Turn → List ℕ
+turnNumbers [] = []
+turnNumbers (x ∷ l) = x .answer ∷ x .reply ∷ x .held ∷ turnNumbers l
 
 -- one call, as the code hands it back
 pub record Turned (b : Back) (x : Turn) (t d : List ℕ) : Type 0 where
@@ -82,4 +82,4 @@ pub record Plays (p : Played) (o : List ℕ) (r : own.Played) (t d e : List ℕ)
   pub octets : r .octets ≡ p .octets
   pub unit : t ≡ p .unit
   pub room : d ≡ p .room
-  pub out : e ≡ numbers (p .turns) ++ drop (3 * length (p .turns)) o
+  pub out : e ≡ turnNumbers (p .turns) ++ drop (3 * length (p .turns)) o

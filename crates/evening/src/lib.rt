@@ -9,7 +9,7 @@ ghost use Rattle.lists.specs.Lists.{pick};
 ghost use Rattle.octets.specs.Field.{valueAt};
 ghost use Rattle.editions.specs.declared.Edition.the-variants.{Release18};
 ghost use Rattle.calls.specs.Call.{call};
-ghost use Rattle.evening.specs.Capture.{sizeIn, whole, callIn, heldIn, playedIn, Turned, Plays};
+ghost use Rattle.evening.specs.Capture.{sizeIn, isWhole, callIn, heldIn, playedIn, Turned, Plays};
 use editions::Edition;
 use identity::MceId;
 
@@ -45,7 +45,7 @@ fn held(unit: &[u8]) -> usize
 
 // The octets of the entry at the front, and 0 where it is not whole.
 fn size(s: &[u8]) -> usize
-    ensures { λ r. ⌜ r ≡ pick (whole (now (s .entry))) (sizeIn (now (s .entry))) 0 ⌝ }
+    ensures { λ r. ⌜ r ≡ pick (isWhole (now (s .entry))) (sizeIn (now (s .entry))) 0 ⌝ }
 {
     if s.len() < 4 {
         return 0;
@@ -59,7 +59,7 @@ fn size(s: &[u8]) -> usize
 
 // The entry at the front, of n octets.
 fn take_turn(s: &[u8], n: usize, unit: &mut [u8], room: &mut [u8]) -> Turn
-    requires { ⌜ (n ≡ sizeIn (now s)) × (whole (now s) ≡ true) ⌝ }
+    requires { ⌜ (n ≡ sizeIn (now s)) × (isWhole (now s) ≡ true) ⌝ }
     ensures { λ r. ⌜ Turned (call Release18 (now (unit .entry)) (callIn (now (s .entry)) (now (room .entry)))) r (now (unit .exit)) (now (room .exit)) ⌝ }
 {
     let offered = two(s, 0);

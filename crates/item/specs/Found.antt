@@ -1,4 +1,4 @@
--- The readers' answers, as readings.
+-- Scaffolding: no demand speaks of it. The readers' answers, as readings.
 use Rattle.octets.specs.Read.{Read, got, stop}
 use Rattle.octets.specs.Many.{Part}
 use Rattle.identity.specs.declared.Mme.{Mme}
@@ -16,17 +16,17 @@ use Rattle.item.specs.declared.ItemRead.the-variants as itemRead
 use Rattle.item.specs.declared.ElementRead.{ElementRead}
 use Rattle.item.specs.declared.ElementRead.the-variants as elementRead
 
-abbrev pub foundMarks : MarksRead → Read Marks
-foundMarks (marksRead.Is v) = got v
-foundMarks (marksRead.Stop x) = stop x
+abbrev pub foundItemMarks : MarksRead → Read Marks
+foundItemMarks (marksRead.Is v) = got v
+foundItemMarks (marksRead.Stop x) = stop x
 
-abbrev pub foundMme : MmeRead → Read Mme
-foundMme (mmeRead.Is v) = got v
-foundMme (mmeRead.Stop x) = stop x
+abbrev pub foundMaybeMme : MmeRead → Read Mme
+foundMaybeMme (mmeRead.Is v) = got v
+foundMaybeMme (mmeRead.Stop x) = stop x
 
-abbrev pub foundMce : MceRead → Read Mce
-foundMce (mceRead.Is v) = got v
-foundMce (mceRead.Stop x) = stop x
+abbrev pub foundMaybeMce : MceRead → Read Mce
+foundMaybeMce (mceRead.Is v) = got v
+foundMaybeMce (mceRead.Stop x) = stop x
 
 abbrev pub foundItem : ItemRead → Read Item
 foundItem (itemRead.Is v) = got v

@@ -14,9 +14,9 @@ use Rattle.identity.specs.declared.Item.{Item}
 use Rattle.item.specs.declared.Marks.{Marks}
 
 -- an identity of two octets that is there or not, made of its number in its series
-abbrev pub maybeAt : {A : Type 0} → (ℕ → A) → A → Bool → List ℕ → ℕ → Read A
-maybeAt is absent false s at = got absent
-maybeAt is absent true s at = numberAt 2 s at >>= λ v. got (is v)
+abbrev pub maybeIdentityAt : {A : Type 0} → (ℕ → A) → A → Bool → List ℕ → ℕ → Read A
+maybeIdentityAt is absent false s at = got absent
+maybeIdentityAt is absent true s at = numberAt 2 s at >>= λ v. got (is v)
 
 abbrev pub mmeIs : ℕ → Mme
 mmeIs v = mme.Is (record { 0 = v })
@@ -24,11 +24,11 @@ mmeIs v = mme.Is (record { 0 = v })
 abbrev pub mceIs : ℕ → Mce
 mceIs v = mce.Is (record { 0 = v })
 
-abbrev pub mmeAt : Bool → List ℕ → ℕ → Read Mme
-mmeAt there s at = maybeAt mmeIs mme.Absent there s at
+abbrev pub maybeMmeAt : Bool → List ℕ → ℕ → Read Mme
+maybeMmeAt there s at = maybeIdentityAt mmeIs mme.Absent there s at
 
-abbrev pub mceAt : Bool → List ℕ → ℕ → Read Mce
-mceAt there s at = maybeAt mceIs mce.Absent there s at
+abbrev pub maybeMceAt : Bool → List ℕ → ℕ → Read Mce
+maybeMceAt there s at = maybeIdentityAt mceIs mce.Absent there s at
 
 -- the place behind it
 abbrev pub behind : Bool → ℕ → ℕ
@@ -36,8 +36,8 @@ behind false at = at
 behind true at = at + 2
 
 -- MBMS-Service-associatedLogicalM3-ConnectionItem: extension, MME identity present, MCE identity present, extensions present
-unfoldable pub marksAt : List ℕ → ℕ → Read Marks
-marksAt s at = do
+unfoldable pub itemMarksAt : List ℕ → ℕ → Read Marks
+itemMarksAt s at = do
   plainAt s at 0
   m ← flagAt s at 1
   c ← flagAt s at 2
@@ -47,9 +47,9 @@ marksAt s at = do
 
 unfoldable pub itemAt : List ℕ → ℕ → Read Item
 itemAt s at = do
-  h ← marksAt s at
-  x ← mmeAt (h .mme) s (at + 1)
-  y ← mceAt (h .mce) s (behind (h .mme) (at + 1))
+  h ← itemMarksAt s at
+  x ← maybeMmeAt (h .mme) s (at + 1)
+  y ← maybeMceAt (h .mce) s (behind (h .mme) (at + 1))
   endsAt s (behind (h .mce) (behind (h .mme) (at + 1)))
   got (record { mme = x; mce = y })
 

@@ -1,8 +1,8 @@
 // A reset item, in its envelope.
 ghost use mathlib.Core.Path.{_≡_};
 ghost use Prim.Native.Nat.{_+_, _^_, _<_};
-ghost use Rattle.item.specs.Item.{mmeAt, mceAt, behind, marksAt, itemAt, itemElementAt};
-ghost use Rattle.item.specs.Found.{foundMarks, foundMme, foundMce, foundItem, foundElement};
+ghost use Rattle.item.specs.Item.{maybeMmeAt, maybeMceAt, behind, itemMarksAt, itemAt, itemElementAt};
+ghost use Rattle.item.specs.Found.{foundItemMarks, foundMaybeMme, foundMaybeMce, foundItem, foundElement};
 use identity::Item;
 use identity::Mce;
 use identity::MceId;
@@ -50,7 +50,7 @@ pub enum ElementRead {
 
 // The first octet of an item.
 fn marks_at(s: &[u8], at: usize) -> MarksRead
-    ensures { λ r. ⌜ foundMarks r ≡ marksAt (now (s .entry)) at ⌝ }
+    ensures { λ r. ⌜ foundItemMarks r ≡ itemMarksAt (now (s .entry)) at ⌝ }
 {
     match octets::plain_at(s, at, 0) {
         Gate::Pass => {}
@@ -84,7 +84,7 @@ fn marks_at(s: &[u8], at: usize) -> MarksRead
 
 // The MME identity, where a mark said that it is there; and the MCE identity.
 fn mme_at(there: bool, s: &[u8], at: usize) -> MmeRead
-    ensures { λ r. ⌜ foundMme r ≡ mmeAt there (now (s .entry)) at ⌝ }
+    ensures { λ r. ⌜ foundMaybeMme r ≡ maybeMmeAt there (now (s .entry)) at ⌝ }
 {
     if there {
         match octets::two_at(s, at) {
@@ -97,7 +97,7 @@ fn mme_at(there: bool, s: &[u8], at: usize) -> MmeRead
 }
 
 fn mce_at(there: bool, s: &[u8], at: usize) -> MceRead
-    ensures { λ r. ⌜ foundMce r ≡ mceAt there (now (s .entry)) at ⌝ }
+    ensures { λ r. ⌜ foundMaybeMce r ≡ maybeMceAt there (now (s .entry)) at ⌝ }
 {
     if there {
         match octets::two_at(s, at) {

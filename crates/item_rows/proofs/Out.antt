@@ -10,12 +10,11 @@ use lib.Dec.{eqb}
 use lib.ListN.{length, length-append, length-replicate, replicate, set}
 use lib.Seq.{sets, set-set, set-comm}
 use Rattle.lists.specs.Lists.{pick}
-use Rattle.octets.specs.Read.{Read, got, stop}
+use Rattle.octets.specs.Read.{Read, got, stop, orNone}
 use Rattle.octets.specs.Field.{numberAt}
 use Rattle.octets.specs.declared.Stop.{Stop}
 use Rattle.octets.proofs.Got.{number-got}
 use Rattle.octets.proofs.Again.{value-below}
-use Rattle.item_words.specs.Taken.{orNone}
 use Rattle.octets.specs.Many.{eachOctets, Each}
 use Rattle.octets.specs.Write.{Wrote, numberOctets}
 use Rattle.octets.specs.Stands.{Octets}

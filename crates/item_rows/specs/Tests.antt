@@ -1,4 +1,4 @@
--- What the judge of rows looks at, and the half of a word that three octets of a row say.
+-- Scaffolding: no demand speaks of it. What the judge of rows looks at, and the half of a word that three octets of a row say.
 use Prim.Native.Nat.{ℕ, zero, suc, _+_, _*_}
 use mathlib.Core.Bool.{Bool, true, _&&_, _||_}
 use mathlib.Core.List.{List}

@@ -14,15 +14,15 @@ use Rattle.octets.specs.Field.{bitsAt, flagAt, plainAt, choiceAt, padAt, valueA
 use Rattle.octets.proofs.Chain.{past}
 use Rattle.identity.specs.declared.Mme.the-variants as mme
 use Rattle.identity.specs.declared.Mce.the-variants as mce
-use Rattle.item.specs.Item.{mmeIs, mceIs, marksAt, itemAt, itemElementAt}
+use Rattle.item.specs.Item.{mmeIs, mceIs, itemMarksAt, itemAt, itemElementAt}
 use Rattle.item_words.specs.Taken.{FullAt, IfFull, worded}
 
 number-here : (k : ℕ) (s : List ℕ) (at : ℕ) → at + k ≤ length s → got (valueAt k s at) ≡ numberAt k s at
 unfolding numberAt
 number-here k s at h = rw (le-ltb (length s) (at + k) h)
 
-marks-here : (t : List ℕ) (a : ℕ) → a + 1 ≤ length t → getD t a 0 ≡ 96 → got (record { mme = true; mce = true }) ≡ marksAt t a
-unfolding marksAt plainAt flagAt padAt bitsOf _>>=_
+marks-here : (t : List ℕ) (a : ℕ) → a + 1 ≤ length t → getD t a 0 ≡ 96 → got (record { mme = true; mce = true }) ≡ itemMarksAt t a
+unfolding itemMarksAt plainAt flagAt padAt bitsOf _>>=_
 marks-here t a h e = rw (le-ltb (length t) (a + 1) h, e)
 
 item-here : (t : List ℕ) (a : ℕ) → length t ≡ a + 5 → getD t a 0 ≡ 96

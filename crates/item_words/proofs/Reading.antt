@@ -13,7 +13,7 @@ use native.Mathlib.Omega.{arith}
 use native.Mathlib.Nat.{sub-zero}
 use lib.ListN.{length, length-append}
 use Rattle.lists.proofs.Copy.{map-append}
-use Rattle.octets.specs.Read.{Read, got, stop, _>>=_, _>>_}
+use Rattle.octets.specs.Read.{Read, got, stop, _>>=_, _>>_, checked}
 use Rattle.octets.specs.Field.{numberAt, endsAt, plainAt, padAt, flagAt}
 use Rattle.octets.specs.Many.{Part, many}
 use Rattle.octets.specs.Write.{Wrote}
@@ -22,9 +22,9 @@ use Rattle.octets.specs.declared.Stop.{Stop}
 use Rattle.octets.proofs.ManyLaws.{before, before-none, many-none, many-one, many-stop, many-each}
 use Rattle.identity.specs.declared.Item.{Item}
 use Rattle.item.specs.Item.{itemElementAt}
-use Rattle.items.specs.Items.{itemsAt, ResetType, whole, part, resetBy, resetAt}
+use Rattle.items.specs.Items.{itemsAt, ResetType, whole, part, chosenResetAt, resetAt}
 use Rattle.item_words.specs.Words.{wordOf}
-use Rattle.item_words.specs.Taken.{checked, worded, Filling, Taking, ResetTaking}
+use Rattle.item_words.specs.Taken.{worded, Filling, Taking, ResetTaking}
 use Rattle.item_words.specs.declared.Taken.{Taken}
 use Rattle.item_words.specs.declared.Taken.the-variants as taken
 use Rattle.item_words.specs.declared.ResetTaken.the-variants as resetTaken
@@ -134,15 +134,15 @@ part-stopped {q} (stop v) l m {t} {x} e k w =
     subst (λ (y : Read ResetType). ResetTaking y l (resetTaken.Stop x) m) e (ap resetTaken.Stop y, w .1)
 
 -- the whole interface, which its check shows
-pub whole-read : (s : List ℕ) (at : ℕ) → got tt ≡ checked (resetBy false s at) → got whole ≡ resetBy false s at
+pub whole-read : (s : List ℕ) (at : ℕ) → got tt ≡ checked (chosenResetAt false s at) → got whole ≡ chosenResetAt false s at
 whole-read s at c =
-    let l = gate-got (resetBy false s at) c in
+    let l = gate-got (chosenResetAt false s at) c in
     let a = then-got (plainAt s at 2) _ (l .1) in
     let b = then-got (padAt s at 3) _ (a .2) in
     let d = then-got (endsAt s (at + 1)) _ (b .2) in
     sym (d .2) ∙ l .1
 
-pub reset-by : (s : List ℕ) (at : ℕ) {p : Bool} → got tt ≡ plainAt s at 0 → got p ≡ flagAt s at 1 → resetBy p s at ≡ resetAt s at
+pub reset-by : (s : List ℕ) (at : ℕ) {p : Bool} → got tt ≡ plainAt s at 0 → got p ≡ flagAt s at 1 → chosenResetAt p s at ≡ resetAt s at
 unfolding resetAt
 reset-by s at {p} a b = past _ tt a (past _ p b refl)
 

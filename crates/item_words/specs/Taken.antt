@@ -1,11 +1,11 @@
--- Items read as words, and what stands in lent words after a list was read into them.
+-- Scaffolding: no demand speaks of it. Items read as words, and what stands in lent words after a list was read into them.
 use Prim.Native.Nat.{ℕ, _+_, _%_, _<_, _≤_}
 use mathlib.Core.Path.{_≡_}
 use mathlib.Core.Bool.{Bool, true, false}
 use mathlib.Core.List.{List, [], map}
 use lib.ListN.{length, getD}
 use lib.Seq.{sets}
-use Rattle.octets.specs.Read.{Read, got, stop, _>>_}
+use Rattle.octets.specs.Read.{Read, got, stop, orNone}
 use Rattle.octets.specs.Many.{Part}
 use Rattle.octets.specs.Write.{Wrote}
 use Rattle.identity.specs.declared.Item.{Item}
@@ -27,19 +27,11 @@ abbrev pub worded : Read (Part Item) → Read (Part ℕ)
 worded (got p) = got (record { value = wordOf (p .value); next = p .next })
 worded (stop x) = stop x
 
--- whether something can be read
-abbrev pub checked : {A : Type 0} → Read A → Read Unit
-checked r = r >> got tt
-
--- the list that was read; none where reading stopped
-abbrev pub orNone : {A : Type 0} → Read (List A) → List A
-orNone (got l) = l
-orNone (stop x) = []
-
-abbrev pub partOf : Read ResetType → List Item
-partOf (got whole) = []
-partOf (got (part is)) = is
-partOf (stop x) = []
+-- the items of a part of the interface
+abbrev pub partItems : Read ResetType → List Item
+partItems (got whole) = []
+partItems (got (part is)) = is
+partItems (stop x) = []
 
 abbrev pub takenOf : Read (List Item) → Taken
 takenOf (got is) = taken.Is (length is)
@@ -55,7 +47,7 @@ abbrev pub Taking : Read (List Item) → List ℕ → Taken → List ℕ → Typ
 Taking q l r m = (r ≡ takenOf q) × (m ≡ sets l 0 (map wordOf (orNone q)))
 
 abbrev pub ResetTaking : Read ResetType → List ℕ → ResetTaken → List ℕ → Type 0
-ResetTaking q l r m = (r ≡ resetTakenOf q) × (m ≡ sets l 0 (map wordOf (partOf q)))
+ResetTaking q l r m = (r ≡ resetTakenOf q) × (m ≡ sets l 0 (map wordOf (partItems q)))
 
 -- ---- inside the reader
 

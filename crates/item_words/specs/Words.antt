@@ -1,4 +1,4 @@
--- Items as words. A word of 0 is the item without an identity.
+-- Scaffolding: no demand speaks of it. Items as words. A word of 0 is the item without an identity.
 use Prim.Native.Nat.{ℕ, _+_, _-_, _*_, _/_, _%_, _<_, _≤_}
 use mathlib.Core.Bool.{Bool, true, false, not}
 use mathlib.Core.List.{List, [], _∷_}

@@ -7,16 +7,16 @@ ghost use Prim.Native.Nat.{ℕ, _+_, _-_, _%_, _≤_};
 ghost use lib.ListN.{length, take};
 ghost use lib.Seq.{sets};
 ghost use Rattle.packed.specs.Packed.{_bits_, packed};
-ghost use Rattle.octets.specs.Read.{got};
+ghost use Rattle.octets.specs.Read.{got, checked};
 ghost use Rattle.octets.specs.Many.{many};
 ghost use Rattle.octets.specs.Found.{foundGate};
 ghost use Rattle.octets.specs.Write.{Wrote};
 ghost use Rattle.item.specs.Item.{itemElementAt};
-ghost use Rattle.items.specs.Items.{itemsAt, resetBy, resetAt};
+ghost use Rattle.items.specs.Items.{itemsAt, chosenResetAt, resetAt};
 ghost use Rattle.items.specs.Written.{itemElementOctets, itemsOctets};
 ghost use Rattle.put_values.specs.Put.{critOf};
 ghost use Rattle.item_words.specs.Words.{mmeNumber, mceNumber, wordOf, mmeBy, mceBy, itemOf, identified, thereIn, halfOctets, IfNine, fullOctets};
-ghost use Rattle.item_words.specs.Taken.{checked, FullAt, IfFull, foundWord, worded, Filling, Taking, ResetTaking};
+ghost use Rattle.item_words.specs.Taken.{FullAt, IfFull, foundWord, worded, Filling, Taking, ResetTaking};
 use identity::Item;
 use identity::Mce;
 use identity::MceId;
@@ -192,7 +192,7 @@ pub fn items_gate(s: &[u8], at: usize) -> Gate
 }
 
 fn whole_gate(s: &[u8], at: usize) -> Gate
-    ensures { λ r. ⌜ foundGate r ≡ checked (resetBy false (now (s .entry)) at) ⌝ }
+    ensures { λ r. ⌜ foundGate r ≡ checked (chosenResetAt false (now (s .entry)) at) ⌝ }
 {
     match octets::plain_at(s, at, 2) {
         Gate::Pass => {}
@@ -207,7 +207,7 @@ fn whole_gate(s: &[u8], at: usize) -> Gate
 }
 
 fn part_gate(s: &[u8], at: usize) -> Gate
-    ensures { λ r. ⌜ foundGate r ≡ checked (resetBy true (now (s .entry)) at) ⌝ }
+    ensures { λ r. ⌜ foundGate r ≡ checked (chosenResetAt true (now (s .entry)) at) ⌝ }
 {
     match octets::pad_at(s, at, 2) {
         Gate::Pass => items_gate(s, at + 1),
@@ -291,7 +291,7 @@ pub fn items_into(s: &[u8], at: usize, words: &mut [u64]) -> Taken
 }
 
 fn whole_into(s: &[u8], at: usize) -> ResetTaken
-    ensures { λ r. ⌜ ((l : List ℕ) → ResetTaking (resetBy false (now (s .entry)) at) l r l) ⌝ }
+    ensures { λ r. ⌜ ((l : List ℕ) → ResetTaking (chosenResetAt false (now (s .entry)) at) l r l) ⌝ }
 {
     match whole_gate(s, at) {
         Gate::Pass => ResetTaken::Whole,
@@ -300,7 +300,7 @@ fn whole_into(s: &[u8], at: usize) -> ResetTaken
 }
 
 fn part_into(s: &[u8], at: usize, words: &mut [u64]) -> ResetTaken
-    ensures { λ r. ⌜ ResetTaking (resetBy true (now (s .entry)) at) (now (words .entry)) r (now (words .exit)) ⌝ }
+    ensures { λ r. ⌜ ResetTaking (chosenResetAt true (now (s .entry)) at) (now (words .entry)) r (now (words .exit)) ⌝ }
 {
     match octets::pad_at(s, at, 2) {
         Gate::Pass => {}

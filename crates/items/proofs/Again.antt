@@ -29,9 +29,9 @@ use Rattle.identity.specs.declared.Mce.{Mce}
 use Rattle.identity.specs.declared.Mce.the-variants as mce
 use Rattle.identity.specs.declared.Item.{Item}
 use Rattle.item.specs.declared.Marks.{Marks}
-use Rattle.item.specs.Item.{maybeAt, mmeIs, mceIs, mmeAt, mceAt, behind, marksAt, itemAt, itemElementAt}
-use Rattle.items.specs.Items.{itemsAt, ResetType, part, resetBy, resetAt}
-use Rattle.items.specs.Written.{Maybe, There, None, mmeIn, mceIn, isThere, maybeOctets, itemOctets, itemElementOctets, itemsOctets, reject, resetOctets, critAt, critsAt, Marked, Rejecting}
+use Rattle.item.specs.Item.{maybeIdentityAt, mmeIs, mceIs, maybeMmeAt, maybeMceAt, behind, itemMarksAt, itemAt, itemElementAt}
+use Rattle.items.specs.Items.{itemsAt, ResetType, part, chosenResetAt, resetAt}
+use Rattle.items.specs.Written.{Maybe, There, None, mmeIn, mceIn, isThere, maybeOctets, itemOctets, itemElementOctets, itemsOctets, resetCrit, resetOctets, envelopeCritAt, critsAt, Marked, Rejecting}
 use Rattle.items.proofs.Back.{behind-octets}
 
 -- ---- an item
@@ -49,9 +49,9 @@ bit-small x b = omega arith
 bit-again : (s : List ℕ) (at b : ℕ) {v : Bool} → got v ≡ flagAt s at b → 1 bits bitsAt s at b 1 ≡ bit v
 bit-again s at b q = bit-is (bitsAt s at b 1) (bit-small (getD s at 0) b) ∙ ap bit (sym (flag-got s at b q .1))
 
-marks-again : (s : List ℕ) (at : ℕ) → Octets s → {h : Marks} → got h ≡ marksAt s at
+marks-again : (s : List ℕ) (at : ℕ) → Octets s → {h : Marks} → got h ≡ itemMarksAt s at
     → Stands s at (packed (bit false ∷ bit (h .mme) ∷ bit (h .mce) ∷ bit false ∷ []) ∷ [])
-unfolding marksAt
+unfolding itemMarksAt
 marks-again s at o {h} q =
     let a = then-got (plainAt s at 0) _ q in
     let b = then-got (flagAt s at 1) _ (a .2) in
@@ -71,7 +71,7 @@ marks-again s at o {h} q =
 
 -- the number of an identity that was read stands there: once for both series, over how the number is told from it
 module _ {A : Type 0} (is : ℕ → A) (absent : A) (number : A → Maybe) (e : (v : ℕ) → number (is v) ≡ There v) (z : number absent ≡ None) where
-  maybe-again : (s : List ℕ) (at : ℕ) → Octets s → (t : Bool) {x : A} → at ≤ length s → got x ≡ maybeAt is absent t s at
+  maybe-again : (s : List ℕ) (at : ℕ) → Octets s → (t : Bool) {x : A} → at ≤ length s → got x ≡ maybeIdentityAt is absent t s at
       → (isThere (number x) ≡ t) × Stands s at (maybeOctets (number x))
   maybe-again s at o false r q = subst (λ (x : A). (isThere (number x) ≡ false) × Stands s at (maybeOctets (number x))) (sym (same-got q)) (rw z (refl, stands-none r))
   maybe-again s at o true r q =
@@ -81,13 +81,13 @@ module _ {A : Type 0} (is : ℕ → A) (absent : A) (number : A → Maybe) (e : 
 pub item-again : (s : List ℕ) (at : ℕ) → Octets s → {i : Item} → got i ≡ itemAt s at → Fills s at (itemOctets i)
 unfolding itemAt itemOctets
 item-again s at o {i} q =
-    let a = then-got (marksAt s at) _ q in
-    let b = then-got (mmeAt (a .0 .mme) s (at + 1)) _ (a .2) in
-    let c = then-got (mceAt (a .0 .mce) s (behind (a .0 .mme) (at + 1))) _ (b .2) in
+    let a = then-got (itemMarksAt s at) _ q in
+    let b = then-got (maybeMmeAt (a .0 .mme) s (at + 1)) _ (a .2) in
+    let c = then-got (maybeMceAt (a .0 .mce) s (behind (a .0 .mme) (at + 1))) _ (b .2) in
     let d = then-got (endsAt s (behind (a .0 .mce) (behind (a .0 .mme) (at + 1)))) _ (c .2) in
     filled (a .0) (b .0) (c .0) (a .1) (b .1) (c .1) (d .1) (d .2)
   where
-    filled : (h : Marks) (m : Mme) (c : Mce) → got h ≡ marksAt s at → got m ≡ mmeAt (h .mme) s (at + 1) → got c ≡ mceAt (h .mce) s (behind (h .mme) (at + 1))
+    filled : (h : Marks) (m : Mme) (c : Mce) → got h ≡ itemMarksAt s at → got m ≡ maybeMmeAt (h .mme) s (at + 1) → got c ≡ maybeMceAt (h .mce) s (behind (h .mme) (at + 1))
         → got tt ≡ endsAt s (behind (h .mce) (behind (h .mme) (at + 1))) → got i ≡ got (record { mme = m; mce = c }) → Fills s at (itemOctets i)
     filled h m c a b k d q =
         let x = mmeIn m in
@@ -167,13 +167,13 @@ item-element-again crit s at p o z q =
 
 -- an item whose envelope has this criticality
 strictAt : ℕ → List ℕ → ℕ → Read (Part Item)
-strictAt crit s at = critAt s at >>= λ c. itemElementAt s at >>= λ p. pick (eqb (c .value) crit) (got p) (stop (noMeaning at))
+strictAt crit s at = envelopeCritAt s at >>= λ c. itemElementAt s at >>= λ p. pick (eqb (c .value) crit) (got p) (stop (noMeaning at))
 
 strict-again : (crit : ℕ) (s : List ℕ) → Octets s → (at : ℕ) (p : Part Item) → got p ≡ strictAt crit s at
     → Stands s at (itemElementOctets crit (p .value)) × (p .next ≡ at + length (itemElementOctets crit (p .value)))
-unfolding strictAt critAt
+unfolding strictAt envelopeCritAt
 strict-again crit s o at p q =
-    let a = then-got (critAt s at) _ q in
+    let a = then-got (envelopeCritAt s at) _ q in
     let b = then-got (itemElementAt s at) _ (a .2) in
     let c = held (eqb (a .0 .value) crit) _ _ (b .2) in
     let d = then-got (choiceAt 3 2 s (at + 2) 0) _ (a .1) in
@@ -196,32 +196,32 @@ item-next s at {p} q =
     next : (v : Span) (i : Item) → got p ≡ got (record { value = i; next = v .to }) → p .next ≡ v .to
     next v i q = ap (λ (x : Part Item). x .next) (same-got q)
 
-crit-next : (s : List ℕ) (at : ℕ) {c : Part ℕ} → got c ≡ critAt s at → (v : Span) × (got v ≡ openAt s (at + 3)) × (c .next ≡ v .to)
-unfolding critAt
+crit-next : (s : List ℕ) (at : ℕ) {c : Part ℕ} → got c ≡ envelopeCritAt s at → (v : Span) × (got v ≡ openAt s (at + 3)) × (c .next ≡ v .to)
+unfolding envelopeCritAt
 crit-next s at q =
     let a = then-got (choiceAt 3 2 s (at + 2) 0) _ q in
     let b = then-got (openAt s (at + 3)) _ (a .2) in
     (b .0, b .1, ap (λ (x : Part ℕ). x .next) (same-got (b .2)))
 
-same-next : (s : List ℕ) (at : ℕ) {p : Part Item} {c : Part ℕ} → got p ≡ itemElementAt s at → got c ≡ critAt s at → c .next ≡ p .next
+same-next : (s : List ℕ) (at : ℕ) {p : Part Item} {c : Part ℕ} → got p ≡ itemElementAt s at → got c ≡ envelopeCritAt s at → c .next ≡ p .next
 same-next s at q r =
     let a = item-next s at q in
     let b = crit-next s at r in
     b .2 ∙ (ap (λ (v : Span). v .to) (same-got (b .1 ∙ sym (a .1))) ∙ sym (a .2))
 
-many-strict : (crit : ℕ) (s : List ℕ) (n at : ℕ) (p : Part (List Item)) (q : Part (List ℕ)) → got p ≡ many (itemElementAt s) n at → got q ≡ many (critAt s) n at
+many-strict : (crit : ℕ) (s : List ℕ) (n at : ℕ) (p : Part (List Item)) (q : Part (List ℕ)) → got p ≡ many (itemElementAt s) n at → got q ≡ many (envelopeCritAt s) n at
     → Each (λ (c : ℕ). c ≡ crit) (q .value) → got p ≡ many (strictAt crit s) n at
 unfolding many strictAt
 many-strict crit s zero at p q e f g = e
 many-strict crit s (suc n) at p q e f g =
     let a = then-got (itemElementAt s at) _ e in
     let b = then-got (many (itemElementAt s) n (a .0 .next)) _ (a .2) in
-    let c = then-got (critAt s at) _ f in
-    let d = then-got (many (critAt s) n (c .0 .next)) _ (c .2) in
+    let c = then-got (envelopeCritAt s at) _ f in
+    let d = then-got (many (envelopeCritAt s) n (c .0 .next)) _ (c .2) in
     let h : Each (λ (c : ℕ). c ≡ crit) (c .0 .value ∷ d .0 .value) = subst (λ (x : Part (List ℕ)). Each (λ (c : ℕ). c ≡ crit) (x .value)) (same-got (d .2)) g in
     let k : c .0 .next ≡ a .0 .next = same-next s at (a .1) (c .1) in
     let t : got (a .0) ≡ strictAt crit s at = past _ (c .0) (c .1) (past _ (a .0) (a .1) (rw (eq-eqb (c .0 .value) crit (h .0)))) in
-    past _ (a .0) t (past _ (b .0) (many-strict crit s n (a .0 .next) (b .0) (d .0) (b .1) (d .1 ∙ ap (many (critAt s) n) k) (h .1)) (b .2))
+    past _ (a .0) t (past _ (b .0) (many-strict crit s n (a .0 .next) (b .0) (d .0) (b .1) (d .1 ∙ ap (many (envelopeCritAt s) n) k) (h .1)) (b .2))
 
 pub items-again : (crit : ℕ) (s : List ℕ) (at : ℕ) → Octets s → {is : List Item} → got is ≡ itemsAt s at → Marked crit s at → Fills s at (itemsOctets crit is)
 unfolding itemsAt itemsOctets critsAt
@@ -230,10 +230,10 @@ items-again crit s at o {is} q w =
     let b = then-got (many (itemElementAt s) (a .0 + 1) (at + 1)) _ (a .2) in
     let c = then-got (endsAt s (b .0 .next)) _ (b .2) in
     let d = then-got (numberAt 1 s at) _ (w .1) in
-    let e = then-got (many (critAt s) (d .0 + 1) (at + 1)) _ (d .2) in
+    let e = then-got (many (envelopeCritAt s) (d .0 + 1) (at + 1)) _ (d .2) in
     let k : d .0 ≡ a .0 = same-got (d .1 ∙ sym (a .1)) in
     let all : Each (λ (c : ℕ). c ≡ crit) (e .0 .value) = subst (Each (λ (c : ℕ). c ≡ crit)) (same-got (e .2)) (w .2) in
-    filled (a .0) (b .0) (a .1) (many-strict crit s (a .0 + 1) (at + 1) (b .0) (e .0) (b .1) (e .1 ∙ ap (λ (n : ℕ). many (critAt s) (n + 1) (at + 1)) k) all) (c .1) (c .2)
+    filled (a .0) (b .0) (a .1) (many-strict crit s (a .0 + 1) (at + 1) (b .0) (e .0) (b .1) (e .1 ∙ ap (λ (n : ℕ). many (envelopeCritAt s) (n + 1) (at + 1)) k) all) (c .1) (c .2)
   where
     filled : (n : ℕ) (p : Part (List Item)) → got n ≡ numberAt 1 s at → got p ≡ many (strictAt crit s) (n + 1) (at + 1) → got tt ≡ endsAt s (p .next) → got is ≡ got (p .value)
         → Fills s at (itemsOctets crit is)
@@ -259,7 +259,7 @@ reset-again s at o r q w =
     let b = then-got (flagAt s at 1) _ (a .2) in
     by (b .0) r (a .1) (b .1) (b .2) w
   where
-    by : (p : Bool) (r : ResetType) → got tt ≡ plainAt s at 0 → got p ≡ flagAt s at 1 → got r ≡ resetBy p s at → Rejecting r s at → Fills s at (resetOctets r)
+    by : (p : Bool) (r : ResetType) → got tt ≡ plainAt s at 0 → got p ≡ flagAt s at 1 → got r ≡ chosenResetAt p s at → Rejecting r s at → Fills s at (resetOctets r)
     by false r x y q w =
         let a = then-got (plainAt s at 2) _ q in
         let b = then-got (padAt s at 3) _ (a .2) in
@@ -277,6 +277,6 @@ reset-again s at o r q w =
         let f : Stands s at (packed (1 bits bitsAt s at 0 1 ∷ 1 bits bitsAt s at 1 1 ∷ []) ∷ []) =
         packed-again s at (1 ∷ 1 ∷ []) o (z .0) (omega arith) (pad-zero s at 2 (omega arith) (omega arith) (a .1)) in
         let g : Stands s at (packed (bit false ∷ bit true ∷ []) ∷ []) = rw (z .1, bit-again s at 1 y) at f in
-        let u = items-again reject s (at + 1) o (b .1) (subst (λ (k : ResetType). Rejecting k s at) e w) in
+        let u = items-again resetCrit s (at + 1) o (b .1) (subst (λ (k : ResetType). Rejecting k s at) e w) in
         let n = u .ends in
         subst (λ (k : ResetType). Fills s at (resetOctets k)) (sym e) (record { stands = stands-join g (u .stands); ends = omega arith })

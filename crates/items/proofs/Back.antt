@@ -20,9 +20,9 @@ use Rattle.identity.specs.declared.Mme.the-variants as mme
 use Rattle.identity.specs.declared.Mce.{Mce}
 use Rattle.identity.specs.declared.Mce.the-variants as mce
 use Rattle.identity.specs.declared.Item.{Item}
-use Rattle.item.specs.Item.{maybeAt, mmeIs, mceIs, behind, marksAt, itemAt, itemElementAt}
+use Rattle.item.specs.Item.{maybeIdentityAt, mmeIs, mceIs, behind, itemMarksAt, itemAt, itemElementAt}
 use Rattle.items.specs.Items.{itemsAt, ResetType, whole, part, resetAt}
-use Rattle.items.specs.Written.{Maybe, There, None, mmeIn, mceIn, isThere, maybeOctets, itemOctets, itemElementOctets, itemsOctets, reject, resetOctets, GoodMaybe, GoodItem, GoodItems, GoodReset}
+use Rattle.items.specs.Written.{Maybe, There, None, mmeIn, mceIn, isThere, maybeOctets, itemOctets, itemElementOctets, itemsOctets, resetCrit, resetOctets, GoodMaybe, GoodItem, GoodItems, GoodReset}
 
 -- ---- an item
 
@@ -36,8 +36,8 @@ bits-fit true false = (omega arith, omega arith, (omega arith, omega arith, (ome
 bits-fit false true = (omega arith, omega arith, (omega arith, omega arith, (omega arith, omega arith, (omega arith, omega arith, tt))))
 bits-fit false false = (omega arith, omega arith, (omega arith, omega arith, (omega arith, omega arith, (omega arith, omega arith, tt))))
 
-marks-back : (s : List ℕ) (at : ℕ) (m c : Bool) → Stands s at (packed (bit false ∷ bit m ∷ bit c ∷ bit false ∷ []) ∷ []) → got (record { mme = m; mce = c }) ≡ marksAt s at
-unfolding marksAt
+marks-back : (s : List ℕ) (at : ℕ) (m c : Bool) → Stands s at (packed (bit false ∷ bit m ∷ bit c ∷ bit false ∷ []) ∷ []) → got (record { mme = m; mce = c }) ≡ itemMarksAt s at
+unfolding itemMarksAt
 marks-back s at m c h =
     let p = bit-width m in
     let q = bit-width c in
@@ -53,7 +53,7 @@ module _ {A : Type 0} (is : ℕ → A) (absent : A) where
   ofNumber (There v) = is v
   ofNumber None = absent
 
-  maybe-back : (s : List ℕ) (at : ℕ) (x : Maybe) → GoodMaybe x → Stands s at (maybeOctets x) → got (ofNumber x) ≡ maybeAt is absent (isThere x) s at
+  maybe-back : (s : List ℕ) (at : ℕ) (x : Maybe) → GoodMaybe x → Stands s at (maybeOctets x) → got (ofNumber x) ≡ maybeIdentityAt is absent (isThere x) s at
   maybe-back s at (There v) b h = past _ v (number-back 2 s at v b h) refl
   maybe-back s at None b h = refl
 
@@ -154,10 +154,10 @@ reset-back s at whole g f =
     (past _ tt (rest-back s at (bit false ∷ bit false ∷ bit false ∷ []) fit (omega arith) (omega arith) h)
     (past _ tt (ends-back s (at + 1) (omega arith)) refl))))
 reset-back s at (part is) g f =
-    let a = stands-split (packed (bit false ∷ bit true ∷ []) ∷ []) (itemsOctets reject is) (f .stands) in
+    let a = stands-split (packed (bit false ∷ bit true ∷ []) ∷ []) (itemsOctets resetCrit is) (f .stands) in
     let e = f .ends in
     let fit : Fit 8 (bit false ∷ bit true ∷ []) = (omega arith, omega arith, (omega arith, omega arith, tt)) in
     past _ tt (plain-back s at [] (bit true ∷ []) fit (omega arith) (a .0))
     (past _ true (flag-back s at (bit false ∷ []) true [] fit (omega arith) (a .0))
     (past _ tt (rest-back s at (bit false ∷ bit true ∷ []) fit (omega arith) (omega arith) (a .0))
-    (past _ is (items-back reject (omega arith) s (at + 1) is g (record { stands = a .1; ends = omega arith })) refl)))
+    (past _ is (items-back resetCrit (omega arith) s (at + 1) is g (record { stands = a .1; ends = omega arith })) refl)))

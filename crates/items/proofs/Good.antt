@@ -21,15 +21,15 @@ use Rattle.identity.specs.declared.Mme.the-variants as mme
 use Rattle.identity.specs.declared.Mce.{Mce}
 use Rattle.identity.specs.declared.Mce.the-variants as mce
 use Rattle.identity.specs.declared.Item.{Item}
-use Rattle.item.specs.Item.{maybeAt, mmeIs, mceIs, mmeAt, mceAt, behind, marksAt, itemAt, itemElementAt}
-use Rattle.items.specs.Items.{itemsAt, ResetType, resetBy, resetAt}
+use Rattle.item.specs.Item.{maybeIdentityAt, mmeIs, mceIs, maybeMmeAt, maybeMceAt, behind, itemMarksAt, itemAt, itemElementAt}
+use Rattle.items.specs.Items.{itemsAt, ResetType, chosenResetAt, resetAt}
 use Rattle.items.specs.Written.{Maybe, There, None, mmeIn, mceIn, GoodMaybe, GoodItem, GoodItems, GoodReset}
 
 number-good : (k : ℕ) (s : List ℕ) (at : ℕ) {v : ℕ} → Octets s → got v ≡ numberAt k s at → v < 256 ^ k
 number-good k s at o q = rw (number-got s at k q .1) (value-below k s at o)
 
 module _ {A : Type 0} (is : ℕ → A) (absent : A) (number : A → Maybe) (e : (v : ℕ) → number (is v) ≡ There v) (z : number absent ≡ None) where
-  maybe-good : (s : List ℕ) (at : ℕ) → Octets s → (t : Bool) {x : A} → got x ≡ maybeAt is absent t s at → GoodMaybe (number x)
+  maybe-good : (s : List ℕ) (at : ℕ) → Octets s → (t : Bool) {x : A} → got x ≡ maybeIdentityAt is absent t s at → GoodMaybe (number x)
   maybe-good s at o false q = subst (λ (x : A). GoodMaybe (number x)) (sym (same-got q)) (rw z tt)
   maybe-good s at o true q =
       let a = then-got (numberAt 2 s at) _ q in
@@ -38,9 +38,9 @@ module _ {A : Type 0} (is : ℕ → A) (absent : A) (number : A → Maybe) (e : 
 pub item-good : (s : List ℕ) (at : ℕ) → Octets s → {i : Item} → got i ≡ itemAt s at → GoodItem i
 unfolding itemAt
 item-good s at o {i} q =
-    let a = then-got (marksAt s at) _ q in
-    let b = then-got (mmeAt (a .0 .mme) s (at + 1)) _ (a .2) in
-    let c = then-got (mceAt (a .0 .mce) s (behind (a .0 .mme) (at + 1))) _ (b .2) in
+    let a = then-got (itemMarksAt s at) _ q in
+    let b = then-got (maybeMmeAt (a .0 .mme) s (at + 1)) _ (a .2) in
+    let c = then-got (maybeMceAt (a .0 .mce) s (behind (a .0 .mme) (at + 1))) _ (b .2) in
     let d = then-got (endsAt s (behind (a .0 .mce) (behind (a .0 .mme) (at + 1)))) _ (c .2) in
     good (b .0) (c .0) (maybe-good mmeIs mme.Absent mmeIn (λ v. refl) refl s _ o (a .0 .mme) (b .1)) (maybe-good mceIs mce.Absent mceIn (λ v. refl) refl s _ o (a .0 .mce) (c .1)) (d .2)
   where
@@ -78,7 +78,7 @@ reset-good s at o {r} q =
     let b = then-got (flagAt s at 1) _ (a .2) in
     by (b .0) (b .2)
   where
-    by : (p : Bool) → got r ≡ resetBy p s at → GoodReset r
+    by : (p : Bool) → got r ≡ chosenResetAt p s at → GoodReset r
     by false q =
         let a = then-got (plainAt s at 2) _ q in
         let b = then-got (padAt s at 3) _ (a .2) in

@@ -22,12 +22,12 @@ pub data ResetType : Type 0 where
   part : List Item → ResetType
 
 -- ResetType ::= CHOICE { m3-Interface ENUMERATED { reset-all, ... }, partOfM3-Interface, ... }
-abbrev pub resetBy : Bool → List ℕ → ℕ → Read ResetType
-resetBy false s at = plainAt s at 2 >> (padAt s at 3 >> (endsAt s (at + 1) >> got whole))
-resetBy true s at = padAt s at 2 >> (itemsAt s (at + 1) >>= λ is. got (part is))
+abbrev pub chosenResetAt : Bool → List ℕ → ℕ → Read ResetType
+chosenResetAt false s at = plainAt s at 2 >> (padAt s at 3 >> (endsAt s (at + 1) >> got whole))
+chosenResetAt true s at = padAt s at 2 >> (itemsAt s (at + 1) >>= λ is. got (part is))
 
 unfoldable pub resetAt : List ℕ → ℕ → Read ResetType
 resetAt s at = do
   plainAt s at 0
   p ← flagAt s at 1
-  resetBy p s at
+  chosenResetAt p s at

@@ -51,17 +51,17 @@ itemElementOctets crit i = numberOctets 2 14 ++ (packed (2 bits crit ∷ []) ∷
 unfoldable pub itemsOctets : ℕ → List Item → List ℕ
 itemsOctets crit is = numberOctets 1 (length is - 1) ++ eachOctets (itemElementOctets crit) is
 
--- criticalities of 9.3.4: of an item in a RESET, and in an acknowledgement
-abbrev pub reject : ℕ
-reject = 0
+-- criticalities of 9.3.4: of an item in a RESET, reject; and in an acknowledgement, ignore
+abbrev pub resetCrit : ℕ
+resetCrit = 0
 
-abbrev pub ignore : ℕ
-ignore = 1
+abbrev pub acknowledgementCrit : ℕ
+acknowledgementCrit = 1
 
 -- no extension; the whole, which has no extension; or part, whose items have criticality reject
 unfoldable pub resetOctets : ResetType → List ℕ
 resetOctets whole = packed (bit false ∷ bit false ∷ bit false ∷ []) ∷ []
-resetOctets (part is) = packed (bit false ∷ bit true ∷ []) ∷ itemsOctets reject is
+resetOctets (part is) = packed (bit false ∷ bit true ∷ []) ∷ itemsOctets resetCrit is
 
 -- numbers of two octets; 1 to 256 items
 abbrev pub GoodMaybe : Maybe → Type 0
@@ -79,8 +79,8 @@ GoodReset whole = Unit
 GoodReset (part is) = GoodItems is
 
 -- the criticality in an item's envelope, and those of a list's envelopes
-unfoldable pub critAt : List ℕ → ℕ → Read (Part ℕ)
-critAt s at = do
+unfoldable pub envelopeCritAt : List ℕ → ℕ → Read (Part ℕ)
+envelopeCritAt s at = do
   c ← choiceAt 3 2 s (at + 2) 0
   v ← openAt s (at + 3)
   got (record { value = c; next = v .to })
@@ -88,7 +88,7 @@ critAt s at = do
 unfoldable pub critsAt : List ℕ → ℕ → Read (List ℕ)
 critsAt s at = do
   n ← numberAt 1 s at
-  cs ← many (critAt s) (n + 1) (at + 1)
+  cs ← many (envelopeCritAt s) (n + 1) (at + 1)
   got (cs .value)
 
 -- each envelope of the list at the place has this criticality
@@ -98,4 +98,4 @@ Marked crit s at = (cs : List ℕ) × (got cs ≡ critsAt s at) × Each (λ (c :
 -- of a Reset Type's items: reject
 abbrev pub Rejecting : ResetType → List ℕ → ℕ → Type 0
 Rejecting whole s at = Unit
-Rejecting (part is) s at = Marked reject s (at + 1)
+Rejecting (part is) s at = Marked resetCrit s (at + 1)

@@ -34,13 +34,13 @@ use Rattle.envelopes.specs.Envelope.{envelopeAt, scanAt, headsAt}
 use Rattle.envelopes.proofs.ScanLaws.{heads-none, heads-one}
 use Rattle.elements.specs.Judge.{unknownOf, missingEntry, missingOf, countedExtensionsAt, extensionsAt, extensionsBehind}
 use Rattle.elements.proofs.WalkLaws.{missing-snoc}
-use Rattle.judging.specs.Judging.{listing, NotedIn, OneNoted, NotedBehind, ExtensionsNoted}
+use Rattle.judging.specs.Judging.{isNoted, NotedIn, OneNoted, NotedBehind, ExtensionsNoted}
 use Rattle.judging.proofs.TallyLaws.{listable, first-more, first-same}
 
 -- ---- an entry more
 
 one-length : {l : List ℕ} {count : ℕ} {e : Entry} {m : List ℕ} {r : ℕ} → OneNoted l count e m r → length m ≡ length l
-one-length {l} {count} {e} q = ap length (q .words) ∙ by (listing (e .crit) count)
+one-length {l} {count} {e} q = ap length (q .words) ∙ by (isNoted (e .crit) count)
   where
     by : (b : Bool) → length (pick b (set l count (entryWord e)) l) ≡ length l
     by true = length-set l count (entryWord e)
@@ -48,17 +48,17 @@ one-length {l} {count} {e} q = ap length (q .words) ∙ by (listing (e .crit) co
 
 module _ (es : List Entry) (e : Entry) where
   pub noted-more : {k l m : List ℕ} {count r : ℕ} → NotedIn k (take 256 es) l count → OneNoted l count e m r → NotedIn k (take 256 (es ++ listable e)) m r
-  noted-more {k} {l} {m} {count} {r} p q = by (listing (e .crit) count) refl (q .words) (q .next)
+  noted-more {k} {l} {m} {count} {r} p q = by (isNoted (e .crit) count) refl (q .words) (q .next)
     where
-      by : (b : Bool) → listing (e .crit) count ≡ b → m ≡ pick b (set l count (entryWord e)) l → r ≡ pick b (count + 1) count → NotedIn k (take 256 (es ++ listable e)) m r
+      by : (b : Bool) → isNoted (e .crit) count ≡ b → m ≡ pick b (set l count (entryWord e)) l → r ≡ pick b (count + 1) count → NotedIn k (take 256 (es ++ listable e)) m r
       by true g w n =
-          subst (λ (xs : List Entry). NotedIn k xs m r) (first-more es e (ap (listing (e .crit)) (sym (p .count)) ∙ g))
+          subst (λ (xs : List Entry). NotedIn k xs m r) (first-more es e (ap (isNoted (e .crit)) (sym (p .count)) ∙ g))
           (record {
             words = w ∙ (rw (p .words, p .count) (sym (rw (map-append entryWord (take 256 es) (e ∷ [])) (sets-append k 0 (map entryWord (take 256 es)) (entryWord e ∷ []) ∙ ap (λ (j : ℕ). set (sets k 0 (map entryWord (take 256 es))) j (entryWord e)) (simp (length-map, zero-add))))));
             count = n ∙ (ap (λ (j : ℕ). j + 1) (p .count) ∙ sym (length-append (take 256 es) (e ∷ [])));
           })
       by false g w n =
-          subst (λ (xs : List Entry). NotedIn k xs m r) (first-same es e (ap (listing (e .crit)) (sym (p .count)) ∙ g))
+          subst (λ (xs : List Entry). NotedIn k xs m r) (first-same es e (ap (isNoted (e .crit)) (sym (p .count)) ∙ g))
           (record { words = w ∙ p .words; count = n ∙ p .count })
 
 -- ---- the unknown elements

@@ -23,7 +23,7 @@ use Rattle.octets.specs.Span.{noSpan}
 use Rattle.octets.proofs.Chain.{got-stop}
 use Rattle.places.specs.Places.{placesOf, withSpan}
 use Rattle.places.proofs.Laws.{places-none, places-set}
-use Rattle.kinds.specs.Kinds.{valueAt}
+use Rattle.kinds.specs.Kinds.{legibleAt}
 use Rattle.kinds.proofs.Laws.{carried}
 use Rattle.entries.specs.declared.Entry.{Entry}
 use Rattle.rows.specs.declared.Row.{Row}
@@ -103,7 +103,7 @@ module _ {t : Rows} {s : List ℕ} {n from row i at : ℕ} {places : List ℕ} {
 
   -- the element is done, and row′ is the first row that may still come
   done-with : (row′ : ℕ) → front (rowsIn t) row (headsAt s (n - i) at) ≡ h ∷ front (rowsIn t) row′ (headsAt s (n - i - 1) (h .value .to))
-      → got tt ≡ valueAt (kindOf (rowsIn t) (h .id)) (take (h .value .to) s) (h .value .from)
+      → got tt ≡ legibleAt (kindOf (rowsIn t) (h .id)) (take (h .value .to) s) (h .value .from)
       → {places′ : List ℕ} → places′ ≡ placesOf (fill noSpan 12 (readOf (rowsIn t) (p .step .done ++ h ∷ [])))
       → {after : Tally} → after ≡ tallyOf (unknownOf (rowsIn t) (p .step .done) ++ unknownEntry (rowsIn t) h)
       → Step (rowsIn t) s n from row′ (i + 1) (h .value .to) places′ after
@@ -144,14 +144,14 @@ module _ {t : Rows} {s : List ℕ} {n from row i at : ℕ} {places : List ℕ} {
       kind : getD (t .rows) k noRow .kind ≡ kindOf (rowsIn t) (h .id)
       kind = row-kind t (h .id) k a (p .rest) e
 
-      pub walk-bad : {x : Stop} → stop x ≡ valueAt (getD (t .rows) k noRow .kind) (take (h .value .to) s) (h .value .from) → Stops (rowsIn t) s n from i at places tally
+      pub walk-bad : {x : Stop} → stop x ≡ legibleAt (getD (t .rows) k noRow .kind) (take (h .value .to) s) (h .value .from) → Stops (rowsIn t) s n from i at places tally
       walk-bad {x} r = broken (p .step) {x = x} (scan-bad (rowsIn t) s (n - i) at left h (p .read) (rw kind at r))
 
       pub walk-misplaced : k < row → Stops (rowsIn t) s n from i at places tally
       unfolding front
       walk-misplaced c = over (p .step) (rw (heads-one (rowsIn t) s (n - i) at left h (p .read), here, lt-ltb k (length (rowsIn t)) a, lt-ltb k row c))
 
-      pub step-known : k < 12 → row ≤ k → got tt ≡ valueAt (getD (t .rows) k noRow .kind) (take (h .value .to) s) (h .value .from)
+      pub step-known : k < 12 → row ≤ k → got tt ≡ legibleAt (getD (t .rows) k noRow .kind) (take (h .value .to) s) (h .value .from)
           → Step (rowsIn t) s n from (k + 1) (i + 1) (h .value .to) (withSpan places k (h .value)) tally
       unfolding front
       step-known b c r =

@@ -24,7 +24,7 @@ use Rattle.rows.specs.Table.{rowsIn, noRow}
 use Rattle.editions.specs.declared.Edition.{Edition}
 use Rattle.editions.specs.declared.Message.{Message}
 use Rattle.editions.specs.declared.Named.the-variants as named
-use Rattle.editions.specs.Editions.{tableOf, containerOf, rowsOf, namedBy}
+use Rattle.editions.specs.Editions.{tableOf, containerOf, tableRows, namedBy}
 use Rattle.editions.proofs.Tables.{table-lawful, lawful-count}
 use Rattle.frames.specs.declared.Frame.{Frame}
 use Rattle.frames.specs.Frame.{frameAt}
@@ -94,10 +94,10 @@ pub record Passed (e : Edition) (m : Message) (f : Frame) (s : List ℕ) (t : Ro
   pub spans : spansIn ps ≡ fill noSpan 12 (opening .spans)
   pub values : valuesIn (rowsIn t) s (spansIn ps) ≡ valuesIn (tableOf e m) s (opening .spans)
 
-pub rows-of : (e : Edition) (m : Message) {t : Rows} → t ≡ rowsOf e m → rowsIn t ≡ tableOf e m
+pub rows-of : (e : Edition) (m : Message) {t : Rows} → t ≡ tableRows e m → rowsIn t ≡ tableOf e m
 rows-of e m q = ap rowsIn q ∙ take-fill noRow 12 (tableOf e m)
 
-module _ (e : Edition) (m : Message) (f : Frame) (s : List ℕ) {t : Rows} {o : Opened} {ps : List ℕ} (rows : t ≡ rowsOf e m) {c : Bool} (container : c ≡ containerOf e m) (q : Opens (openedAt (rowsIn t) c s (f .from)) o ps) where
+module _ (e : Edition) (m : Message) (f : Frame) (s : List ℕ) {t : Rows} {o : Opened} {ps : List ℕ} (rows : t ≡ tableRows e m) {c : Bool} (container : c ≡ containerOf e m) (q : Opens (openedAt (rowsIn t) c s (f .from)) o ps) where
   opens : Opens (openedAt (tableOf e m) (containerOf e m) s (f .from)) o ps
   opens = opens-as (ap (λ (x : List Row). openedAt x c s (f .from)) (rows-of e m rows) ∙ ap (λ (b : Bool). openedAt (tableOf e m) b s (f .from)) container) q
 

@@ -26,9 +26,9 @@ use Rattle.rows.proofs.TableLaws.{row-at}
 use Rattle.elements.specs.Judge.{ignored, missingEntry, missingOf}
 use Rattle.elements.proofs.WalkLaws.{missing-snoc}
 use Rattle.judging.specs.declared.Tally.{Tally}
-use Rattle.judging.specs.Judging.{listing, tallyOf, tallied, CountedBehind}
+use Rattle.judging.specs.Judging.{isNoted, tallyOf, tallied, CountedBehind}
 
-pub in-room : (crit count : ℕ) → listing crit count ≡ true → count < 256
+pub in-room : (crit count : ℕ) → isNoted crit count ≡ true → count < 256
 in-room crit count h = ltb-true _ _ (by (not (ignored crit)) h)
   where
     by : (b : Bool) → (b && ltb count 256) ≡ true → ltb count 256 ≡ true
@@ -40,7 +40,7 @@ abbrev pub listable : Entry → List Entry
 listable e = pick (ignored (e .crit)) [] (e ∷ [])
 
 module _ (es : List Entry) (e : Entry) where
-  pub first-more : listing (e .crit) (length (take 256 es)) ≡ true → take 256 es ++ e ∷ [] ≡ take 256 (es ++ listable e)
+  pub first-more : isNoted (e .crit) (length (take 256 es)) ≡ true → take 256 es ++ e ∷ [] ≡ take 256 (es ++ listable e)
   first-more = by (ignored (e .crit))
     where
       by : (b : Bool) → (not b && ltb (length (take 256 es)) 256) ≡ true → take 256 es ++ e ∷ [] ≡ take 256 (es ++ pick b [] (e ∷ []))
@@ -52,7 +52,7 @@ module _ (es : List Entry) (e : Entry) where
           let z : length (es ++ e ∷ []) ≤ 256 = rw (length-append es (e ∷ [])) (omega arith) in
           rw (take-all 256 es (omega arith), take-all 256 (es ++ e ∷ []) z)
 
-  pub first-same : listing (e .crit) (length (take 256 es)) ≡ false → take 256 es ≡ take 256 (es ++ listable e)
+  pub first-same : isNoted (e .crit) (length (take 256 es)) ≡ false → take 256 es ≡ take 256 (es ++ listable e)
   first-same = by (ignored (e .crit))
     where
       by : (b : Bool) → (not b && ltb (length (take 256 es)) 256) ≡ false → take 256 es ≡ take 256 (es ++ pick b [] (e ∷ []))
@@ -70,10 +70,10 @@ module _ (es : List Entry) (e : Entry) where
       by true i = rw (eqb-true (e .crit) 1 i, or-false, append-nil es)
       by false i = sym (some-append (λ (x : Entry). eqb (x .crit) 0) es (e ∷ []) ∙ ap (λ (b : Bool). some (λ (x : Entry). eqb (x .crit) 0) es || b) (or-false (eqb (e .crit) 0)))
 
-  count-more : pick (listing (e .crit) (length (take 256 es))) (length (take 256 es) + 1) (length (take 256 es)) ≡ length (take 256 (es ++ listable e))
-  count-more = by (listing (e .crit) (length (take 256 es))) refl
+  count-more : pick (isNoted (e .crit) (length (take 256 es))) (length (take 256 es) + 1) (length (take 256 es)) ≡ length (take 256 (es ++ listable e))
+  count-more = by (isNoted (e .crit) (length (take 256 es))) refl
     where
-      by : (b : Bool) → listing (e .crit) (length (take 256 es)) ≡ b → pick b (length (take 256 es) + 1) (length (take 256 es)) ≡ length (take 256 (es ++ listable e))
+      by : (b : Bool) → isNoted (e .crit) (length (take 256 es)) ≡ b → pick b (length (take 256 es) + 1) (length (take 256 es)) ≡ length (take 256 (es ++ listable e))
       by true g = sym (length-append (take 256 es) (e ∷ [])) ∙ ap length (first-more g)
       by false g = ap length (first-same g)
 

@@ -1,4 +1,4 @@
--- What is inside a message, with what is noted counted; and what the steps of the judging promise each other.
+-- Scaffolding: no demand speaks of it. What is inside a message, with what is noted counted; and what the steps of the judging promise each other.
 use Prim.Native.Nat.{ℕ, _+_, _-_, _≤_}
 use mathlib.Core.Path.{_≡_}
 use mathlib.Core.Bool.{Bool, true, false, not, _&&_, _||_}
@@ -54,15 +54,15 @@ rejectedBy reject = pick reject Rejected Accepted
 -- ---- the steps: what is listed is counted
 
 -- whether one more is listed behind so many
-abbrev pub listing : ℕ → ℕ → Bool
-listing crit count = not (ignored crit) && ltb count 256
+abbrev pub isNoted : ℕ → ℕ → Bool
+isNoted crit count = not (ignored crit) && ltb count 256
 
 -- the first 256 are counted; criticality reject anywhere rejects
 unfoldable pub tallyOf : List Entry → Tally
 tallyOf es = record { count = length (take 256 es); reject = some (λ (e : Entry). eqb (e .crit) 0) es }
 
 abbrev pub tallied : Tally → ℕ → Tally
-tallied n crit = record { count = pick (listing crit (n .count)) (n .count + 1) (n .count); reject = n .reject || eqb crit 0 }
+tallied n crit = record { count = pick (isNoted crit (n .count)) (n .count + 1) (n .count); reject = n .reject || eqb crit 0 }
 
 -- a tally, and behind it more entries
 abbrev pub CountedBehind : List Entry → Tally → Tally → Type 0
@@ -109,8 +109,8 @@ placeOf n Rejected = n
 
 -- one more behind so many others, if it is listed
 pub record OneNoted (l : List ℕ) (count : ℕ) (e : Entry) (m : List ℕ) (r : ℕ) : Type 0 where
-  pub words : m ≡ pick (listing (e .crit) count) (set l count (entryWord e)) l
-  pub next : r ≡ pick (listing (e .crit) count) (count + 1) count
+  pub words : m ≡ pick (isNoted (e .crit) count) (set l count (entryWord e)) l
+  pub next : r ≡ pick (isNoted (e .crit) count) (count + 1) count
 
 -- behind those that stand there, more entries
 abbrev pub NotedBehind : List Entry → List ℕ → ℕ → List ℕ → ℕ → Type 0

@@ -6,11 +6,11 @@ ghost use lib.ListN.{length, take};
 ghost use Rattle.octets.specs.Read.{stop};
 ghost use Rattle.places.specs.Places.{spansIn};
 ghost use Rattle.rows.specs.Table.{rowsIn, known};
-ghost use Rattle.kinds.specs.Kinds.{valueAt};
+ghost use Rattle.kinds.specs.Kinds.{legibleAt};
 ghost use Rattle.envelopes.specs.Envelope.{headsAt};
 ghost use Rattle.elements.specs.Judge.{unknownOf, missingOf, countedExtensionsAt, extensionsAt, extensionsBehind};
 ghost use Rattle.verdicts.specs.Verdict.{openedAt};
-ghost use Rattle.judging.specs.Judging.{listing, tallied, CountedBehind, Follows, ReadIf, WalkedTo, rejectedBy, Opens, openingAt, placeOf, notedOf, NotedIn, OneNoted, NotedBehind, ExtensionsNoted};
+ghost use Rattle.judging.specs.Judging.{isNoted, tallied, CountedBehind, Follows, ReadIf, WalkedTo, rejectedBy, Opens, openingAt, placeOf, notedOf, NotedIn, OneNoted, NotedBehind, ExtensionsNoted};
 use entries::Entry;
 use envelopes::End;
 use envelopes::Envelope;
@@ -59,7 +59,7 @@ struct Behind {
 
 // Whether one more entry is noted: ignore never is, and of the others the first 256 are.
 fn is_listed(crit: u8, count: usize) -> bool
-    ensures { λ r. ⌜ r ≡ listing crit count ⌝ }
+    ensures { λ r. ⌜ r ≡ isNoted crit count ⌝ }
 {
     (crit != 1) & (count < 256)
 }
@@ -84,7 +84,7 @@ fn tally_with(seen: Tally, crit: u8) -> Tally
 
 // Whether a value can be read. Most are carried, and nothing is looked at.
 fn is_legible(kind: Kind, s: &[u8], at: usize) -> bool
-    ensures { λ r. ⌜ ReadIf r (valueAt kind (now (s .entry)) at) ⌝ }
+    ensures { λ r. ⌜ ReadIf r (legibleAt kind (now (s .entry)) at) ⌝ }
 {
     match kind {
         Kind::Carried => true,

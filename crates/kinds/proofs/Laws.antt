@@ -16,19 +16,19 @@ use Rattle.rows.specs.declared.Kind.{Kind}
 use Rattle.rows.specs.declared.Kind.the-variants.{Carried, Mme, Mce, Tmgi, OneOctet, TwoOctets, Cause, Wait, Name, ResetType, Acknowledged, Diagnostics}
 use Rattle.meaning.specs.Value.{mme, mce, tmgi, one, two, cause, wait, name, reset, list, diagnostics}
 use Rattle.meaning.specs.Reading.{readAs}
-use Rattle.kinds.specs.Kinds.{valueAt}
+use Rattle.kinds.specs.Kinds.{legibleAt}
 
 -- what is carried is not read
-pub carried : (s : List ℕ) (at : ℕ) → got tt ≡ valueAt Carried s at
-unfolding valueAt
+pub carried : (s : List ℕ) (at : ℕ) → got tt ≡ legibleAt Carried s at
+unfolding legibleAt
 carried s at = refl
 
-pub of-kind : {k j : Kind} {z : Read Unit} (s : List ℕ) (at : ℕ) → k ≡ j → z ≡ valueAt j s at → z ≡ valueAt k s at
-of-kind s at q r = r ∙ ap (λ (k : Kind). valueAt k s at) (sym q)
+pub of-kind : {k j : Kind} {z : Read Unit} (s : List ℕ) (at : ℕ) → k ≡ j → z ≡ legibleAt j s at → z ≡ legibleAt k s at
+of-kind s at q r = r ∙ ap (λ (k : Kind). legibleAt k s at) (sym q)
 
 -- the gate of a value and the reading of it
-pub as-read : (k : Kind) (s : List ℕ) (v : Span) → valueAt k (take (v .to) s) (v .from) ≡ (readAs k s v >> got tt)
-unfolding valueAt readAs _>>=_
+pub as-read : (k : Kind) (s : List ℕ) (v : Span) → legibleAt k (take (v .to) s) (v .from) ≡ (readAs k s v >> got tt)
+unfolding legibleAt readAs _>>=_
 as-read Carried s v = refl
 as-read Mme s v = same-gate (mmeAt (take (v .to) s) (v .from)) mme
 as-read Mce s v = same-gate (mceAt (take (v .to) s) (v .from)) mce

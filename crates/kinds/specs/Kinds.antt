@@ -10,16 +10,16 @@ use Rattle.rows.specs.Table.{meanings}
 use Rattle.rows.specs.declared.Kind.{Kind}
 use Rattle.rows.specs.declared.Kind.the-variants.{Carried, Mme, Mce, Tmgi, OneOctet, TwoOctets, Cause, Wait, Name, ResetType, Acknowledged, Diagnostics}
 
-unfoldable pub valueAt : Kind → List ℕ → ℕ → Read Unit
-valueAt Carried s at = got tt
-valueAt Mme s at = mmeAt s at >> got tt
-valueAt Mce s at = mceAt s at >> got tt
-valueAt Tmgi s at = tmgiAt s at >> got tt
-valueAt OneOctet s at = oneAt s at >> got tt
-valueAt TwoOctets s at = twoAt s at >> got tt
-valueAt Cause s at = causeAt s at >> got tt
-valueAt Wait s at = waitAt s at >> got tt
-valueAt Name s at = nameAt s at >> got tt
-valueAt ResetType s at = resetAt s at >> got tt
-valueAt Acknowledged s at = itemsAt s at >> got tt
-valueAt (Diagnostics t) s at = diagnosticsAt (meanings t) s at >> got tt
+unfoldable pub legibleAt : Kind → List ℕ → ℕ → Read Unit
+legibleAt Carried s at = got tt
+legibleAt Mme s at = mmeAt s at >> got tt
+legibleAt Mce s at = mceAt s at >> got tt
+legibleAt Tmgi s at = tmgiAt s at >> got tt
+legibleAt OneOctet s at = oneAt s at >> got tt
+legibleAt TwoOctets s at = twoAt s at >> got tt
+legibleAt Cause s at = causeAt s at >> got tt
+legibleAt Wait s at = waitAt s at >> got tt
+legibleAt Name s at = nameAt s at >> got tt
+legibleAt ResetType s at = resetAt s at >> got tt
+legibleAt Acknowledged s at = itemsAt s at >> got tt
+legibleAt (Diagnostics t) s at = diagnosticsAt (meanings t) s at >> got tt

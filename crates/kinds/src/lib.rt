@@ -2,7 +2,7 @@
 ghost use mathlib.Core.Path.{_≡_};
 ghost use Rattle.octets.specs.Found.{foundGate};
 ghost use Rattle.rows.specs.declared.Kind.the-variants.{Wait, Name};
-ghost use Rattle.kinds.specs.Kinds.{valueAt};
+ghost use Rattle.kinds.specs.Kinds.{legibleAt};
 use names::NameRead;
 use octets::Gate;
 use rows::Kind;
@@ -15,7 +15,7 @@ use values::TwoRead;
 use values::WaitRead;
 
 fn wait_gate(s: &[u8], at: usize) -> Gate
-    ensures { λ r. ⌜ foundGate r ≡ valueAt Wait (now (s .entry)) at ⌝ }
+    ensures { λ r. ⌜ foundGate r ≡ legibleAt Wait (now (s .entry)) at ⌝ }
 {
     match values::wait_at(s, at) {
         WaitRead::Is(_) => Gate::Pass,
@@ -24,7 +24,7 @@ fn wait_gate(s: &[u8], at: usize) -> Gate
 }
 
 fn name_gate(s: &[u8], at: usize) -> Gate
-    ensures { λ r. ⌜ foundGate r ≡ valueAt Name (now (s .entry)) at ⌝ }
+    ensures { λ r. ⌜ foundGate r ≡ legibleAt Name (now (s .entry)) at ⌝ }
 {
     match names::name_at(s, at) {
         NameRead::Is(_) => Gate::Pass,
@@ -34,7 +34,7 @@ fn name_gate(s: &[u8], at: usize) -> Gate
 
 // A value of a kind can be read, or why not. Nothing is kept of it.
 pub fn value_at(kind: Kind, s: &[u8], at: usize) -> Gate
-    ensures { λ r. ⌜ foundGate r ≡ valueAt kind (now (s .entry)) at ⌝ }
+    ensures { λ r. ⌜ foundGate r ≡ legibleAt kind (now (s .entry)) at ⌝ }
 {
     match kind {
         Kind::Carried => Gate::Pass,

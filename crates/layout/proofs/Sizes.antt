@@ -25,15 +25,15 @@ use Rattle.diagnostics.specs.declared.Head.{Head}
 use Rattle.editions.specs.declared.Edition.{Edition}
 use Rattle.meaning.specs.Value.{Value, Given, given, absent, carried, mme, mce, tmgi, one, two, cause, wait, name, reset, list, diagnostics, Record}
 use Rattle.layout.specs.Rows.{mmeRow, mceRow, itemRow, entryRow, listOctets}
-use Rattle.layout.specs.Record.{listsOf, maybeOctets, headOctets, slotOf, slotOctets, recordOctets}
+use Rattle.layout.specs.Record.{listsOf, numberSlotOctets, headSlotOctets, slotOf, slotOctets, recordOctets}
 
 -- ---- slots of 8
 
-maybe-size : (x : Number) → length (maybeOctets x) ≡ 2
+maybe-size : (x : Number) → length (numberSlotOctets x) ≡ 2
 maybe-size (number.Is v) = refl
 maybe-size number.Absent = refl
 
-head-size : (h : Head) → length (headOctets h) ≡ 7
+head-size : (h : Head) → length (headSlotOctets h) ≡ 7
 head-size h = rw (length-append, length-append, length-append, maybe-size (h .code), maybe-size (h .trigger), maybe-size (h .crit))
 
 slot-small : (v : Value Span) → length (slotOf v) ≤ 8

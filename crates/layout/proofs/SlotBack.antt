@@ -22,7 +22,7 @@ use Rattle.rows.specs.declared.Row.{Row}
 use Rattle.meaning.specs.Value.{Value, Given, given, absent, carried, mme, mce, tmgi, one, two, cause, wait, name, reset, list, diagnostics}
 use Rattle.meaning.specs.Ranges.{valueKind}
 use Rattle.layout.specs.Rows.{unless0}
-use Rattle.layout.specs.Record.{placeOctets, placeIn, Lists, slotOf, slotOctets, headOctets, headIn, slotSays, slotsSay}
+use Rattle.layout.specs.Record.{placeOctets, placeIn, Lists, slotOf, slotOctets, headSlotOctets, headIn, slotSays, slotsSay}
 use Rattle.layout.specs.Held.{PlaceFits, Fits, RowsFit}
 use Rattle.layout.proofs.Sizes.{slot-size}
 
@@ -50,7 +50,7 @@ AgreesGiven l (given v) = Agrees l v
 AgreesGiven l absent = Unit
 
 head-back : (c t k : Number) (b : Bool) (rest : List ℕ)
-    → headIn (1 ∷ headOctets (record { code = c; trigger = t; crit = k; listed = b }) ++ rest) ≡ record { code = c; trigger = t; crit = k; listed = b }
+    → headIn (1 ∷ headSlotOctets (record { code = c; trigger = t; crit = k; listed = b }) ++ rest) ≡ record { code = c; trigger = t; crit = k; listed = b }
 head-back (number.Is c) (number.Is t) (number.Is k) true rest = refl
 head-back (number.Is c) (number.Is t) (number.Is k) false rest = refl
 head-back (number.Is c) (number.Is t) number.Absent true rest = refl
@@ -91,7 +91,7 @@ slot-back l (reset whole) rest h a = refl
 slot-back l (reset (part is)) rest h a = ap (λ x. reset (part x)) a
 slot-back l (list is) rest h a = ap (λ x. list x) a
 slot-back l (diagnostics t d) rest h a =
-    let e : headIn (1 ∷ headOctets (d .head) ++ rest) ≡ d .head = head-back (d .head .code) (d .head .trigger) (d .head .crit) (d .head .listed) rest in
+    let e : headIn (1 ∷ headSlotOctets (d .head) ++ rest) ≡ d .head = head-back (d .head .code) (d .head .trigger) (d .head .crit) (d .head .listed) rest in
     ap (λ (x : Head). diagnostics t (record { head = x; entries = pick (x .listed) (l .entries) [] })) e
     ∙ ap (λ es. diagnostics t (record { head = d .head; entries = es })) a
 

@@ -1,4 +1,4 @@
--- What a record for C can hold, so that nothing of it is cut: places and numbers of two octets, lists of at most 256.
+-- Scaffolding: no demand speaks of it. What a record for C can hold, so that nothing of it is cut: places and numbers of two octets, lists of at most 256.
 use Prim.Native.Nat.{ℕ, _-_, _<_, _≤_}
 use mathlib.Core.Path.{_≡_}
 use mathlib.Core.Bool.{true, false}

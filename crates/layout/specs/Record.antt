@@ -66,13 +66,13 @@ yes true = 1
 yes false = 0
 
 -- 1 and the number, or 0 and 0
-abbrev pub maybeOctets : Number → List ℕ
-maybeOctets (number.Is v) = 1 ∷ v ∷ []
-maybeOctets number.Absent = 0 ∷ 0 ∷ []
+abbrev pub numberSlotOctets : Number → List ℕ
+numberSlotOctets (number.Is v) = 1 ∷ v ∷ []
+numberSlotOctets number.Absent = 0 ∷ 0 ∷ []
 
 -- procedure code, triggering message, criticality, and whether there is a list
-abbrev pub headOctets : Head → List ℕ
-headOctets h = maybeOctets (h .code) ++ maybeOctets (h .trigger) ++ maybeOctets (h .crit) ++ (yes (h .listed) ∷ [])
+abbrev pub headSlotOctets : Head → List ℕ
+headSlotOctets h = numberSlotOctets (h .code) ++ numberSlotOctets (h .trigger) ++ numberSlotOctets (h .crit) ++ (yes (h .listed) ∷ [])
 
 -- a carried value, and a name: its place, and how many octets it has
 abbrev pub placeOctets : Span → List ℕ
@@ -91,7 +91,7 @@ slotOf (wait v) = 1 ∷ v ∷ []
 slotOf (reset whole) = 1 ∷ []
 slotOf (reset (part is)) = 2 ∷ []
 slotOf (list is) = 1 ∷ []
-slotOf (diagnostics t d) = 1 ∷ headOctets (d .head)
+slotOf (diagnostics t d) = 1 ∷ headSlotOctets (d .head)
 
 abbrev pub slotOctets : Given Span → List ℕ
 slotOctets (given v) = fill 0 8 (slotOf v)

@@ -20,7 +20,7 @@ use Rattle.identity.specs.declared.Mme.{Mme}
 use Rattle.identity.specs.declared.Mme.the-variants as mme
 use Rattle.identity.specs.declared.Mce.{Mce}
 use Rattle.identity.specs.declared.Mce.the-variants as mce
-use Rattle.table.specs.Table.{State, emptyAssociation, unheld, tableOf, names, hasMme, hasMce, hasPair, full, heldBy, shareMme, shareMce, distinctHeld}
+use Rattle.table.specs.Table.{State, emptyAssociation, unheld, tableHolding, names, hasMme, hasMce, hasPair, full, heldBy, shareMme, shareMce, distinctHeld}
 use Rattle.table.specs.declared.Association.{Association}
 use Rattle.lent.specs.Lent.{rowOf, rowIn, rowsOf}
 use Rattle.lent.specs.Tests.{sessionGood, rowsGood, rowsRight, seriesOf}
@@ -229,7 +229,7 @@ module _ {l : State} {n : ℕ} {rows : State} {i : ℕ} (g : InRows l n rows i) 
         array = rw (g .array, q, take-next l i emptyAssociation (omega arith)) (fill-more unheld 256 (take i l) (getD l i emptyAssociation) i k (omega arith));
       }
 
-  pub in-all : n ≤ i → record { rows = rows; count = n } ≡ tableOf l
+  pub in-all : n ≤ i → record { rows = rows; count = n } ≡ tableHolding l
   in-all h =
       let w = g .count in
       let e : take i l ≡ l = take-all i l (omega arith) in

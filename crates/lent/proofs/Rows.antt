@@ -17,7 +17,7 @@ use Rattle.identity.specs.declared.Session.{Session}
 use Rattle.identity.specs.declared.Session.the-variants as session
 use Rattle.table.specs.Table.{State}
 use Rattle.table.specs.declared.Association.{Association}
-use Rattle.lent.specs.Lent.{flagOf, valueOf, rowOctets, rowsOctets, sessionOf, rowOf, rowsOf, InRange}
+use Rattle.lent.specs.Lent.{flagOf, sessionOctet, rowOctets, rowsOctets, sessionOf, rowOf, rowsOf, IdentitiesInRange}
 use Rattle.lent.specs.Tests.{sessionGood, rowsGood}
 
 pub length-rows : (n : ℕ) (s : List ℕ) → length (rowsOf n s) ≡ n
@@ -40,11 +40,11 @@ pub value-back : (v : ℕ) (r : List ℕ) → valueAt 2 (numberOctets 2 v ++ r) 
 unfolding numberOctets
 value-back v r = omega arith
 
-session-back : (s : Session) → sessionOf (flagOf s) (valueOf s) ≡ s
+session-back : (s : Session) → sessionOf (flagOf s) (sessionOctet s) ≡ s
 session-back (session.Is v) = refl
 session-back session.Absent = refl
 
-row-back : (a : Association) (r : List ℕ) → InRange a → rowOf (rowOctets a ++ r) ≡ a
+row-back : (a : Association) (r : List ℕ) → IdentitiesInRange a → rowOf (rowOctets a ++ r) ≡ a
 unfolding numberOctets
 row-back a r h = λ i. record {
   mme = record { 0 = (value-back (a .mme .0) [] ∙ mod-eq-of-lt (h .mme)) i };
@@ -54,7 +54,7 @@ row-back a r h = λ i. record {
 }
 
 -- only numbers in range are read back
-row-range : (a : Association) (r : List ℕ) → rowOf (rowOctets a ++ r) ≡ a → InRange a
+row-range : (a : Association) (r : List ℕ) → rowOf (rowOctets a ++ r) ≡ a → IdentitiesInRange a
 unfolding numberOctets
 row-range a r e = record {
   mme = omega (arith, value-back (a .mme .0) [], ap (λ (x : Association). x .mme .0) e);
@@ -62,12 +62,12 @@ row-range a r e = record {
 }
 
 module _ (r : List ℕ) where
-  pub rows-back : (l : State) → ((a : Association) → List·Memᴰ a l → InRange a) → rowsOf (length l) (rowsOctets l ++ r) ≡ l
+  pub rows-back : (l : State) → ((a : Association) → List·Memᴰ a l → IdentitiesInRange a) → rowsOf (length l) (rowsOctets l ++ r) ≡ l
   unfolding rowsOf rowsOctets numberOctets
   rows-back [] each = refl
   rows-back (a ∷ l) each = λ i. row-back a (rowsOctets l ++ r) (each a (List·Memᴰ·head refl)) i ∷ rows-back l (λ b m. each b (List·Memᴰ·tail m)) i
 
-  pub rows-range : (l : State) → rowsOf (length l) (rowsOctets l ++ r) ≡ l → (a : Association) → List·Memᴰ a l → InRange a
+  pub rows-range : (l : State) → rowsOf (length l) (rowsOctets l ++ r) ≡ l → (a : Association) → List·Memᴰ a l → IdentitiesInRange a
   unfolding rowsOf rowsOctets numberOctets
   rows-range (b ∷ l) e a (List·Memᴰ·head h) = rw h (row-range b (rowsOctets l ++ r) (cc))
   rows-range (b ∷ l) e a (List·Memᴰ·tail m) = rows-range l (cc) a m
@@ -77,7 +77,7 @@ module _ (r : List ℕ) where
   good-back [] = refl
   good-back (a ∷ l) = rw (good (a .session), good-back l)
     where
-      good : (s : Session) → sessionGood (flagOf s) (valueOf s) ≡ true
+      good : (s : Session) → sessionGood (flagOf s) (sessionOctet s) ≡ true
       good (session.Is v) = refl
       good session.Absent = refl
 
@@ -92,11 +92,11 @@ value-again s at o = λ i. high i ∷ low i ∷ []
     low : valueAt 2 s at / 1 % 256 ≡ getD s (at + 1) 0
     low = omega (arith, o at, o (at + 1))
 
-session-again : (f v : ℕ) → sessionGood f v ≡ true → (flagOf (sessionOf f v) ≡ f) × (valueOf (sessionOf f v) ≡ v)
+session-again : (f v : ℕ) → sessionGood f v ≡ true → (flagOf (sessionOf f v) ≡ f) × (sessionOctet (sessionOf f v) ≡ v)
 session-again f v g = by (eqb f 1) refl (eqb f 0) refl (eqb v 0) refl g
   where
     by : (a : Bool) → eqb f 1 ≡ a → (b : Bool) → eqb f 0 ≡ b → (c : Bool) → eqb v 0 ≡ c → (a || (b && c)) ≡ true →
-        (flagOf (sessionOf f v) ≡ f) × (valueOf (sessionOf f v) ≡ v)
+        (flagOf (sessionOf f v) ≡ f) × (sessionOctet (sessionOf f v) ≡ v)
     by true x true y c z g = absurd (omega (arith, eqb-true f 1 x, eqb-true f 0 y))
     by true x false y c z g = (rw y (sym (eqb-true f 1 x)), rw y)
     by false x true y true z g = (rw y (sym (eqb-true f 0 y)), rw y (sym (eqb-true v 0 z)))

@@ -21,9 +21,9 @@ abbrev pub flagOf : Session → ℕ
 flagOf (session.Is v) = 1
 flagOf session.Absent = 0
 
-abbrev pub valueOf : Session → ℕ
-valueOf (session.Is v) = v
-valueOf session.Absent = 0
+abbrev pub sessionOctet : Session → ℕ
+sessionOctet (session.Is v) = v
+sessionOctet session.Absent = 0
 
 -- a row of 12 octets
 abbrev pub rowOctets : Association → List ℕ
@@ -32,7 +32,7 @@ rowOctets a =
     ++ numberOctets 2 (a .mce .0)
     ++ (a .tmgi .plmn .0 ∷ a .tmgi .plmn .1 ∷ a .tmgi .plmn .2 ∷ [])
     ++ (a .tmgi .service .0 ∷ a .tmgi .service .1 ∷ a .tmgi .service .2 ∷ [])
-    ++ (flagOf (a .session) ∷ valueOf (a .session) ∷ [])
+    ++ (flagOf (a .session) ∷ sessionOctet (a .session) ∷ [])
 
 unfoldable pub rowsOctets : State → List ℕ
 rowsOctets [] = []
@@ -101,11 +101,11 @@ firstRows n s = pick (room s) (rowsOf (min n 256) (drop 2 s)) []
 
 -- ---- what a table can hold
 -- the identities have two octets each
-pub record InRange (a : Association) : Type 0 where
+pub record IdentitiesInRange (a : Association) : Type 0 where
   pub mme : a .mme .0 < 65536
   pub mce : a .mce .0 < 65536
 
 pub record Good (l : State) : Type 0 where
   pub few : length l ≤ 256
   pub apart : distinctHeld l ≡ true
-  pub each : (a : Association) → List·Memᴰ a l → InRange a
+  pub each : (a : Association) → List·Memᴰ a l → IdentitiesInRange a

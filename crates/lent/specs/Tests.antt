@@ -1,4 +1,4 @@
--- What the reader looks at.
+-- Scaffolding: no demand speaks of it. What the reader looks at.
 use mathlib.Core.Path.{_≡_}
 use mathlib.Core.Bool.{Bool, true, false, _&&_, _||_}
 use mathlib.Core.List.{List, [], _∷_}

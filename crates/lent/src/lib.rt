@@ -8,7 +8,7 @@ ghost use lib.ListN.{length, getD, drop};
 ghost use Rattle.lists.specs.Lists.{pick, some, apart};
 ghost use Rattle.identity.specs.declared.Mme.the-variants as mme;
 ghost use Rattle.identity.specs.declared.Mce.the-variants as mce;
-ghost use Rattle.table.specs.Table.{tableOf, names, heldBy, standing, shareMme, shareMce};
+ghost use Rattle.table.specs.Table.{tableHolding, names, heldBy, standing, shareMme, shareMce};
 ghost use Rattle.lent.specs.Lent.{sessionOf, rowOf, rowIn, rowsOf, firstRows, room, readTable, lookedUp};
 ghost use Rattle.lent.specs.Tests.{sessionGood, rowsGood, rowsRight, zeros, OnlyIf, seriesOf};
 ghost use Rattle.lent.specs.declared.Looked.the-variants as looked;
@@ -323,7 +323,7 @@ fn rows_there(s: &[u8], n: usize) -> usize
 
 // The first n rows of octets as many as a table has, whether or not they are one.
 pub fn rows_in(s: &[u8], n: usize) -> Table
-    ensures { λ r. ⌜ r ≡ tableOf (firstRows n (now (s .entry))) ⌝ }
+    ensures { λ r. ⌜ r ≡ tableHolding (firstRows n (now (s .entry))) ⌝ }
 {
     let mut t = table::empty();
     let k = rows_there(s, n);

@@ -19,14 +19,14 @@ use Rattle.verdicts.specs.Verdict.{Understood, understood, every, readOf}
 use Rattle.layout.specs.Record.{recordOctets, recordOut, LentRecord, isRecord, readRecord, written, nameRefused}
 use Rattle.layout.proofs.RecordBack.{held-size, record-back}
 use Rattle.plan.specs.declared.Written.the-variants as plan
-use Rattle.plan.specs.Written.{Writing, kept, front, writtenIn}
+use Rattle.plan.specs.Written.{Writing, kept, inFront, writtenIn}
 use Rattle.round_trips.specs.Ties.{InTypes, ReadAs, Rewritable}
 use Rattle.round_trips.proofs.Accepted.{opened}
 use Rattle.round_trips.proofs.Again.{rewritten}
 use Rattle.round_trips.proofs.Back.{read-back}
 use Rattle.round_trips.proofs.LentDiffer.{Lent, lent-record, in-types, said-shown, lent-differ}
 use Rattle.demands.proofs.Sound.{read-sound}
-use Rattle.link.specs.Link.{Given, given, recorded, readFor, writtenAs, allowedFor, writeFor}
+use Rattle.link.specs.Link.{HandedBack, handedBack, recorded, readFor, writtenAs, allowedFor, writeFor}
 use Rattle.link.proofs.Named.{written-named}
 use Rattle.link.specs.Again.{recordAt, GivesBack, Again}
 use Rattle.reader.proofs.Record.{read-held}
@@ -63,11 +63,11 @@ module _ (ed : Edition) where
   written-again s d o g h =
       rw (whole s d (g .what) o h (g .read), lt-ltb (g .what .what .crit) 3 (root s d (g .what) o h (g .read))) (rewritten ed s g)
 
-  fits-front : (os d : List ℕ) → length os ≤ length d → writtenAs (writtenIn d (octets os)) ≡ given 0 0 (length os) (os ++ drop (length os) d)
+  fits-front : (os d : List ℕ) → length os ≤ length d → writtenAs (writtenIn d (octets os)) ≡ handedBack 0 0 (length os) (os ++ drop (length os) d)
   unfolding writtenIn
   fits-front os d h = rw (le-leb (length os) (length d) h)
 
-  again : (s d e : List ℕ) → Octets s → Rewritable ed s → 2662 ≤ length d → length s ≤ length e → writeFor ed (recordAt ed s d) s e ≡ given 0 0 (length s) (s ++ drop (length s) e)
+  again : (s d e : List ℕ) → Octets s → Rewritable ed s → 2662 ≤ length d → length s ≤ length e → writeFor ed (recordAt ed s d) s e ≡ handedBack 0 0 (length s) (s ++ drop (length s) e)
   unfolding writeFor allowedFor
   again s d e o g h k =
       let w = written-again s d o g h in
@@ -75,25 +75,25 @@ module _ (ed : Edition) where
 
   -- ---- a message that stands in front of the room is what was written
 
-  was-written : (d message : List ℕ) (x : Encoded) → writtenAs (writtenIn d x) ≡ given 0 0 (length message) (message ++ drop (length message) d) → x ≡ octets message
+  was-written : (d message : List ℕ) (x : Encoded) → writtenAs (writtenIn d x) ≡ handedBack 0 0 (length message) (message ++ drop (length message) d) → x ≡ octets message
   unfolding writtenIn
-  was-written d message none q = absurd (omega (arith, ap (λ (g : Given). g .answer .answer) q))
+  was-written d message none q = absurd (omega (arith, ap (λ (g : HandedBack). g .answer .answer) q))
   was-written d message (octets os) q = by (leb (length os) (length d)) q
     where
-      by : (b : Bool) → writtenAs (pick {A = Writing} b (front d os) (kept plan.NoRoom d)) ≡ given 0 0 (length message) (message ++ drop (length message) d) → octets os ≡ octets message
+      by : (b : Bool) → writtenAs (pick {A = Writing} b (inFront d os) (kept plan.NoRoom d)) ≡ handedBack 0 0 (length message) (message ++ drop (length message) d) → octets os ≡ octets message
       by true q =
-          let n : length os ≡ length message = ap (λ (g : Given). g .answer .octets) q in
-          let r : os ++ drop (length os) d ≡ message ++ drop (length message) d = ap (λ (g : Given). g .room) q in
+          let n : length os ≡ length message = ap (λ (g : HandedBack). g .answer .octets) q in
+          let r : os ++ drop (length os) d ≡ message ++ drop (length message) d = ap (λ (g : HandedBack). g .room) q in
           let z : take (length os) (message ++ drop (length message) d) ≡ message = ap (λ (k : ℕ). take k (message ++ drop (length message) d)) n ∙ take-append-seam message (drop (length message) d) in
           ap octets (sym (take-append-seam os (drop (length os) d)) ∙ (ap (take (length os)) r ∙ z))
-      by false q = absurd (omega (arith, ap (λ (g : Given). g .answer .answer) q))
+      by false q = absurd (omega (arith, ap (λ (g : HandedBack). g .answer .answer) q))
 
-  wrote : (s values d message : List ℕ) → writeFor ed s values d ≡ given 0 0 (length message) (message ++ drop (length message) d) → written ed s values ≡ octets message
+  wrote : (s values d message : List ℕ) → writeFor ed s values d ≡ handedBack 0 0 (length message) (message ++ drop (length message) d) → written ed s values ≡ octets message
   unfolding writeFor allowedFor
   wrote s values d message q = by (nameRefused ed s values) q
     where
-      by : (b : Bool) → pick b (given 12 0 0 d) (writtenAs (writtenIn d (written ed s values))) ≡ given 0 0 (length message) (message ++ drop (length message) d) → written ed s values ≡ octets message
-      by true q = absurd (omega (arith, ap (λ (g : Given). g .answer .answer) q))
+      by : (b : Bool) → pick b (handedBack 12 0 0 d) (writtenAs (writtenIn d (written ed s values))) ≡ handedBack 0 0 (length message) (message ++ drop (length message) d) → written ed s values ≡ octets message
+      by true q = absurd (omega (arith, ap (λ (g : HandedBack). g .answer .answer) q))
       by false q = was-written d message (written ed s values) q
 
   -- ---- what was written is read back
@@ -105,7 +105,7 @@ module _ (ed : Edition) where
     read : ReadAs ed message (saidBy values (r .what))
     read = read-back ed (saidBy values (r .what)) message g (r .message)
 
-    answer-back : readFor ed message e .answer ≡ given 0 0 2662 e .answer
+    answer-back : readFor ed message e .answer ≡ handedBack 0 0 2662 e .answer
     unfolding readFor recorded
     answer-back = rw (read .read, read .accepted, le-leb 2662 (length e) h)
 

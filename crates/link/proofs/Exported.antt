@@ -13,11 +13,11 @@ use lib.Seq.{take-append-seam, drop-append-seam}
 use Rattle.octets.specs.Stands.{Octets}
 use Rattle.editions.specs.declared.Edition.the-variants.{Release18}
 use Rattle.calls.specs.Call.{Call, call}
-use Rattle.demands.specs.Answered.{Handed as HandedOver}
+use Rattle.demands.specs.Answered.{Handed}
 use Rattle.demands.proofs.Demand.{demand-1}
 use Rattle.demands.proofs.Bench.{demand-2}
 use Rattle.link.specs.declared.Answer.{Answer}
-use Rattle.link.specs.Link.{Handed}
+use Rattle.link.specs.Link.{CallHanded}
 use Rattle.link.specs.Promised.{lent, Promised}
 use Rattle.link.proofs.Sizes.{place-inside}
 use Rattle.link.proofs.m3ap_call.Kinds as m3ap-call'
@@ -25,13 +25,13 @@ use Rattle.link.proofs.m3ap_call.Reads as m3ap-call
 
 module _ (t m : List ℕ) (o : ℕ) (d : List ℕ) where
   -- of what the statement says
-  promised : (r : Answer) (t′ d′ : List ℕ) → Handed (call Release18 t (lent t m o d)) r t′ d′ → Promised t m o d r t′ d′
+  promised : (r : Answer) (t′ d′ : List ℕ) → CallHanded (call Release18 t (lent t m o d)) r t′ d′ → Promised t m o d r t′ d′
   promised r t′ d′ e =
       let c : Call = lent t m o d in
       let a = demand-1 Release18 .answered t c in
       let n = e .octets in
       let front : take (r .octets) d′ ≡ call Release18 t c .reply = rw (e .octets, e .room, a .room) (take-append-seam (call Release18 t c .reply) (drop (length (call Release18 t c .reply)) d)) in
-      let whole : Octets t → Octets m → o < 65536 → HandedOver t c = λ x y z. record { unit = x; message = y; offered = z } in
+      let whole : Octets t → Octets m → o < 65536 → Handed t c = λ x y z. record { unit = x; message = y; offered = z } in
       record {
         answer = e .answer ∙ demand-2 .exactly Release18 t c;
         replies = λ x y z. rw front (demand-2 .replies Release18 t c (whole x y z));

@@ -35,7 +35,7 @@ use Rattle.entries.proofs.Bounds as entry-bounds
 use Rattle.diagnostics.proofs.Bounds as bounds
 use Rattle.rows.specs.declared.Kind.{Kind}
 use Rattle.rows.specs.declared.Kind.the-variants as kind
-use Rattle.kinds.specs.Kinds.{valueAt}
+use Rattle.kinds.specs.Kinds.{legibleAt}
 use Rattle.rows.specs.declared.Row.{Row}
 use Rattle.rows.specs.Table.{kindOf, meanings}
 use Rattle.envelopes.specs.Envelope.{criticalityAt, envelopeAt, scanAt}
@@ -208,16 +208,16 @@ module _ (n : ℕ) (s : List ℕ) (l : length s ≤ n) (at : ℕ) (i : at ≤ n)
 
 module _ (n : ℕ) (s : List ℕ) (l : length s ≤ n) where
   module _ {A : Type 0} (is : ℕ → A) (absent : A) where
-    maybe-near : (b : Bool) (at : ℕ) → at ≤ n → Near n (item.maybeAt is absent b s at)
+    maybe-near : (b : Bool) (at : ℕ) → at ≤ n → Near n (item.maybeIdentityAt is absent b s at)
     maybe-near false at i = tt
     maybe-near true at i = near-then n (numberAt 2 s at) _ (number-near n s at i 2) (λ v q. tt)
 
-    maybe-ends : (b : Bool) (at : ℕ) {x : A} → at ≤ n → got x ≡ item.maybeAt is absent b s at → item.behind b at ≤ n
+    maybe-ends : (b : Bool) (at : ℕ) {x : A} → at ≤ n → got x ≡ item.maybeIdentityAt is absent b s at → item.behind b at ≤ n
     maybe-ends false at i q = i
     maybe-ends true at i q = let a = then-got (numberAt 2 s at) _ q in let h = number-got s at 2 (a .1) .0 in omega arith
 
-  marks-near : (at : ℕ) → at ≤ n → Near n (item.marksAt s at)
-  unfolding item.marksAt
+  marks-near : (at : ℕ) → at ≤ n → Near n (item.itemMarksAt s at)
+  unfolding item.itemMarksAt
   marks-near at i =
       near-then n (plainAt s at 0) _ (plain-near n s at i 0) (λ a q.
       near-then n (flagAt s at 1) _ (flag-near n s at i 1) (λ b r.
@@ -228,9 +228,9 @@ module _ (n : ℕ) (s : List ℕ) (l : length s ≤ n) where
   item-near : (at : ℕ) → at ≤ n → Near n (item.itemAt s at)
   unfolding item.itemAt
   item-near at i =
-      near-then n (item.marksAt s at) _ (marks-near at i) (λ h q. let k = within.marks-in s at q in let j : at + 1 ≤ n = omega arith in
-      near-then n (item.mmeAt (h .mme) s (at + 1)) _ (maybe-near item.mmeIs mme.Absent (h .mme) (at + 1) j) (λ x r. let u = maybe-ends item.mmeIs mme.Absent (h .mme) (at + 1) j r in
-      near-then n (item.mceAt (h .mce) s (item.behind (h .mme) (at + 1))) _ (maybe-near item.mceIs mce.Absent (h .mce) (item.behind (h .mme) (at + 1)) u) (λ y v.
+      near-then n (item.itemMarksAt s at) _ (marks-near at i) (λ h q. let k = within.marks-in s at q in let j : at + 1 ≤ n = omega arith in
+      near-then n (item.maybeMmeAt (h .mme) s (at + 1)) _ (maybe-near item.mmeIs mme.Absent (h .mme) (at + 1) j) (λ x r. let u = maybe-ends item.mmeIs mme.Absent (h .mme) (at + 1) j r in
+      near-then n (item.maybeMceAt (h .mce) s (item.behind (h .mme) (at + 1))) _ (maybe-near item.mceIs mce.Absent (h .mce) (item.behind (h .mme) (at + 1)) u) (λ y v.
       near-then n (endsAt s (item.behind (h .mce) (item.behind (h .mme) (at + 1)))) _
       (ends-near n s (item.behind (h .mce) (item.behind (h .mme) (at + 1))) (maybe-ends item.mceIs mce.Absent (h .mce) (item.behind (h .mme) (at + 1)) u v)) (λ e w. tt))))
 
@@ -266,7 +266,7 @@ module _ (n : ℕ) (s : List ℕ) (l : length s ≤ n) where
       near-then n (many (item.itemElementAt s) (k + 1) (at + 1)) _ (many-near n (item.itemElementAt s) element-near element-ends (k + 1) (at + 1) j) (λ is r.
       near-then n (endsAt s (is .next)) _ (ends-near n s (is .next) (many-ends n (item.itemElementAt s) element-ends (k + 1) (at + 1) is j r)) (λ x u. tt)))
 
-  reset-by-near : (b : Bool) (at : ℕ) → at + 1 ≤ n → Near n (items.resetBy b s at)
+  reset-by-near : (b : Bool) (at : ℕ) → at + 1 ≤ n → Near n (items.chosenResetAt b s at)
   reset-by-near false at i =
       near-then n (plainAt s at 2) _ (plain-near n s at (omega arith) 2) (λ a q.
       near-then n (padAt s at 3) _ (pad-near n s at (omega arith) 3) (λ b r.
@@ -411,8 +411,8 @@ module _ (n : ℕ) (s : List ℕ) (l : length s ≤ n) where
 -- ---- elements
 
 module _ (n : ℕ) (s : List ℕ) (l : length s ≤ n) where
-  value-near : (k : Kind) (at : ℕ) → at ≤ n → Near n (valueAt k s at)
-  unfolding valueAt
+  value-near : (k : Kind) (at : ℕ) → at ≤ n → Near n (legibleAt k s at)
+  unfolding legibleAt
   value-near kind.Carried at i = tt
   value-near kind.Mme at i = near-then n (mmeAt s at) _ (mme-near n s l at i) (λ v q. tt)
   value-near kind.Mce at i = near-then n (mceAt s at) _ (mce-near n s l at i) (λ v q. tt)
@@ -448,7 +448,7 @@ module _ (n : ℕ) (s : List ℕ) (l : length s ≤ n) (t : List Row) where
   scan-near zero at i = tt
   scan-near (suc k) at i =
       near-then n (envelopeAt s at) _ (envelope-near n s l at i) (λ h q. let e = envelope-in s at q in let f = e .1 in let g = e .2 in
-      near-then n (valueAt (kindOf t (h .id)) (take (h .value .to) s) (h .value .from)) _
+      near-then n (legibleAt (kindOf t (h .id)) (take (h .value .to) s) (h .value .from)) _
       (value-near n (take (h .value .to) s) (cut-short n s (h .value .to) l) (kindOf t (h .id)) (h .value .from) (omega arith)) (λ a r.
       scan-near k (h .value .to) (omega arith)))
 
@@ -458,7 +458,7 @@ module _ (n : ℕ) (s : List ℕ) (l : length s ≤ n) (t : List Row) where
   scan-in zero at i q = rw (← same-got q) at i
   scan-in (suc k) at i q =
       let a = then-got (envelopeAt s at) _ q in
-      let b = then-got (valueAt (kindOf t (a .0 .id)) (take (a .0 .value .to) s) (a .0 .value .from)) _ (a .2) in
+      let b = then-got (legibleAt (kindOf t (a .0 .id)) (take (a .0 .value .to) s) (a .0 .value .from)) _ (a .2) in
       let e = envelope-in s at (a .1) .2 in
       scan-in k (a .0 .value .to) (omega arith) (b .2)
 

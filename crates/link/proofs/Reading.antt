@@ -16,13 +16,13 @@ use Rattle.verdicts.specs.Verdict.{Verdict, refused, understood, every, readOf}
 use Rattle.layout.specs.Record.{written}
 use Rattle.plan.specs.declared.Written.{Written}
 use Rattle.plan.specs.declared.Written.the-variants as plan
-use Rattle.plan.specs.Written.{answerOf, putOf, Writing, writtenIn, Writes}
+use Rattle.plan.specs.Written.{writtenNumber, putOf, Writing, writtenIn, Writes}
 use Rattle.round_trips.proofs.LentDiffer.{lent-record}
 use Rattle.reader.specs.declared.Reading.{Reading}
 use Rattle.reader.specs.declared.Reading.the-variants as reading
 use Rattle.reader.specs.Reader.{answerTo, Answers}
 use Rattle.link.specs.declared.Answer.{Answer}
-use Rattle.link.specs.Link.{refusalNumber, refusalPlace, outcomeNumber, recorded, readAs, readFor, allowedFor, Put}
+use Rattle.link.specs.Link.{refusalNumber, refusalPlace, outcomeNumber, recorded, verdictAs, readFor, allowedFor, Put}
 use Rattle.link.proofs.Sizes.{PlacedBy, read-placed, encoded-small}
 
 -- ---- reading
@@ -41,12 +41,12 @@ answer-small : (v : Verdict) (n : ℕ) → PlacedBy 8192 v → Small (answerTo v
 answer-small (refused x) n h = h
 answer-small (understood u) n h = on-pick Small (leb 2662 n) tt tt
 
-in-numbers : (k : Edition) (d : List ℕ) (v : Verdict) {r : Reading} {m : List ℕ} → Answers k v d r m → Put (readAs k d v) (numbersOf r) m
+in-numbers : (k : Edition) (d : List ℕ) (v : Verdict) {r : Reading} {m : List ℕ} → Answers k v d r m → Put (verdictAs k d v) (numbersOf r) m
 unfolding recorded
 in-numbers k d (refused x) h = record { answer = ap numbersOf (h .0); room = h .1 }
 in-numbers k d (understood u) {r} {m} h = by (leb 2662 (length d)) refl
   where
-    by : (b : Bool) → leb 2662 (length d) ≡ b → Put (readAs k d (understood u)) (numbersOf r) m
+    by : (b : Bool) → leb 2662 (length d) ≡ b → Put (verdictAs k d (understood u)) (numbersOf r) m
     by true q = let z = rw q at h in rw q (record { answer = ap numbersOf (z .0); room = z .1 })
     by false q = let z = rw q at h in rw q (record { answer = ap numbersOf (z .0); room = z .1 })
 
@@ -81,8 +81,8 @@ module _ (k : Edition) (s values d : List ℕ) {x : Written} {m : List ℕ} (h :
       omega arith
 
   -- as x says
-  pub put-written : {y : Written} → x ≡ y → {a : Answer} → a ≡ record { answer = answerOf y; place = 0; octets = putOf y; bit = 0; wait = 0 } → Put (allowedFor k s values d) a m
+  pub put-written : {y : Written} → x ≡ y → {a : Answer} → a ≡ record { answer = writtenNumber y; place = 0; octets = putOf y; bit = 0; wait = 0 } → Put (allowedFor k s values d) a m
   unfolding allowedFor
   put-written {y} e {a} q =
       let z : y ≡ writtenIn d (written k s values) .answer = sym e ∙ h .answer in
-      record { answer = q ∙ ap (λ (w : Written). record { answer = answerOf w; place = 0; octets = putOf w; bit = 0; wait = 0 }) z; room = h .room }
+      record { answer = q ∙ ap (λ (w : Written). record { answer = writtenNumber w; place = 0; octets = putOf w; bit = 0; wait = 0 }) z; room = h .room }

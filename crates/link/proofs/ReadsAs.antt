@@ -28,7 +28,7 @@ use Rattle.requests.specs.declared.Seen.{Seen}
 use Rattle.requests.specs.Requests.{askOf, seen}
 use Rattle.demands.specs.Due.{Due, none, _when_reply_, firstDue, notAccepted, Inside, MaybeInside, inside, countedBy, judgedIn, insideOf, insideBy}
 use Rattle.demands.proofs.Answers.{inside-is}
-use Rattle.link.specs.Link.{given, outcomeNumber, recorded, readAs, readFor}
+use Rattle.link.specs.Link.{handedBack, outcomeNumber, recorded, verdictAs, readFor}
 use Rattle.link.specs.ReadsAs.{readRefusals, readDueFor, ReadsAs}
 
 -- what is due behind the first row
@@ -48,7 +48,7 @@ module _ (e : Edition) where
     due i = behind d (got f) i .number
 
     judged-due : (b : Bool) (x : Outcome) (r : Record)
-        → pick b (given (outcomeNumber x) 0 2662 (recordOut e r d)) (given 10 0 0 d) .answer .answer
+        → pick b (handedBack (outcomeNumber x) 0 2662 (recordOut e r d)) (handedBack 10 0 0 d) .answer .answer
         ≡ firstDue (0 when true reply none) (10 when not b reply none ∷ 5 when notAccepted x reply none ∷ []) .number
     judged-due true outcome.Accepted r = refl
     judged-due true (outcome.Misplaced k) r = refl
@@ -68,18 +68,18 @@ module _ (e : Edition) where
       stopped o q = sym (ap (λ (n : Named). due (insideOf e s f n)) name ∙ ap (λ (x : Read Opening). due (opening within x)) q)
 
       opened : (o : Read Opening) → openedAt (tableOf e m) (containerOf e m) s (f .from) ≡ o
-          → readAs e d (verdictOf (tableOf e m) m f s o) .answer .answer ≡ due (insideBy e s (got f))
+          → verdictAs e d (verdictOf (tableOf e m) m f s o) .answer .answer ≡ due (insideBy e s (got f))
       opened (got o) q =
           judged o (askOf m) (o .outcome) (seen (valuesIn (tableOf e m) s (o .spans))) (understoodBy (tableOf e m) m f s o .what)
           ∙ sym (ap due (inside-is e s f m name o q))
       opened (stop (Fault p)) q = stopped (stop (Fault p)) q
       opened (stop (Extension p)) q = stopped (stop (Extension p)) q
 
-    by-name : (n : Named) → namedBy e (f .kind) (f .code) ≡ n → readAs e d (ofThose e every s f n) .answer .answer ≡ due (insideBy e s (got f))
+    by-name : (n : Named) → namedBy e (f .kind) (f .code) ≡ n → verdictAs e d (ofThose e every s f n) .answer .answer ≡ due (insideBy e s (got f))
     by-name (named.Is m) name = opened m name (openedAt (tableOf e m) (containerOf e m) s (f .from)) refl
     by-name named.Other name = sym (ap (λ (n : Named). due (insideOf e s f n)) name)
 
-  framed-as : (s d : List ℕ) (r : Read Frame) → readAs e d (framed e every s r) .answer .answer ≡ behind d r (insideBy e s r) .number
+  framed-as : (s d : List ℕ) (r : Read Frame) → verdictAs e d (framed e every s r) .answer .answer ≡ behind d r (insideBy e s r) .number
   framed-as s d (got f) = by-name s d f (namedBy e (f .kind) (f .code)) refl
   framed-as s d (stop (Fault p)) = refl
   framed-as s d (stop (Extension p)) = refl
@@ -88,9 +88,9 @@ module _ (e : Edition) where
   unfolding readFor readOf
   reads-as s d = by (ltb 8192 (length s)) refl
     where
-      by : (b : Bool) → ltb 8192 (length s) ≡ b → readAs e d (pick (ltb 8192 (length s)) (refused refusal.TooLong) (framed e every s (frameAt s))) .answer .answer
+      by : (b : Bool) → ltb 8192 (length s) ≡ b → verdictAs e d (pick (ltb 8192 (length s)) (refused refusal.TooLong) (framed e every s (frameAt s))) .answer .answer
           ≡ readDueFor s (frameAt s) (insideBy e s (frameAt s)) d .number
-      by true z = ap (λ (b : Bool). readAs e d (pick b (refused refusal.TooLong) (framed e every s (frameAt s))) .answer .answer) z ∙ sym (first-is s d (frameAt s) (insideBy e s (frameAt s)) true z)
+      by true z = ap (λ (b : Bool). verdictAs e d (pick b (refused refusal.TooLong) (framed e every s (frameAt s))) .answer .answer) z ∙ sym (first-is s d (frameAt s) (insideBy e s (frameAt s)) true z)
       by false z =
-          ap (λ (b : Bool). readAs e d (pick b (refused refusal.TooLong) (framed e every s (frameAt s))) .answer .answer) z
+          ap (λ (b : Bool). verdictAs e d (pick b (refused refusal.TooLong) (framed e every s (frameAt s))) .answer .answer) z
           ∙ (framed-as s d (frameAt s) ∙ sym (first-is s d (frameAt s) (insideBy e s (frameAt s)) false z))

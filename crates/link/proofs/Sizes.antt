@@ -51,7 +51,7 @@ use Rattle.carry.specs.declared.Answer.{Answer}
 use Rattle.calls.specs.Call.{Call, answerOf, settledIf, fits, settled, decidedOn, onUnit, call}
 use Rattle.unit.specs.Unit.{Called}
 use Rattle.unit.specs.declared.Back as unit
-use Rattle.link.specs.Link.{Handed, refusalPlace}
+use Rattle.link.specs.Link.{CallHanded, refusalPlace}
 use Rattle.link.proofs.Near.{Near, opened-near, frame-near, frame-in}
 
 -- ---- verdicts
@@ -205,7 +205,7 @@ module _ (e : Edition) (t : List ℕ) (c : Call) {r : unit.Back} {t′ d′ : Li
   octets-fit = let s = reply-small e t c in rw (h .octets) (omega arith)
 
   pub handed : (k p w : ℕ) → k ≡ numbered (r .answer) .number → p ≡ numbered (r .answer) .place → w ≡ numbered (r .answer) .wait
-      → Handed (call e t c) (record { answer = k; place = p; octets = r .octets; bit = 0; wait = w }) t′ d′
+      → CallHanded (call e t c) (record { answer = k; place = p; octets = r .octets; bit = 0; wait = w }) t′ d′
   handed k p w q f g = record {
     answer = rw (q, h .answer);
     place = rw (f, h .answer) (omega arith);

@@ -31,7 +31,7 @@ use Rattle.meaning.specs.Written.{Encoded, octets, none}
 use Rattle.layout.specs.Record.{Lists, slotSays, slotsSay, listsIn, recordOctets, saidRecord, LentRecord, lentAs, readRecord, badName, nameRefusedBy, nameRefused, written}
 use Rattle.lent.specs.Lent.{same}
 use Rattle.plan.specs.Written.{Writing, writtenIn}
-use Rattle.link.specs.Link.{given, writtenAs, allowedFor, writeFor}
+use Rattle.link.specs.Link.{handedBack, writtenAs, allowedFor, writeFor}
 use Rattle.link.specs.Warnings.{Profile, ExtensionsUnknown, OnlyTwo, OverSbcap}
 use Rattle.link.proofs.Again.{over-records}
 use Rattle.link.proofs.ReadsAs.{reads-as}

@@ -24,7 +24,7 @@ use Rattle.link.specs.declared.Answer.{Answer}
 use Rattle.link.specs.declared.Part as own
 
 -- what a call comes back with, in numbers: the number and place of the answer, the reply's length, how long to wait, and what is left in the unit and the room
-pub record Handed (b : Back) (r : Answer) (t d : List ℕ) : Type 0 where
+pub record CallHanded (b : Back) (r : Answer) (t d : List ℕ) : Type 0 where
   pub answer : r .answer ≡ numbered (b .answer) .number
   pub place : r .place ≡ numbered (b .answer) .place
   pub octets : r .octets ≡ length (b .reply)
@@ -36,12 +36,12 @@ pub record Handed (b : Back) (r : Answer) (t d : List ℕ) : Type 0 where
 -- ---- reading and writing
 
 -- an answer in numbers, and what is left in the room
-pub record Given : Type 0 where
+pub record HandedBack : Type 0 where
   pub answer : Answer
   pub room : List ℕ
 
-abbrev pub given : ℕ → ℕ → ℕ → List ℕ → Given
-given n place octets d = record { answer = record { answer = n; place = place; octets = octets; bit = 0; wait = 0 }; room = d }
+abbrev pub handedBack : ℕ → ℕ → ℕ → List ℕ → HandedBack
+handedBack n place octets d = record { answer = record { answer = n; place = place; octets = octets; bit = 0; wait = 0 }; room = d }
 
 -- 01's number of a refusal, and the octet at fault
 abbrev pub refusalNumber : Refusal → ℕ
@@ -63,30 +63,30 @@ outcomeNumber (Misplaced k) = 5
 outcomeNumber Rejected = 5
 
 -- the record stands in front of the room, or does not fit
-unfoldable pub recorded : Edition → ℕ → Record → List ℕ → Given
-recorded e n r d = pick (leb 2662 (length d)) (given n 0 2662 (recordOut e r d)) (given 10 0 0 d)
+unfoldable pub recorded : Edition → ℕ → Record → List ℕ → HandedBack
+recorded e n r d = pick (leb 2662 (length d)) (handedBack n 0 2662 (recordOut e r d)) (handedBack 10 0 0 d)
 
 -- there is a record where the message was understood, its elements rejected or not
-abbrev pub readAs : Edition → List ℕ → Verdict → Given
-readAs e d (refused x) = given (refusalNumber x) (refusalPlace x) 0 d
-readAs e d (understood u) = recorded e (outcomeNumber (u .outcome)) (u .what) d
+abbrev pub verdictAs : Edition → List ℕ → Verdict → HandedBack
+verdictAs e d (refused x) = handedBack (refusalNumber x) (refusalPlace x) 0 d
+verdictAs e d (understood u) = recorded e (outcomeNumber (u .outcome)) (u .what) d
 
-unfoldable pub readFor : Edition → List ℕ → List ℕ → Given
-readFor e s d = readAs e d (readOf e every s)
+unfoldable pub readFor : Edition → List ℕ → List ℕ → HandedBack
+readFor e s d = verdictAs e d (readOf e every s)
 
-abbrev pub writtenAs : Writing → Given
-writtenAs w = given (plan.answerOf (w .answer)) 0 (plan.putOf (w .answer)) (w .room)
+abbrev pub writtenAs : Writing → HandedBack
+writtenAs w = handedBack (plan.writtenNumber (w .answer)) 0 (plan.putOf (w .answer)) (w .room)
 
-unfoldable pub allowedFor : Edition → List ℕ → List ℕ → List ℕ → Given
+unfoldable pub allowedFor : Edition → List ℕ → List ℕ → List ℕ → HandedBack
 allowedFor e s values d = writtenAs (writtenIn d (written e s values))
 
 -- 12 comes before 11 and 10
-unfoldable pub writeFor : Edition → List ℕ → List ℕ → List ℕ → Given
-writeFor e s values d = pick (nameRefused e s values) (given 12 0 0 d) (allowedFor e s values d)
+unfoldable pub writeFor : Edition → List ℕ → List ℕ → List ℕ → HandedBack
+writeFor e s values d = pick (nameRefused e s values) (handedBack 12 0 0 d) (allowedFor e s values d)
 
 -- what a setup comes back with, in numbers
 pub record SetupHanded (b : SetupDone) (r : Answer) (t d : List ℕ) : Type 0 where
-  pub answer : r ≡ given (setupNumber (b .answer)) 0 (length (b .request)) d .answer
+  pub answer : r ≡ handedBack (setupNumber (b .answer)) 0 (length (b .request)) d .answer
   pub unit : t ≡ b .unit
   pub room : d ≡ b .room
 
@@ -95,6 +95,6 @@ abbrev pub partFor : Part → own.Part
 partFor p = record { «of_label» = pick (p .«of_label») 1 0; from = p .span .from; octets = p .span .to - p .span .from }
 
 -- this answer, and this room at exit
-pub record Put (g : Given) (r : Answer) (d : List ℕ) : Type 0 where
+pub record Put (g : HandedBack) (r : Answer) (d : List ℕ) : Type 0 where
   pub answer : r ≡ g .answer
   pub room : d ≡ g .room

@@ -10,17 +10,17 @@ use Rattle.octets.specs.Read.{Read}
 use Rattle.frames.specs.declared.Frame.{Frame}
 use Rattle.frames.specs.Frame.{frameAt}
 use Rattle.editions.specs.declared.Edition.{Edition}
-use Rattle.demands.specs.Due.{Due, none, _when_reply_, firstDue, faulty, extended, of, notAccepted, MaybeInside, insideBy}
+use Rattle.demands.specs.Due.{Due, none, _when_reply_, firstDue, faulty, extensionMet, of, notAccepted, MaybeInside, insideBy}
 use Rattle.link.specs.Link.{readFor}
 
 -- of a message's frame, what is inside it, and the lent room
 abbrev pub readRefusals : Read Frame → MaybeInside → List ℕ → List Due
 readRefusals f i d =
     2 when faulty f reply none
-    ∷ 3 when extended f reply none
+    ∷ 3 when extensionMet f reply none
     ∷ 4 when not (of (λ x. true) i) reply none
     ∷ 2 when of (λ x. faulty (x .opened)) i reply none
-    ∷ 3 when of (λ x. extended (x .opened)) i reply none
+    ∷ 3 when of (λ x. extensionMet (x .opened)) i reply none
     ∷ 10 when not (leb 2662 (length d)) reply none
     ∷ 5 when of (λ x. notAccepted (x .outcome)) i reply none ∷ []
 

@@ -5,7 +5,7 @@ ghost use Prim.Native.Nat.{_≤_};
 ghost use Rattle.lists.specs.Lists.{pick};
 ghost use Rattle.calls.specs.Call.{call};
 ghost use Rattle.editions.specs.declared.Edition.the-variants.{Release18, Warnings, WarningsLab};
-ghost use Rattle.link.specs.Link.{Handed, refusalNumber, refusalPlace, readFor, allowedFor, writeFor, SetupHanded, partFor, Put};
+ghost use Rattle.link.specs.Link.{CallHanded, refusalNumber, refusalPlace, readFor, allowedFor, writeFor, SetupHanded, partFor, Put};
 ghost use Rattle.setup.specs.Setup.{setup};
 ghost use Rattle.shown.specs.Shown.{shownPart};
 use editions::Edition;
@@ -43,7 +43,7 @@ pub extern "C" fn m3ap_call(
     offered: u16,
     room: &mut [u8],
 ) -> Answer
-    ensures { λ r. ⌜ Handed (call Release18 (now (unit .entry)) (record { message = now (message .entry); offered = record { 0 = offered }; room = now (room .entry) })) r (now (unit .exit)) (now (room .exit)) ⌝ }
+    ensures { λ r. ⌜ CallHanded (call Release18 (now (unit .entry)) (record { message = now (message .entry); offered = record { 0 = offered }; room = now (room .entry) })) r (now (unit .exit)) (now (room .exit)) ⌝ }
 {
     let b = unit::call(Edition::Release18, unit, message, MceId(offered), room);
     let a = b.answer;

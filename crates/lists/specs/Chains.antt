@@ -1,4 +1,4 @@
--- Places in slots, chained: each names the one before it in the same slot. A place is named by one more than itself, and 0 names none.
+-- Scaffolding: no demand speaks of it. Places in slots, chained: each names the one before it in the same slot. A place is named by one more than itself, and 0 names none.
 use mathlib.Core.Path.{_≡_}
 use mathlib.Core.List.{List}
 use Prim.Native.Nat.{ℕ, zero, suc, _<_}

@@ -13,7 +13,7 @@ use Rattle.values.specs.Written.{mmeOctets, mceOctets, oneOctets, twoOctets, tm
 use Rattle.names.specs.Names.{nameAllowed}
 use Rattle.names.specs.Written.{nameOctets}
 use Rattle.items.specs.Items.{ResetType, whole, part}
-use Rattle.items.specs.Written.{ignore, itemsOctets, resetOctets}
+use Rattle.items.specs.Written.{acknowledgementCrit, itemsOctets, resetOctets}
 use Rattle.diagnostics.specs.declared.Number.{Number}
 use Rattle.diagnostics.specs.declared.Number.the-variants as number
 use Rattle.entries.specs.declared.Entry.{Entry}
@@ -41,16 +41,16 @@ octetsOf (cause v) = causeOctets v
 octetsOf (wait v) = waitOctets v
 octetsOf (name os) = nameOctets os
 octetsOf (reset v) = resetOctets v
-octetsOf (list is) = itemsOctets ignore is
+octetsOf (list is) = itemsOctets acknowledgementCrit is
 octetsOf (diagnostics t d) = diagnosticsOctets d
 
 -- a list has 1 to 256
-abbrev pub counted : ℕ → Bool
-counted n = ltb 0 n && leb n 256
+abbrev pub isListLength : ℕ → Bool
+isListLength n = ltb 0 n && leb n 256
 
 abbrev pub resetGood : ResetType → Bool
 resetGood whole = true
-resetGood (part is) = counted (length is)
+resetGood (part is) = isListLength (length is)
 
 -- a number, if it is there, has one of n meanings
 abbrev pub under : ℕ → Number → Bool
@@ -61,7 +61,7 @@ abbrev pub entryGood : Entry → Bool
 entryGood e = ltb (e .crit) 3 && ltb (e .error) 2
 
 abbrev pub entriesGood : List Entry → Bool
-entriesGood es = counted (length es) && not (some (λ (e : Entry). not (entryGood e)) es)
+entriesGood es = isListLength (length es) && not (some (λ (e : Entry). not (entryGood e)) es)
 
 -- the triggering message has n meanings
 abbrev pub diagnosticsGood : ℕ → Diagnostics → Bool
@@ -79,7 +79,7 @@ hasOctets (cause c) = ltb (c .value) (rootOf (c .group))
 hasOctets (wait v) = ltb v 6
 hasOctets (name os) = nameAllowed os
 hasOctets (reset r) = resetGood r
-hasOctets (list is) = counted (length is)
+hasOctets (list is) = isListLength (length is)
 hasOctets (diagnostics t d) = diagnosticsGood (meanings t) d
 
 -- ---- a message

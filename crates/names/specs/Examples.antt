@@ -9,16 +9,16 @@ use Rattle.octets.specs.declared.Stop.{Stop}
 use Rattle.names.specs.Names.{printable, nameAt}
 use Rattle.names.specs.Written.{nameOctets}
 
-pub record Example : Type 0 where
+pub record NameExample : Type 0 where
   pub octets : List ℕ
   pub name : List ℕ
 
-pub record Refusal : Type 0 where
+pub record RefusedName : Type 0 where
   pub octets : List ℕ
   pub reason : Stop
 
-abbrev pub examples : List Example
-examples =
+abbrev pub nameExamples : List NameExample
+nameExamples =
     -- V
     record { octets = 0x00 ∷ 0x00 ∷ 0x56 ∷ []; name = 0x56 ∷ [] }
     -- AB: the last bit of the length stands in the next octet
@@ -28,8 +28,8 @@ examples =
     ∷ record { octets = 0x4A ∷ 0x00 ∷ replicate 149 0x41; name = replicate 149 0x41 }
     ∷ []
 
-abbrev pub refusals : List Refusal
-refusals =
+abbrev pub refusedNames : List RefusedName
+refusedNames =
     -- AB@: the third character
     record { octets = 0x01 ∷ 0x00 ∷ 0x41 ∷ 0x42 ∷ 0x40 ∷ []; reason = noMeaning 4 }
     -- 151 characters: the length
@@ -58,10 +58,10 @@ below zero = []
 below (suc n) = n ∷ below n
 
 -- each is written as its octets and read back whole; each refusal stops where it says; what is no name has no octets; there are 74 characters
-abbrev pub Hold : Type 0
-Hold =
-    (map (λ (e : Example). nameOctets (e .name)) examples ≡ map (λ (e : Example). e .octets) examples)
-    × (map (λ (e : Example). nameAt (e .octets) 0) examples ≡ map (λ (e : Example). got (record { from = 2; to = 2 + length (e .name) })) examples)
-    × (map (λ (r : Refusal). nameAt (r .octets) 0) refusals ≡ map (λ (r : Refusal). stop (r .reason)) refusals)
+abbrev pub NamesHold : Type 0
+NamesHold =
+    (map (λ (e : NameExample). nameOctets (e .name)) nameExamples ≡ map (λ (e : NameExample). e .octets) nameExamples)
+    × (map (λ (e : NameExample). nameAt (e .octets) 0) nameExamples ≡ map (λ (e : NameExample). got (record { from = 2; to = 2 + length (e .name) })) nameExamples)
+    × (map (λ (r : RefusedName). nameAt (r .octets) 0) refusedNames ≡ map (λ (r : RefusedName). stop (r .reason)) refusedNames)
     × (map nameOctets noNames ≡ map (λ (os : List ℕ). []) noNames)
     × (length (keep printable (below 256)) ≡ 74)

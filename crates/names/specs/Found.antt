@@ -1,4 +1,4 @@
--- The reader's answer, as a reading.
+-- Scaffolding: no demand speaks of it. The reader's answer, as a reading.
 use Rattle.octets.specs.Read.{Read, got, stop}
 use Rattle.octets.specs.declared.Span.{Span}
 use Rattle.names.specs.declared.NameRead.{NameRead}

@@ -1,4 +1,4 @@
--- The readers' answers, as readings.
+-- Scaffolding: no demand speaks of it. The readers' answers, as readings.
 use Prim.Native.Nat.{ℕ}
 use mathlib.Core.Bool.{Bool}
 use mathlib.Core.List.{List, [], _∷_}

@@ -1,5 +1,6 @@
 -- What reading gives: a value, or why and where it stopped. Readings one after another: the first stop is the stop of all.
 use Prim.Native.Nat.{ℕ}
+use mathlib.Core.List.{List, []}
 use Rattle.octets.specs.declared.Stop.{Stop}
 use Rattle.octets.specs.declared.Stop.the-variants.{Fault, Extension}
 
@@ -15,6 +16,15 @@ _>>=_ (stop x) go = stop x
 
 abbrev pub _>>_ : {A B : Type 0} → Read A → Read B → Read B
 _>>_ x y = x >>= λ _. y
+
+-- whether something can be read
+abbrev pub checked : {A : Type 0} → Read A → Read Unit
+checked r = r >> got tt
+
+-- the list that was read; none where reading stopped
+abbrev pub orNone : {A : Type 0} → Read (List A) → List A
+orNone (got l) = l
+orNone (stop x) = []
 
 -- Where a stop lies: in the octet in which the field begins. These four decide it, and nothing else does.
 

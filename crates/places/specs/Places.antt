@@ -1,4 +1,4 @@
--- Where values stand, as numbers: for each row where its value begins and where it ends, and 0 and 0 where it has none.
+-- Scaffolding: no demand speaks of it. Where values stand, as numbers: for each row where its value begins and where it ends, and 0 and 0 where it has none.
 use Prim.Native.Nat.{ℕ, zero, suc, _+_, _*_}
 use mathlib.Core.List.{List, [], _∷_}
 use lib.Dec.{ltb}

@@ -21,7 +21,7 @@ use Rattle.rows.specs.declared.Rows.{Rows}
 use Rattle.rows.specs.Table.{noRow, rowsIn}
 use Rattle.editions.specs.declared.Edition.{Edition}
 use Rattle.editions.specs.declared.Message.{Message}
-use Rattle.editions.specs.Editions.{tableOf, codeOf, rowsOf}
+use Rattle.editions.specs.Editions.{tableOf, codeOf, tableRows}
 use Rattle.editions.proofs.Names.{bounds}
 use Rattle.editions.proofs.Tables.{Fits, lawful-count, rows-fit, table-lawful}
 use Rattle.meaning.specs.Value.{Value, Given, given, absent, Said}
@@ -30,7 +30,7 @@ use Rattle.plan.specs.declared.Plan.{Plan}
 use Rattle.plan.specs.declared.Plan.the-variants.{Is, None}
 use Rattle.plan.specs.declared.Written.the-variants.{Done, NoRoom, NotWritten}
 use Rattle.plan.specs.Plan.{sizeOf, fitted, sizeGiven, sizesOf, planTo, messageSize, openingOctets, frontOctets, elementsTo}
-use Rattle.plan.specs.Written.{kept, front, writtenIn, Writes, begunIn}
+use Rattle.plan.specs.Written.{kept, inFront, writtenIn, Writes, begunIn}
 use Rattle.plan.proofs.Plans.{planned, plan-fill, plan-all, plan-fits, planned-is, planned-none}
 use Rattle.plan.proofs.Steps.{opening-length}
 
@@ -51,7 +51,7 @@ code-same : (e : Edition) (m : Message) → (codeOf e m .kind % 4 ≡ codeOf e m
 code-same e m = let b = bounds e m in (omega arith, omega arith)
 
 -- the rows that the code has
-pub rows-all : (e : Edition) (m : Message) {t : Rows} → t ≡ rowsOf e m → (rowsIn t ≡ tableOf e m) × (t .rows ≡ fill noRow 12 (tableOf e m))
+pub rows-all : (e : Edition) (m : Message) {t : Rows} → t ≡ tableRows e m → (rowsIn t ≡ tableOf e m) × (t .rows ≡ fill noRow 12 (tableOf e m))
 rows-all e m f = (ap rowsIn f ∙ take-fill noRow 12 (tableOf e m), ap (λ (t : Rows). t .rows) f)
 
 -- ---- elements one after another
@@ -104,7 +104,7 @@ element-is r v {n} k e h =
 
 -- ---- the plan of a message's values
 
-module _ (e : Edition) (m : Message) (vs : List (Given (List ℕ))) (many : length (tableOf e m) ≡ length vs) {t : Rows} {ns : List ℕ} (rs : t ≡ rowsOf e m) (f : ns ≡ sizesOf vs) where
+module _ (e : Edition) (m : Message) (vs : List (Given (List ℕ))) (many : length (tableOf e m) ≡ length vs) {t : Rows} {ns : List ℕ} (rs : t ≡ tableRows e m) (f : ns ≡ sizesOf vs) where
   count-is : length (rowsIn t) ≡ length (tableOf e m)
   count-is = ap length (rows-all e m rs .0)
 
@@ -197,7 +197,7 @@ module _ (e : Edition) (m : Message) (vs : List (Given (List ℕ))) where
           by None g w = rw (w .room) (plan-refuses g)
           by (Is c q) g w = at (ltb 8192 (messageSize q)) refl (ltb (length l) (messageSize q)) w
             where
-              at : (a : Bool) → ltb 8192 (messageSize q) ≡ a → (b : Bool) → Writes (pick a (kept NotWritten l) (pick b (kept NoRoom l) (front l (openingOctets (codeOf e m) (q + 3) c)))) NotWritten k
+              at : (a : Bool) → ltb 8192 (messageSize q) ≡ a → (b : Bool) → Writes (pick a (kept NotWritten l) (pick b (kept NoRoom l) (inFront l (openingOctets (codeOf e m) (q + 3) c)))) NotWritten k
                   → Writes (writtenIn l (encoded e said)) NotWritten k
               at true x b w = rw (w .room) (too-long g (ltb-true 8192 (messageSize q) x))
               at false x true w = let h = w .answer in let z : _≡_ {A = ℕ} 0 1 = cc in absurd (omega arith)
@@ -212,7 +212,7 @@ module _ (e : Edition) (m : Message) (vs : List (Given (List ℕ))) where
           by (Is c q) g w = at (ltb 8192 (messageSize q)) refl (ltb (length l) (messageSize q)) refl w
             where
               at : (a : Bool) → ltb 8192 (messageSize q) ≡ a → (b : Bool) → ltb (length l) (messageSize q) ≡ b
-                  → Writes (pick a (kept NotWritten l) (pick b (kept NoRoom l) (front l (openingOctets (codeOf e m) (q + 3) c)))) NoRoom k
+                  → Writes (pick a (kept NotWritten l) (pick b (kept NoRoom l) (inFront l (openingOctets (codeOf e m) (q + 3) c)))) NoRoom k
                   → Writes (writtenIn l (encoded e said)) NoRoom k
               at true x b y w = let h = w .answer in let z : _≡_ {A = ℕ} 0 1 = cc in absurd (omega arith)
               at false x true y w = rw (w .room) (no-room g (ltb-false 8192 (messageSize q) x) (ltb-true (length l) (messageSize q) y))
@@ -227,7 +227,7 @@ module _ (e : Edition) (m : Message) (vs : List (Given (List ℕ))) where
           by (Is c q) g w = at (ltb 8192 (messageSize q)) refl (ltb (length l) (messageSize q)) refl w
             where
               at : (a : Bool) → ltb 8192 (messageSize q) ≡ a → (b : Bool) → ltb (length l) (messageSize q) ≡ b
-                  → Writes (pick a (kept NotWritten l) (pick b (kept NoRoom l) (front l (openingOctets (codeOf e m) (q + 3) c)))) (Done i) k
+                  → Writes (pick a (kept NotWritten l) (pick b (kept NoRoom l) (inFront l (openingOctets (codeOf e m) (q + 3) c)))) (Done i) k
                   → Writes (writtenIn l (encoded e said)) (Done r) u
               at true x b v w = let h = w .answer in let z : _≡_ {A = ℕ} 0 1 = cc in absurd (omega arith)
               at false x true v w = let h = w .answer in let z : _≡_ {A = ℕ} 0 1 = cc in absurd (omega arith)

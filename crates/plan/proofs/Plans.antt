@@ -17,11 +17,11 @@ use Rattle.octets.proofs.Back.{length-number}
 use Rattle.values.specs.Written.{tmgiOctets, causeOctets, waitOctets}
 use Rattle.names.specs.Written.{nameOctets}
 use Rattle.items.specs.Items.{whole, part}
-use Rattle.items.specs.Written.{ignore, itemElementOctets, itemsOctets, resetOctets}
+use Rattle.items.specs.Written.{acknowledgementCrit, itemElementOctets, itemsOctets, resetOctets}
 use Rattle.octets.specs.Many.{eachOctets}
 use Rattle.diagnostics.specs.declared.Head.{Head}
 use Rattle.diagnostics.specs.Diagnostics.{after, behindTrigger, behindCode}
-use Rattle.diagnostics.specs.Written.{marksOf, headOctets, listOctets, diagnosticsOctets}
+use Rattle.diagnostics.specs.Written.{marksOf, headOctets, entryListOctets, diagnosticsOctets}
 use Rattle.diagnostics.proofs.HeadBack.{head-length}
 use Rattle.rows.specs.declared.Row.{Row}
 use Rattle.rows.specs.Table.{noRow}
@@ -59,8 +59,8 @@ has-some (wait v) e = rw e (omega arith)
 has-some (name os) e = rw e (omega arith)
 has-some (reset whole) e = omega arith
 has-some (reset (part is)) e = omega arith
-has-some (list is) e = omega (arith, length-append (numberOctets 1 (length is - 1)) (eachOctets (itemElementOctets ignore) is), length-number 1 (length is - 1))
-has-some (diagnostics t d) e = omega (arith, length-append (headOctets (d .head)) (listOctets (d .head .listed) (d .entries)), head-some (d .head))
+has-some (list is) e = omega (arith, length-append (numberOctets 1 (length is - 1)) (eachOctets (itemElementOctets acknowledgementCrit) is), length-number 1 (length is - 1))
+has-some (diagnostics t d) e = omega (arith, length-append (headOctets (d .head)) (entryListOctets (d .head .listed) (d .entries)), head-some (d .head))
 
 size-is : (v : Value (List ℕ)) → hasOctets v ≡ true → sizeOf v ≡ length (octetsOf v)
 unfolding sizeOf

@@ -1,4 +1,4 @@
--- The steps of a writer: the sizes of the values, the plan, and what stands before the elements and before a value.
+-- Scaffolding: no demand speaks of it. The steps of a writer: the sizes of the values, the plan, and what stands before the elements and before a value.
 use Prim.Native.Nat.{ℕ, zero, suc, _+_, _%_, _≤_}
 use mathlib.Core.Bool.{Bool, false}
 use mathlib.Core.List.{List, [], _∷_, _++_, map}

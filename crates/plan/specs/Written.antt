@@ -14,10 +14,10 @@ use Rattle.plan.specs.declared.Written.the-variants.{Done, NoRoom, NotWr
 use Rattle.plan.specs.Plan.{messageSize, openingOctets}
 
 -- 01's number of each case, and the octets put
-abbrev pub answerOf : Written → ℕ
-answerOf (Done n) = 0
-answerOf NoRoom = 10
-answerOf NotWritten = 11
+abbrev pub writtenNumber : Written → ℕ
+writtenNumber (Done n) = 0
+writtenNumber NoRoom = 10
+writtenNumber NotWritten = 11
 
 abbrev pub putOf : Written → ℕ
 putOf (Done n) = n
@@ -31,13 +31,13 @@ pub record Writing : Type 0 where
 abbrev pub kept : Written → List ℕ → Writing
 kept r l = record { answer = r; room = l }
 
-abbrev pub front : List ℕ → List ℕ → Writing
-front l os = record { answer = Done (length os); room = os ++ drop (length os) l }
+abbrev pub inFront : List ℕ → List ℕ → Writing
+inFront l os = record { answer = Done (length os); room = os ++ drop (length os) l }
 
 -- octets that fit stand in front, and the rest is kept; else all of the room is kept
 unfoldable pub writtenIn : List ℕ → Encoded → Writing
 writtenIn l none = kept NotWritten l
-writtenIn l (octets os) = pick (leb (length os) (length l)) (front l os) (kept NoRoom l)
+writtenIn l (octets os) = pick (leb (length os) (length l)) (inFront l os) (kept NoRoom l)
 
 -- this answer, and this room at exit
 pub record Writes (w : Writing) (r : Written) (m : List ℕ) : Type 0 where
@@ -47,4 +47,4 @@ pub record Writes (w : Writing) (r : Written) (m : List ℕ) : Type 0 where
 -- what stands before the elements, if the whole message is written and fits
 unfoldable pub begunIn : List ℕ → Code → Plan → Writing
 begunIn l c None = kept NotWritten l
-begunIn l c (Is n q) = pick (ltb 8192 (messageSize q)) (kept NotWritten l) (pick (ltb (length l) (messageSize q)) (kept NoRoom l) (front l (openingOctets c (q + 3) n)))
+begunIn l c (Is n q) = pick (ltb 8192 (messageSize q)) (kept NotWritten l) (pick (ltb (length l) (messageSize q)) (kept NoRoom l) (inFront l (openingOctets c (q + 3) n)))

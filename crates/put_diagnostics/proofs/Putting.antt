@@ -26,7 +26,7 @@ use Rattle.octets.proofs.Writing.{number-one, wrote-none, wrote-then}
 use Rattle.entries.specs.declared.Entry.{Entry}
 use Rattle.diagnostics.specs.Diagnostics.{Marks}
 use Rattle.diagnostics.specs.declared.Number.the-variants.{Is, Absent}
-use Rattle.diagnostics.specs.Written.{marks, octetOf, pairs, withCode, headOctets, critFields, errorFields, entriesOctets, listOctets, diagnosticsOctets}
+use Rattle.diagnostics.specs.Written.{marks, octetOf, pairs, withCode, headOctets, critFields, errorFields, entriesOctets, entryListOctets, diagnosticsOctets}
 use Rattle.diagnostics.proofs.Fields.{bits-width, widths-join}
 use Rattle.diagnostics.proofs.Pairs.{Begun, begun-none, begun-more, begun-marks, more, more-width, octet-some}
 use Rattle.diagnostics.specs.declared.Head.{Head}
@@ -180,10 +180,10 @@ module _ (es : List Entry) (l : List ℕ) (at : ℕ) where
 -- ---- with a list, and without
 
 module _ (h : Head) (ws : List ℕ) where
-  pub listed-yes : h .listed ≡ true → headOctets h ++ listOctets true (map entryBy ws) ≡ diagnosticsOctets (listedBy h ws)
+  pub listed-yes : h .listed ≡ true → headOctets h ++ entryListOctets true (map entryBy ws) ≡ diagnosticsOctets (listedBy h ws)
   unfolding diagnosticsOctets
-  listed-yes e = ap (λ (b : Bool). headOctets h ++ listOctets b (pick b (map entryBy ws) [])) (sym e)
+  listed-yes e = ap (λ (b : Bool). headOctets h ++ entryListOctets b (pick b (map entryBy ws) [])) (sym e)
 
   pub listed-no : h .listed ≡ false → headOctets h ≡ diagnosticsOctets (listedBy h ws)
   unfolding diagnosticsOctets
-  listed-no e = sym (append-nil (headOctets h)) ∙ ap (λ (b : Bool). headOctets h ++ listOctets b (pick b (map entryBy ws) [])) (sym e)
+  listed-no e = sym (append-nil (headOctets h)) ∙ ap (λ (b : Bool). headOctets h ++ entryListOctets b (pick b (map entryBy ws) [])) (sym e)

@@ -15,7 +15,7 @@ use Rattle.diagnostics.specs.declared.Head.{Head}
 use Rattle.diagnostics.specs.declared.Number.{Number}
 use Rattle.diagnostics.specs.declared.Number.the-variants.{Is, Absent}
 use Rattle.diagnostics.specs.Diagnostics.{after}
-use Rattle.diagnostics.specs.Written.{isThere, headOctets, entriesOctets, listOctets, diagnosticsOctets}
+use Rattle.diagnostics.specs.Written.{hasNumber, headOctets, entriesOctets, entryListOctets, diagnosticsOctets}
 use Rattle.diagnostics.proofs.HeadBack.{head-length}
 use Rattle.diagnostics.proofs.EntriesBack.{entries-length}
 use Rattle.put_diagnostics.specs.Put.{listedSize, bitsFor}
@@ -24,14 +24,14 @@ pub bits-le : (n : Number) (w : ℕ) → bitsFor n w ≤ w
 bits-le (Is v) w = omega arith
 bits-le Absent w = omega arith
 
-after-bits : (n : Number) (w p : ℕ) → after (isThere n) w p ≡ p + bitsFor n w
+after-bits : (n : Number) (w p : ℕ) → after (hasNumber n) w p ≡ p + bitsFor n w
 after-bits (Is v) w p = refl
 after-bits Absent w p = sym (add-zero p)
 
 module _ (h : Head) where
   pub head-size : (6 + bitsFor (h .code) 10 + bitsFor (h .trigger) 2 + bitsFor (h .crit) 2 + 7) / 8 ≡ length (headOctets h)
   head-size =
-      rw (← after-bits (h .code) 10 6, ← after-bits (h .trigger) 2 (after (isThere (h .code)) 10 6), ← after-bits (h .crit) 2 (after (isThere (h .trigger)) 2 (after (isThere (h .code)) 10 6)))
+      rw (← after-bits (h .code) 10 6, ← after-bits (h .trigger) 2 (after (hasNumber (h .code)) 10 6), ← after-bits (h .crit) 2 (after (hasNumber (h .trigger)) 2 (after (hasNumber (h .code)) 10 6)))
       (sym (head-length h))
 
   pub head-small : length (headOctets h) ≤ 3
@@ -40,7 +40,7 @@ module _ (h : Head) where
   pub head-some : 1 ≤ length (headOctets h)
   head-some = omega (arith, sym head-size)
 
-pub list-size : (es : List Entry) → length (listOctets true es) ≡ 2 + 3 * length es
+pub list-size : (es : List Entry) → length (entryListOctets true es) ≡ 2 + 3 * length es
 list-size es =
     let a = length-append (numberOctets 1 (length es - 1)) (entriesOctets [] es) in
     let b = length-number 1 (length es - 1) in
@@ -52,8 +52,8 @@ pub listed-length : (h : Head) (es : List Entry) → length (diagnosticsOctets (
 unfolding diagnosticsOctets
 listed-length h es = by (h .listed)
   where
-    by : (b : Bool) → length (headOctets h ++ listOctets b (pick b es [])) ≡ length (headOctets h) + pick b (2 + 3 * length es) 0
-    by true = let a = length-append (headOctets h) (listOctets true es) in let b = list-size es in omega arith
+    by : (b : Bool) → length (headOctets h ++ entryListOctets b (pick b es [])) ≡ length (headOctets h) + pick b (2 + 3 * length es) 0
+    by true = let a = length-append (headOctets h) (entryListOctets true es) in let b = list-size es in omega arith
     by false = length-append (headOctets h) []
 
 -- as far as a number can say it

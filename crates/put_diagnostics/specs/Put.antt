@@ -1,4 +1,4 @@
--- Criticality Diagnostics whose entries words say; and what the steps of the writer put, by the octet that has begun and how many of its bits are used.
+-- Scaffolding: no demand speaks of it. Criticality Diagnostics whose entries words say; and what the steps of the writer put, by the octet that has begun and how many of its bits are used.
 use Prim.Native.Nat.{ℕ, _+_, _*_}
 use mathlib.Core.List.{List, [], _∷_, map}
 use lib.Dec.{ltb, eqb}

@@ -6,7 +6,7 @@ ghost use Prim.Native.Nat.{min, _-_, _≤_};
 ghost use lib.ListN.{length};
 ghost use Rattle.packed.specs.Packed.{bit, packed};
 ghost use Rattle.octets.specs.Write.{Wrote, numberOctets};
-ghost use Rattle.diagnostics.specs.Written.{isThere, marksOf, marks, numbers, headOctets, listOctets, diagnosticsOctets};
+ghost use Rattle.diagnostics.specs.Written.{hasNumber, marksOf, marks, presentNumber, headOctets, entryListOctets, diagnosticsOctets};
 ghost use Rattle.entry_words.specs.EntryWords.{entryBy};
 ghost use Rattle.put_diagnostics.specs.Put.{listedBy, listedSize, pairsFrom, entryOctets, bitsFor};
 use diagnostics::Head;
@@ -19,7 +19,7 @@ fn one(v: bool) -> u8
 }
 
 fn there(n: Number) -> bool
-    ensures { λ r. ⌜ r ≡ isThere n ⌝ }
+    ensures { λ r. ⌜ r ≡ hasNumber n ⌝ }
 {
     match n {
         Number::Is(_) => true,
@@ -52,7 +52,7 @@ fn put_begun(room: &mut [u8], at: usize, x: u8, b: u8) -> usize
 
 // A number of two bits, if it is there, behind the first b bits of an octet; and what is left of that octet.
 fn put_last(room: &mut [u8], at: usize, x: u8, b: u8, n: Number) -> usize
-    ensures { λ r. ⌜ Wrote (now (room .entry)) at (pairsFrom x b (numbers n)) (now (room .exit)) r ⌝ }
+    ensures { λ r. ⌜ Wrote (now (room .entry)) at (pairsFrom x b (presentNumber n)) (now (room .exit)) r ⌝ }
 {
     match n {
         Number::Is(v) => octets::put_octet(room, at, packed::with_bits(x, b, 2, v)),
@@ -62,7 +62,7 @@ fn put_last(room: &mut [u8], at: usize, x: u8, b: u8, n: Number) -> usize
 
 // Two of them.
 fn put_numbers(room: &mut [u8], at: usize, x: u8, b: u8, n: Number, m: Number) -> usize
-    ensures { λ r. ⌜ Wrote (now (room .entry)) at (pairsFrom x b (numbers n ++ numbers m)) (now (room .exit)) r ⌝ }
+    ensures { λ r. ⌜ Wrote (now (room .entry)) at (pairsFrom x b (presentNumber n ++ presentNumber m)) (now (room .exit)) r ⌝ }
 {
     match n {
         Number::Is(v) => {
@@ -116,7 +116,7 @@ fn count_octet(n: usize) -> u8
 
 // The number of words less 1, and the entries that they say. x is the octet that the next one begins in, of which b bits are used.
 fn put_words(room: &mut [u8], at: usize, words: &[u64]) -> usize
-    ensures { λ r. ⌜ Wrote (now (room .entry)) at (listOctets true (map entryBy (now (words .entry)))) (now (room .exit)) r ⌝ }
+    ensures { λ r. ⌜ Wrote (now (room .entry)) at (entryListOctets true (map entryBy (now (words .entry)))) (now (room .exit)) r ⌝ }
 {
     let mut next = octets::put_octet(room, at, count_octet(words.len()));
     let mut x: u8 = 0;

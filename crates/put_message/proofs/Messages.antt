@@ -14,7 +14,7 @@ use Rattle.editions.specs.declared.Edition.{Edition}
 use Rattle.editions.specs.declared.Message.{Message}
 use Rattle.editions.specs.declared.Named.{Named}
 use Rattle.editions.specs.declared.Named.the-variants as named
-use Rattle.editions.specs.Editions.{tableOf, rowsOf, codeOf, numberOf, messagesOf, firstOf, numberedBy}
+use Rattle.editions.specs.Editions.{tableOf, tableRows, codeOf, numberOf, messagesOf, firstOf, numberedBy}
 use Rattle.meaning.specs.Value.{saidBy}
 use Rattle.meaning.specs.Written.{Encoded, none, encoded}
 use Rattle.layout.specs.Record.{isRecord, noRecord, recordOctets, saidRecord, lentAs, readRecord, writtenBy, written}
@@ -30,12 +30,12 @@ use Rattle.plan.specs.declared.Plan.the-variants.{Is, None}
 use Rattle.plan.specs.declared.Written.{Written}
 use Rattle.plan.specs.declared.Written.the-variants.{Done, NoRoom, NotWritten}
 use Rattle.plan.specs.Plan.{sizeGiven, sizesOf, planTo, messageSize, openingOctets, elementsTo}
-use Rattle.plan.specs.Written.{kept, front, writtenIn, Writes, begunIn}
+use Rattle.plan.specs.Written.{kept, inFront, writtenIn, Writes, begunIn}
 use Rattle.plan.proofs.Steps.{wrote-as}
 use Rattle.plan.proofs.Plans.{planned}
 use Rattle.plan.proofs.Messages.{table-short, rows-all, planned-by, crit-by, size-by, fits-by, elements-all, begun-refused, begun-no-room, begun-done}
 use Rattle.put_message.proofs.Values.{said-count, given-in}
-use Rattle.put_message.specs.Said.{saidIn, Ready, writtenAs}
+use Rattle.put_message.specs.Said.{saidIn, Ready, encodedAs}
 
 first-passes : (p : Message → Bool) (ms : List Message) (m : Message) → firstOf p ms ≡ named.Is m → p m ≡ true
 unfolding firstOf
@@ -76,8 +76,8 @@ module _ (e : Edition) (s values : List ℕ) where
       by (named.Is m) = rw (record-not e m s (formed-not (tableOf e m) s (table-short e m) z))
       by named.Other = refl
 
-  pub written-by : {m : Message} → length s ≡ 2662 → getD s 1 0 ≤ 2 → numberedBy e (getD s 0 0) ≡ named.Is m → writtenAs e m s values ≡ written e s values
-  unfolding written readRecord writtenAs saidRecord saidBy saidIn
+  pub written-by : {m : Message} → length s ≡ 2662 → getD s 1 0 ≤ 2 → numberedBy e (getD s 0 0) ≡ named.Is m → encodedAs e m s values ≡ written e s values
+  unfolding written readRecord encodedAs saidRecord saidBy saidIn
   written-by {m} l k f =
       by (formed (tableOf e m) s)
       ∙ sym (ap (λ (x : Named). writtenBy e values (lentAs e s x)) f ∙ ap (λ (g : Bool). writtenBy e values (pick g (isRecord (saidRecord e m s)) noRecord)) (record-formed e m s l (number-is e (getD s 0 0) f)))
@@ -97,19 +97,19 @@ module _ (l : List ℕ) {x : Encoded} where
   writes-as {y} {r} {k} e w = subst (λ (z : Encoded). Writes (writtenIn l z) r k) e w
 
 module _ (e : Edition) (m : Message) (s values : List ℕ) where
-  pub not-formed : formed (tableOf e m) s ≡ false → none ≡ writtenAs e m s values
-  unfolding writtenAs
+  pub not-formed : formed (tableOf e m) s ≡ false → none ≡ encodedAs e m s values
+  unfolding encodedAs
   not-formed f = rw f
 
-  is-formed : formed (tableOf e m) s ≡ true → encoded e (record { message = m; values = saidIn values s (tableOf e m) }) ≡ writtenAs e m s values
-  unfolding writtenAs
+  is-formed : formed (tableOf e m) s ≡ true → encoded e (record { message = m; values = saidIn values s (tableOf e m) }) ≡ encodedAs e m s values
+  unfolding encodedAs
   is-formed f = rw f
 
-  pub formed-in : {t : Rows} → t ≡ rowsOf e m → {b : Bool} → formed (rowsIn t) s ≡ b → formed (tableOf e m) s ≡ b
+  pub formed-in : {t : Rows} → t ≡ tableRows e m → {b : Bool} → formed (rowsIn t) s ≡ b → formed (tableOf e m) s ≡ b
   formed-in rs h = ap (λ (u : List Row). formed u s) (sym (rows-all e m rs .0)) ∙ h
 
   -- the rows, the sizes and the plan that the code has
-  module _ {t : Rows} {ns : List ℕ} {p : Plan} (rs : t ≡ rowsOf e m) (f : ns ≡ sizesOf (saidIn values s (rowsIn t))) (g : p ≡ planTo (Is 0 0) (t .rows) ns (length (rowsIn t))) where
+  module _ {t : Rows} {ns : List ℕ} {p : Plan} (rs : t ≡ tableRows e m) (f : ns ≡ sizesOf (saidIn values s (rowsIn t))) (g : p ≡ planTo (Is 0 0) (t .rows) ns (length (rowsIn t))) where
     table : rowsIn t ≡ tableOf e m
     table = rows-all e m rs .0
 
@@ -124,7 +124,7 @@ module _ (e : Edition) (m : Message) (s values : List ℕ) where
       unfolding begunIn
       within {j} w = by p w
         where
-          front-in : (os : List ℕ) → Writes (front l os) (Done j) k → j ≤ length k
+          front-in : (os : List ℕ) → Writes (inFront l os) (Done j) k → j ≤ length k
           front-in os w =
               let y = w .answer in
               let z : j ≡ length os = cc in
@@ -134,7 +134,7 @@ module _ (e : Edition) (m : Message) (s values : List ℕ) where
           by None w = let y = w .answer in let z : _≡_ {A = ℕ} 0 1 = cc in absurd (omega arith)
           by (Is c q) w = at (ltb 8192 (messageSize q)) (ltb (length l) (messageSize q)) w
             where
-              at : (a b : Bool) → Writes (pick a (kept NotWritten l) (pick b (kept NoRoom l) (front l (openingOctets (codeOf e m) (q + 3) c)))) (Done j) k → j ≤ length k
+              at : (a b : Bool) → Writes (pick a (kept NotWritten l) (pick b (kept NoRoom l) (inFront l (openingOctets (codeOf e m) (q + 3) c)))) (Done j) k → j ≤ length k
               at true b w = let y = w .answer in let z : _≡_ {A = ℕ} 0 1 = cc in absurd (omega arith)
               at false true w = let y = w .answer in let z : _≡_ {A = ℕ} 0 1 = cc in absurd (omega arith)
               at false false w = front-in (openingOctets (codeOf e m) (q + 3) c) w
@@ -152,13 +152,13 @@ module _ (e : Edition) (m : Message) (s values : List ℕ) where
           by None x w = let y = w .answer in let z : _≡_ {A = ℕ} 0 1 = cc in absurd (omega arith)
 
       module _ (h : formed (tableOf e m) s ≡ true) where
-        pub refused : Writes (begunIn l (codeOf e m) p) NotWritten k → Writes (writtenIn l (writtenAs e m s values)) NotWritten k
+        pub refused : Writes (begunIn l (codeOf e m) p) NotWritten k → Writes (writtenIn l (encodedAs e m s values)) NotWritten k
         refused w = writes-as l (is-formed h) (begun-refused e m (saidIn values s (tableOf e m)) l plan w)
 
-        pub no-room : Writes (begunIn l (codeOf e m) p) NoRoom k → Writes (writtenIn l (writtenAs e m s values)) NoRoom k
+        pub no-room : Writes (begunIn l (codeOf e m) p) NoRoom k → Writes (writtenIn l (encodedAs e m s values)) NoRoom k
         no-room w = writes-as l (is-formed h) (begun-no-room e m (saidIn values s (tableOf e m)) l plan w)
 
-        pub done : {i : ℕ} → Writes (begunIn l (codeOf e m) p) (Done i) k → {u : List ℕ} {r : ℕ} → Wrote k i (elementsTo (rowsIn t) (saidIn values s (rowsIn t)) (length (rowsIn t))) u r → Writes (writtenIn l (writtenAs e m s values)) (Done r) u
+        pub done : {i : ℕ} → Writes (begunIn l (codeOf e m) p) (Done i) k → {u : List ℕ} {r : ℕ} → Wrote k i (elementsTo (rowsIn t) (saidIn values s (rowsIn t)) (length (rowsIn t))) u r → Writes (writtenIn l (encodedAs e m s values)) (Done r) u
         done w y =
             let x = ap (λ (v : List Row). elementsTo v (saidIn values s v) (length v)) table ∙ elements-all (tableOf e m) (saidIn values s (tableOf e m)) (said-count values s (tableOf e m)) in
             writes-as l (is-formed h) (begun-done e m (saidIn values s (tableOf e m)) l plan w (wrote-as x y))

@@ -21,14 +21,14 @@ use Rattle.values.specs.Written.{tmgiOctets, causeOctets, waitOctets}
 use Rattle.names.specs.Names.{nameAllowed}
 use Rattle.names.specs.Written.{nameOctets}
 use Rattle.items.specs.Items.{whole, part}
-use Rattle.items.specs.Written.{ignore, reject, itemsOctets, resetOctets}
+use Rattle.items.specs.Written.{acknowledgementCrit, resetCrit, itemsOctets, resetOctets}
 use Rattle.diagnostics.specs.declared.Head.{Head}
 use Rattle.put_diagnostics.specs.Put.{listedSize}
 use Rattle.put_diagnostics.proofs.Sizes.{listed-length, size-fits}
 use Rattle.rows.specs.declared.Triggers.{Triggers}
 use Rattle.rows.specs.Table.{meanings}
 use Rattle.meaning.specs.Value.{Value, carried, mme, mce, tmgi, one, two, cause, wait, name, reset, list, diagnostics, octetsIn}
-use Rattle.meaning.specs.Written.{octetsOf, hasOctets, counted, under, entriesGood}
+use Rattle.meaning.specs.Written.{octetsOf, hasOctets, isListLength, under, entriesGood}
 use Rattle.layout.specs.Record.{listsIn}
 use Rattle.plan.specs.Plan.{sizeOf}
 use Rattle.put_message.specs.Said.{diagnosticsBy}
@@ -106,19 +106,19 @@ module _ (s : List ℕ) (v : Span) where
 -- ---- items
 
 module _ (is : List Item) where
-  pub list-size : {n : ℕ} → counted (length is) ≡ true → n ≡ length (itemsOctets ignore is) → n ≡ sizeOf (list is)
+  pub list-size : {n : ℕ} → isListLength (length is) ≡ true → n ≡ length (itemsOctets acknowledgementCrit is) → n ≡ sizeOf (list is)
   unfolding hasOctets octetsOf
   list-size h e = size-has (list is) h e
 
-  pub list-none : counted (length is) ≡ false → 0 ≡ sizeOf (list is)
+  pub list-none : isListLength (length is) ≡ false → 0 ≡ sizeOf (list is)
   unfolding hasOctets
   list-none h = size-none (list is) h
 
-  pub part-size : {n : ℕ} → counted (length is) ≡ true → n ≡ length (itemsOctets reject is) → 1 + n ≡ sizeOf (reset (part is))
+  pub part-size : {n : ℕ} → isListLength (length is) ≡ true → n ≡ length (itemsOctets resetCrit is) → 1 + n ≡ sizeOf (reset (part is))
   unfolding hasOctets octetsOf resetOctets
   part-size h e = size-has (reset (part is)) h (omega arith)
 
-  pub part-none : counted (length is) ≡ false → 0 ≡ sizeOf (reset (part is))
+  pub part-none : isListLength (length is) ≡ false → 0 ≡ sizeOf (reset (part is))
   unfolding hasOctets
   part-none h = size-none (reset (part is)) h
 

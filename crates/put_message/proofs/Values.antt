@@ -22,7 +22,7 @@ use Rattle.layout.specs.Rows.{unless0}
 use Rattle.layout.specs.Record.{Lists, listsIn, headIn, slotSays, slotsSay}
 use Rattle.record_form.proofs.Forms.{first-at, two-at, row-in}
 use Rattle.plan.specs.Plan.{sizeGiven}
-use Rattle.put_message.specs.Said.{spanAt, causeIn, tmgiIn, numberBy, itemsIn, resetBy, diagnosticsBy, valueBy, givenBy, saidIn}
+use Rattle.put_message.specs.Said.{spanAt, causeIn, tmgiIn, numberBy, saidItems, resetTypeBy, diagnosticsBy, valueBy, givenBy, saidIn}
 
 pub head-in : (s : List ℕ) (at : ℕ) → record { code = numberBy (getD s (at + 1) 0) (getD s (at + 2) 0); trigger = numberBy (getD s (at + 3) 0) (getD s (at + 4) 0); crit = numberBy (getD s (at + 5) 0) (getD s (at + 6) 0); listed = not (eqb (getD s (at + 7) 0) 0) } ≡ headIn (drop at s)
 head-in s at = simp getD-drop
@@ -64,11 +64,11 @@ module _ (values s : List ℕ) (at : ℕ) where
   unfolding valueBy slotSays onCarried
   name-by = rw (two-at s at 1, two-at s at 3)
 
-  pub reset-by : valueBy values s kind.ResetType at ≡ reset (resetBy (getD s at 0) (itemsIn s))
+  pub reset-by : valueBy values s kind.ResetType at ≡ reset (resetTypeBy (getD s at 0) (saidItems s))
   unfolding valueBy slotSays onCarried
   reset-by = rw (first-at s at)
 
-  pub list-by : valueBy values s kind.Acknowledged at ≡ list (itemsIn s)
+  pub list-by : valueBy values s kind.Acknowledged at ≡ list (saidItems s)
   unfolding valueBy slotSays onCarried
   list-by = refl
 

@@ -26,7 +26,7 @@ use Rattle.layout.specs.Rows.{rowItem, rowEntry, eachRow}
 use Rattle.layout.specs.Record.{listsIn}
 use Rattle.record_form.proofs.Forms.{octets-drop}
 use Rattle.record_form.proofs.Formed.{length-rows}
-use Rattle.put_message.specs.Said.{itemsIn, diagnosticsBy}
+use Rattle.put_message.specs.Said.{saidItems, diagnosticsBy}
 
 rows-fit : (n : ℕ) (s : List ℕ) → Octets s → Each FitsWord (eachRow rowEntry 4 n s)
 unfolding eachRow
@@ -36,12 +36,12 @@ rows-fit (suc n) s o = (record { id = value-below 2 s 1 o; crit = o 0; error = o
 pub entries-few : (s : List ℕ) → length (listsIn s .entries) ≤ 256
 entries-few s = omega (arith, length-rows rowEntry 4 (min (valueAt 2 s 1636) 256) (drop 1638 s))
 
-items-few : (s : List ℕ) → length (itemsIn s) ≤ 256
+items-few : (s : List ℕ) → length (saidItems s) ≤ 256
 items-few s = omega (arith, length-rows rowItem 6 (min (valueAt 2 s 98) 256) (drop 100 s))
 
-pub items-small : (s : List ℕ) (crit : ℕ) → length (itemsOctets crit (itemsIn s)) ≤ 2305
+pub items-small : (s : List ℕ) (crit : ℕ) → length (itemsOctets crit (saidItems s)) ≤ 2305
 items-small s crit =
-    let is = itemsIn s in
+    let is = saidItems s in
     let k : length (itemsOctets crit (take (length is) (fill emptyItem 256 is))) ≤ 2305 = list-small crit (fill emptyItem 256 is) (length is) (length-fill emptyItem 256 is (items-few s)) in
     rw (take-fill emptyItem 256 is) at k
 

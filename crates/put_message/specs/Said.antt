@@ -1,4 +1,4 @@
--- What a lent record says with the octets lent beside it, row by row.
+-- Scaffolding: no demand speaks of it. What a lent record says with the octets lent beside it, row by row.
 use Prim.Native.Nat.{ℕ, _+_, _*_, _<_, _≤_}
 use mathlib.Core.Path.{_≡_}
 use mathlib.Core.List.{List, [], map}
@@ -47,11 +47,11 @@ tmgiIn s at = record {
 abbrev pub numberBy : ℕ → ℕ → Number
 numberBy there v = pick (eqb there 0) number.Absent (number.Is v)
 
-abbrev pub itemsIn : List ℕ → List Item
-itemsIn s = listsIn s .items
+abbrev pub saidItems : List ℕ → List Item
+saidItems s = listsIn s .items
 
-abbrev pub resetBy : ℕ → List Item → ResetType
-resetBy there is = pick (eqb there 2) (part is) whole
+abbrev pub resetTypeBy : ℕ → List Item → ResetType
+resetTypeBy there is = pick (eqb there 2) (part is) whole
 
 abbrev pub diagnosticsBy : Head → List ℕ → Diagnostics
 diagnosticsBy h s = record { head = h; entries = pick (h .listed) (listsIn s .entries) [] }
@@ -74,5 +74,5 @@ pub record Ready (values s : List ℕ) (t : Rows) (ns : List ℕ) (i : ℕ) : Ty
   pub fits : getD ns i 0 ≤ 8192
 
 -- the octets of a message that a record's octets say, whatever number and criticality stand in front
-unfoldable pub writtenAs : Edition → Message → List ℕ → List ℕ → Encoded
-writtenAs e m s values = pick (formed (tableOf e m) s) (encoded e (record { message = m; values = saidIn values s (tableOf e m) })) none
+unfoldable pub encodedAs : Edition → Message → List ℕ → List ℕ → Encoded
+encodedAs e m s values = pick (formed (tableOf e m) s) (encoded e (record { message = m; values = saidIn values s (tableOf e m) })) none

@@ -11,11 +11,11 @@ ghost use Rattle.items.specs.Items.{part};
 ghost use Rattle.items.specs.Written.{resetOctets};
 ghost use Rattle.diagnostics.specs.Written.{diagnosticsOctets};
 ghost use Rattle.meaning.specs.Value.{octetsIn, cause, wait, name, reset, list, diagnostics};
-ghost use Rattle.meaning.specs.Written.{counted, under, entriesGood, octetsOf, elementOctets};
+ghost use Rattle.meaning.specs.Written.{isListLength, under, entriesGood, octetsOf, elementOctets};
 ghost use Rattle.layout.specs.Record.{listsIn, headIn, written};
 ghost use Rattle.plan.specs.Plan.{sizeOf, sizeGiven, sizesOf, elementsTo};
 ghost use Rattle.plan.specs.Written.{writtenIn, Writes};
-ghost use Rattle.put_message.specs.Said.{spanAt, causeIn, tmgiIn, numberBy, itemsIn, resetBy, diagnosticsBy, valueBy, givenBy, saidIn, Ready, writtenAs};
+ghost use Rattle.put_message.specs.Said.{spanAt, causeIn, tmgiIn, numberBy, saidItems, resetTypeBy, diagnosticsBy, valueBy, givenBy, saidIn, Ready, encodedAs};
 use diagnostics::Head;
 use diagnostics::Number;
 use editions::Edition;
@@ -102,7 +102,7 @@ fn head_at(s: &[u8], at: usize) -> Head
 
 // A list has 1 to 256.
 fn fits_a_list(n: usize) -> bool
-    ensures { λ r. ⌜ r ≡ counted n ⌝ }
+    ensures { λ r. ⌜ r ≡ isListLength n ⌝ }
 {
     if n == 0 {
         return false;
@@ -158,7 +158,7 @@ fn name_size(values: &[u8], v: Span) -> usize
 
 // The acknowledgement's items.
 fn list_size(s: &[u8]) -> usize
-    ensures { λ r. ⌜ r ≡ sizeOf (list (itemsIn (now (s .entry)))) ⌝ }
+    ensures { λ r. ⌜ r ≡ sizeOf (list (saidItems (now (s .entry)))) ⌝ }
 {
     if fits_a_list(item_rows::said_items(s)) {
         return item_rows::said_size(s);
@@ -167,7 +167,7 @@ fn list_size(s: &[u8]) -> usize
 }
 
 fn part_size(s: &[u8]) -> usize
-    ensures { λ r. ⌜ r ≡ sizeOf (reset (part (itemsIn (now (s .entry))))) ⌝ }
+    ensures { λ r. ⌜ r ≡ sizeOf (reset (part (saidItems (now (s .entry))))) ⌝ }
 {
     if fits_a_list(item_rows::said_items(s)) {
         return 1 + item_rows::said_size(s);
@@ -176,7 +176,7 @@ fn part_size(s: &[u8]) -> usize
 }
 
 fn reset_size(there: u8, s: &[u8]) -> usize
-    ensures { λ r. ⌜ r ≡ sizeOf (reset (resetBy there (itemsIn (now (s .entry))))) ⌝ }
+    ensures { λ r. ⌜ r ≡ sizeOf (reset (resetTypeBy there (saidItems (now (s .entry))))) ⌝ }
 {
     if there == 2 {
         return part_size(s);
@@ -287,7 +287,7 @@ fn put_name(room: &mut [u8], at: usize, values: &[u8], v: Span) -> usize
 }
 
 fn put_reset(room: &mut [u8], at: usize, there: u8, s: &[u8]) -> usize
-    ensures { λ r. ⌜ Wrote (now (room .entry)) at (resetOctets (resetBy there (itemsIn (now (s .entry))))) (now (room .exit)) r ⌝ }
+    ensures { λ r. ⌜ Wrote (now (room .entry)) at (resetOctets (resetTypeBy there (saidItems (now (s .entry))))) (now (room .exit)) r ⌝ }
 {
     if there == 2 {
         let first = octets::put_octet(room, at, 64);
@@ -382,7 +382,7 @@ fn put_rows(
 
 fn write_as(e: Edition, m: Message, s: &[u8], values: &[u8], room: &mut [u8]) -> Written
     requires { ⌜ length (now s) ≡ 2662 ⌝ }
-    ensures { λ r. ⌜ Writes (writtenIn (now (room .entry)) (writtenAs e m (now (s .entry)) (now (values .entry)))) r (now (room .exit)) ⌝ }
+    ensures { λ r. ⌜ Writes (writtenIn (now (room .entry)) (encodedAs e m (now (s .entry)) (now (values .entry)))) r (now (room .exit)) ⌝ }
 {
     let rows = editions::rows_of(e, m);
     if !record_form::is_formed(rows, s) {

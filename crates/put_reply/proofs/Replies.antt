@@ -29,7 +29,7 @@ use Rattle.meaning.specs.Value.{Said}
 use Rattle.meaning.specs.Written.{Encoded, octets, none, encoded}
 use Rattle.plan.specs.declared.Written.{Written}
 use Rattle.plan.specs.declared.Written.the-variants as written
-use Rattle.plan.specs.Written.{kept, front, writtenIn, Writes}
+use Rattle.plan.specs.Written.{kept, inFront, writtenIn, Writes}
 use Rattle.replies.specs.declared.Reply.{Reply}
 use Rattle.replies.specs.declared.Reply.the-variants as reply
 use Rattle.replies.specs.Replies.{Replied, silent, says, someOf, valueOf, listOnly, ofFrame, replied, replyOctets}
@@ -154,7 +154,7 @@ module _ (l : List ℕ) where
   unfolding replyOctets writtenIn sentIn
   sends-as e w g {r} {k} y = rw g (by (encoded e w) refl y)
     where
-      at : (os : List ℕ) (b : Bool) → Writes (pick b (front l os) (kept written.NoRoom l)) r k
+      at : (os : List ℕ) (b : Bool) → Writes (pick b (inFront l os) (kept written.NoRoom l)) r k
           → Sends (pick b (sending (sent.Done (length os)) (os ++ drop (length os) l)) (sending sent.NoRoom l)) (sentAs r) k
       at os true y = record { answer = ap sentAs (y .answer); room = y .room }
       at os false y = record { answer = ap sentAs (y .answer); room = y .room }

@@ -19,7 +19,7 @@ use Rattle.rows.specs.Table.{noRow, rowsIn}
 use Rattle.editions.specs.declared.Edition.{Edition}
 use Rattle.editions.specs.declared.Message.{Message}
 use Rattle.editions.specs.declared.Code.{Code}
-use Rattle.editions.specs.Editions.{tableOf, codeOf, rowsOf}
+use Rattle.editions.specs.Editions.{tableOf, codeOf, tableRows}
 use Rattle.meaning.specs.Value.{Given, given, absent, Said}
 use Rattle.meaning.specs.Written.{elementOctets, elementsOctets, encoded}
 use Rattle.plan.specs.declared.Plan.{Plan}
@@ -27,12 +27,12 @@ use Rattle.plan.specs.declared.Plan.the-variants.{Is, None}
 use Rattle.plan.specs.declared.Written.{Written}
 use Rattle.plan.specs.declared.Written.the-variants.{Done, NoRoom, NotWritten}
 use Rattle.plan.specs.Plan.{sizeGiven, sizesOf, planTo, messageSize, openingOctets, frontOctets, elementsTo}
-use Rattle.plan.specs.Written.{Writes, kept, front, writtenIn, begunIn}
+use Rattle.plan.specs.Written.{Writes, kept, inFront, writtenIn, begunIn}
 use Rattle.plan.proofs.Plans.{planned}
 use Rattle.plan.proofs.Messages.{rows-all, planned-by, row-by, crit-by, size-by, fits-by, element-none, element-is, elements-all, begun-refused, begun-no-room, begun-done}
 use Rattle.put_reply.specs.declared.Part.{Part}
 use Rattle.put_reply.specs.declared.Parts.{Parts}
-use Rattle.put_reply.specs.Parts.{partOf, givenBy, partOctets, givenRows, Ready}
+use Rattle.put_reply.specs.Parts.{partOf, givenBy, givenOctets, givenRows, Ready}
 
 -- ---- an element
 
@@ -40,11 +40,11 @@ module _ (r : Row) (y : Given (List ℕ)) {n : ℕ} (e : n ≡ sizeGiven y) wher
   pub row-none : n ≡ 0 → {l : List ℕ} {at : ℕ} → at ≤ length l → Wrote l at (elementOctets r y) l at
   row-none f {l} {at} h = subst (λ (os : List ℕ). Wrote l at os l at) (element-none r y e f) (wrote-none l at (omega arith))
 
-  pub row-is : (n ≡ 0 → ⊥) → n ≤ 8192 → r .crit < 4 → {l m k : List ℕ} {at q u : ℕ} → Wrote l at (frontOctets (r .id) (r .crit) n) m q → Wrote m q (partOctets y) k u → Wrote l at (elementOctets r y) k u
+  pub row-is : (n ≡ 0 → ⊥) → n ≤ 8192 → r .crit < 4 → {l m k : List ℕ} {at q u : ℕ} → Wrote l at (frontOctets (r .id) (r .crit) n) m q → Wrote m q (givenOctets y) k u → Wrote l at (elementOctets r y) k u
   unfolding sizeGiven
   row-is z h c {l} {m} {k} {at} {q} {u} v w = by y e w
     where
-      by : (y : Given (List ℕ)) → n ≡ sizeGiven y → Wrote m q (partOctets y) k u → Wrote l at (elementOctets r y) k u
+      by : (y : Given (List ℕ)) → n ≡ sizeGiven y → Wrote m q (givenOctets y) k u → Wrote l at (elementOctets r y) k u
       by absent e w = absurd (z e)
       by (given x) e w = subst (λ (os : List ℕ). Wrote l at os k u) (element-is r x c e h) (wrote-then v w)
 
@@ -86,12 +86,12 @@ module _ (l k : List ℕ) (c : Code) {i : ℕ} where
       os : List ℕ
       os = openingOctets c (q + 3) n
 
-      at : (a b : Bool) → Writes (pick a (kept NotWritten l) (pick b (kept NoRoom l) (front l os))) (Done i) k → i ≤ length k
+      at : (a b : Bool) → Writes (pick a (kept NotWritten l) (pick b (kept NoRoom l) (inFront l os))) (Done i) k → i ≤ length k
       at true b w = let h = w .answer in let z : _≡_ {A = ℕ} 0 1 = cc in absurd (omega arith)
       at false true w = let h = w .answer in let z : _≡_ {A = ℕ} 0 1 = cc in absurd (omega arith)
       at false false w = let h = w .answer in let j : i ≡ length os = cc in omega (arith, ap length (w .room), length-append os (drop (length os) l))
 
-module _ (e : Edition) (m : Message) (is : List Item) (es : List Entry) (p : Parts) {t : Rows} {ns : List ℕ} (rs : t ≡ rowsOf e m) (f : ns ≡ sizesOf (givenRows is es p (rowsIn t))) where
+module _ (e : Edition) (m : Message) (is : List Item) (es : List Entry) (p : Parts) {t : Rows} {ns : List ℕ} (rs : t ≡ tableRows e m) (f : ns ≡ sizesOf (givenRows is es p (rowsIn t))) where
   abbrev values : List (Given (List ℕ))
   values = givenRows is es p (tableOf e m)
 

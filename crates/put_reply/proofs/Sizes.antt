@@ -20,7 +20,7 @@ use Rattle.identity.specs.declared.Item.{Item}
 use Rattle.values.specs.declared.Cause.{Cause}
 use Rattle.values.specs.Values.{rootOf}
 use Rattle.values.specs.Written.{causeOctets}
-use Rattle.items.specs.Written.{ignore, itemsOctets}
+use Rattle.items.specs.Written.{acknowledgementCrit, itemsOctets}
 use Rattle.entries.specs.declared.Entry.{Entry}
 use Rattle.entry_words.specs.EntryWords.{entryBy}
 use Rattle.item_words.specs.Words.{itemOf}
@@ -30,7 +30,7 @@ use Rattle.put_diagnostics.specs.Put.{listedBy, listedSize}
 use Rattle.put_diagnostics.proofs.Sizes.{listed-length, size-fits, size-no}
 use Rattle.rows.specs.declared.Triggers.the-variants.{Three}
 use Rattle.meaning.specs.Value.{Value, mme, mce, cause, list, diagnostics}
-use Rattle.meaning.specs.Written.{octetsOf, hasOctets, counted, under, entryGood, entriesGood}
+use Rattle.meaning.specs.Written.{octetsOf, hasOctets, isListLength, under, entryGood, entriesGood}
 use Rattle.plan.specs.Plan.{sizeOf, fitted}
 
 size-has : (v : Value (List ℕ)) {n : ℕ} → hasOctets v ≡ true → n ≡ length (octetsOf v) → n ≡ sizeOf v
@@ -63,13 +63,13 @@ module _ (ws : List ℕ) where
   abbrev items : List Item
   items = map itemOf ws
 
-  pub list-size : {n : ℕ} → counted (length ws) ≡ true → n ≡ length (itemsOctets ignore items) → n ≡ sizeOf (list items)
+  pub list-size : {n : ℕ} → isListLength (length ws) ≡ true → n ≡ length (itemsOctets acknowledgementCrit items) → n ≡ sizeOf (list items)
   unfolding hasOctets octetsOf
-  list-size h e = size-has (list items) (ap counted (length-map ws itemOf) ∙ h) e
+  list-size h e = size-has (list items) (ap isListLength (length-map ws itemOf) ∙ h) e
 
-  pub list-none : counted (length ws) ≡ false → 0 ≡ sizeOf (list items)
+  pub list-none : isListLength (length ws) ≡ false → 0 ≡ sizeOf (list items)
   unfolding hasOctets
-  list-none h = size-none (list items) (ap counted (length-map ws itemOf) ∙ h)
+  list-none h = size-none (list items) (ap isListLength (length-map ws itemOf) ∙ h)
 
 -- ---- diagnostics
 
@@ -91,16 +91,16 @@ module _ (ws : List ℕ) where
   abbrev entries : List Entry
   entries = map entryBy ws
 
-  pub good-none : counted (length ws) ≡ false → false ≡ entriesGood entries
+  pub good-none : isListLength (length ws) ≡ false → false ≡ entriesGood entries
   good-none e = rw (length-map ws entryBy, e)
 
-  pub good-some : counted (length ws) ≡ true → {b : Bool} → some isBad (slice 0 (length ws) ws) ≡ b → not b ≡ entriesGood entries
+  pub good-some : isListLength (length ws) ≡ true → {b : Bool} → some isBad (slice 0 (length ws) ws) ≡ b → not b ≡ entriesGood entries
   good-some e f =
       let g = ap (some isBad) (sym (take-all (length ws) ws (omega arith))) ∙ f in
       rw (length-map ws entryBy, e, some-map (λ (x : Entry). not (entryGood x)) entryBy ws, g)
 
   few : entriesGood entries ≡ true → length ws ≤ 256
-  few e = leb-true _ _ (rw (length-map ws entryBy) at (and-right (ltb 0 (length entries)) (leb (length entries) 256) (and-left (counted (length entries)) (not (some (λ (x : Entry). not (entryGood x)) entries)) e)))
+  few e = leb-true _ _ (rw (length-map ws entryBy) at (and-right (ltb 0 (length entries)) (leb (length entries) 256) (and-left (isListLength (length entries)) (not (some (λ (x : Entry). not (entryGood x)) entries)) e)))
 
   module _ (h : Head) where
     list-same : (b : Bool) → pick b (entriesGood (pick b entries [])) true ≡ pick b (entriesGood entries) true

@@ -1,4 +1,4 @@
--- What a reply gives for each row of its message's table, by the row's kind; and what sending it leaves.
+-- Scaffolding: no demand speaks of it. What a reply gives for each row of its message's table, by the row's kind; and what sending it leaves.
 use Prim.Native.Nat.{ℕ, _<_, _≤_}
 use mathlib.Core.Path.{_≡_}
 use mathlib.Core.Bool.{Bool, true, false}
@@ -118,9 +118,9 @@ module _ (kept : List Item) (noted : List Entry) where
     pub fits : getD ns i 0 ≤ 8192
 
 -- the octets of what is given, without an envelope
-abbrev pub partOctets : Given (List ℕ) → List ℕ
-partOctets (given v) = octetsOf v
-partOctets absent = []
+abbrev pub givenOctets : Given (List ℕ) → List ℕ
+givenOctets (given v) = octetsOf v
+givenOctets absent = []
 
 -- ---- what sending leaves
 

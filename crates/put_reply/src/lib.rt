@@ -13,11 +13,11 @@ ghost use Rattle.entry_words.specs.EntryWords.{entryBy};
 ghost use Rattle.put_diagnostics.specs.Put.{listedBy};
 ghost use Rattle.plan.specs.Plan.{sizeOf, sizeGiven, sizesOf, elementsTo};
 ghost use Rattle.meaning.specs.Value as value;
-ghost use Rattle.meaning.specs.Written.{counted, under, entryGood, entriesGood, elementOctets, encoded};
+ghost use Rattle.meaning.specs.Written.{isListLength, under, entryGood, entriesGood, elementOctets, encoded};
 ghost use Rattle.plan.specs.Written.{writtenIn, Writes};
 ghost use Rattle.editions.specs.Editions.{tableOf};
 ghost use Rattle.replies.specs.Replies.{replied, replyOctets};
-ghost use Rattle.put_reply.specs.Parts.{partOf, mmePart, mcePart, listPart, onlyList, framePart, frameIfNoted, partsOf, repliedBy, givenBy, partOctets, givenRows, Ready, sentAs, sentIn, Sends};
+ghost use Rattle.put_reply.specs.Parts.{partOf, mmePart, mcePart, listPart, onlyList, framePart, frameIfNoted, partsOf, repliedBy, givenBy, givenOctets, givenRows, Ready, sentAs, sentIn, Sends};
 use diagnostics::Head;
 use diagnostics::Number;
 use editions::Edition;
@@ -243,7 +243,7 @@ fn cause_size(c: Cause) -> usize
 
 // A list has 1 to 256.
 fn fits_a_list(n: usize) -> bool
-    ensures { λ r. ⌜ r ≡ counted n ⌝ }
+    ensures { λ r. ⌜ r ≡ isListLength n ⌝ }
 {
     if n == 0 {
         return false;
@@ -357,7 +357,7 @@ fn sizes_of(t: Rows, p: Parts, kept: &[u64], noted: &[u64]) -> [usize; 12]
 
 fn put_part(room: &mut [u8], at: usize, p: Part, kept: &[u64], noted: &[u64]) -> usize
     requires { ⌜ at ≤ length (now room) ⌝ }
-    ensures { λ r. ⌜ Wrote (now (room .entry)) at (partOctets (givenBy (map itemOf (now (kept .entry))) (map entryBy (now (noted .entry))) p)) (now (room .exit)) r ⌝ }
+    ensures { λ r. ⌜ Wrote (now (room .entry)) at (givenOctets (givenBy (map itemOf (now (kept .entry))) (map entryBy (now (noted .entry))) p)) (now (room .exit)) r ⌝ }
 {
     match p {
         Part::Absent => at,

@@ -1,4 +1,4 @@
--- What is left of octets lent when a table was to be written there.
+-- Scaffolding: no demand speaks of it. What is left of octets lent when a table was to be written there.
 use mathlib.Core.List.{List, _++_}
 use Prim.Native.Nat.{ℕ, min, _+_, _*_}
 use lib.ListN.{length, take, drop}

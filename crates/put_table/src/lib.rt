@@ -3,7 +3,7 @@ ghost use mathlib.Core.Path.{_≡_};
 ghost use Prim.Native.Nat.{_/_, _%_};
 ghost use lib.ListN.{length};
 ghost use Rattle.table.specs.Table.{held};
-ghost use Rattle.lent.specs.Lent.{flagOf, valueOf, rowOctets};
+ghost use Rattle.lent.specs.Lent.{flagOf, sessionOctet, rowOctets};
 ghost use Rattle.put_table.specs.Out.{tableOut};
 use identity::Session;
 use table::Association;
@@ -31,7 +31,7 @@ fn flag(s: Session) -> u8
 }
 
 fn value(s: Session) -> u8
-    ensures { λ r. ⌜ r ≡ valueOf s ⌝ }
+    ensures { λ r. ⌜ r ≡ sessionOctet s ⌝ }
 {
     match s {
         Session::Is(v) => v,

@@ -32,10 +32,10 @@ use Rattle.meaning.specs.Value.{Value, Given, given, absent, carried, mme, mce,
 use Rattle.meaning.specs.Reading.{readAs, valueIn}
 use Rattle.layout.specs.Record.{listsOf}
 use Rattle.reader.specs.declared.Begins.the-variants.{At, Nowhere}
-use Rattle.reader.specs.Steps.{givenBy, ItemsBegin, EntriesBegin}
+use Rattle.reader.specs.Steps.{givenRead, ItemsBegin, EntriesBegin}
 
 -- what holds of an absent value, and of each that a reading may give, holds of what stands there
-on-value : {A : Type 0} (P : Given Span → Type 0) (b : Bool) (r : Read A) (is : A → Value Span) → P absent → ((a : A) → P (given (is a))) → P (pick b (givenBy is r) absent)
+on-value : {A : Type 0} (P : Given Span → Type 0) (b : Bool) (r : Read A) (is : A → Value Span) → P absent → ((a : A) → P (given (is a))) → P (pick b (givenRead is r) absent)
 unfolding _>>=_
 on-value P true (got a) is n g = g a
 on-value P true (stop x) is n g = n
@@ -89,7 +89,7 @@ module _ (s : List ℕ) (v : Span) where
 
   -- ---- entries
 
-  pub diagnostics-entries : (t : Triggers) (x : _) → present v ≡ true → EntriesBegin (givenBy (diagnostics t) (diagnosticsAt (meanings t) (take (v .to) s) (v .from))) (take (v .to) s) x
+  pub diagnostics-entries : (t : Triggers) (x : _) → present v ≡ true → EntriesBegin (givenRead (diagnostics t) (diagnosticsAt (meanings t) (take (v .to) s) (v .from))) (take (v .to) s) x
       → EntriesBegin (valueIn (kind.Diagnostics t) s v) (take (v .to) s) x
   unfolding valueIn readAs
   diagnostics-entries t x p b = rw p b
@@ -118,11 +118,11 @@ module _ (s : List ℕ) (v : Span) where
 
 -- Criticality Diagnostics, by their fields
 module _ (t : Triggers) (s : List ℕ) (from : ℕ) {h : Head} {es : List Entry} (n : ℕ) (d : diagnosticsAt (meanings t) s from ≡ got (record { head = h; entries = es })) (q : got es ≡ maybeListAt (h .listed) s n) where
-  pub listed-entries : h .listed ≡ true → EntriesBegin (givenBy (diagnostics t) (diagnosticsAt (meanings t) s from)) s (At n)
+  pub listed-entries : h .listed ≡ true → EntriesBegin (givenRead (diagnostics t) (diagnosticsAt (meanings t) s from)) s (At n)
   unfolding listsOf _>>=_
   listed-entries e = (es, rw e at (sym q), λ vs. rw (d, e))
 
-  pub unlisted-entries : h .listed ≡ false → EntriesBegin (givenBy (diagnostics t) (diagnosticsAt (meanings t) s from)) s Nowhere
+  pub unlisted-entries : h .listed ≡ false → EntriesBegin (givenRead (diagnostics t) (diagnosticsAt (meanings t) s from)) s Nowhere
   unfolding listsOf _>>=_
   unlisted-entries e vs = rw (d, e)
 

@@ -26,7 +26,7 @@ use Rattle.items.specs.Written.{GoodItems, GoodReset}
 use Rattle.items.proofs.Good.{items-good, reset-good}
 use Rattle.entries.specs.declared.Entry.{Entry}
 use Rattle.diagnostics.specs.Diagnostics.{Diagnostics, diagnosticsAt}
-use Rattle.diagnostics.specs.Written.{GoodEntry, Good}
+use Rattle.diagnostics.specs.Written.{GoodEntry, GoodDiagnostics}
 use Rattle.diagnostics.proofs.Again.{diagnostics-again}
 use Rattle.rows.specs.declared.Kind.{Kind}
 use Rattle.rows.specs.declared.Kind.the-variants as kind
@@ -36,7 +36,7 @@ use Rattle.meaning.specs.Value.{Value, Given, given, absent, carried, mme, mce,
 use Rattle.meaning.specs.Ranges.{valueKind}
 use Rattle.meaning.specs.Reading.{orAbsent, readAs, valueIn, valuesIn}
 use Rattle.layout.specs.Held.{PlaceFits, ItemsFit, DiagnosticsFit, Fits, RowFits, RowsFit}
-use Rattle.reader.specs.Steps.{IfPresent, givenBy}
+use Rattle.reader.specs.Steps.{IfPresent, givenRead}
 
 place-fits : (v : Span) → v .from < v .to → v .to ≤ 8192 → PlaceFits v
 place-fits v h b = (omega arith, omega arith, omega arith)
@@ -56,7 +56,7 @@ no-entries : (es : List Entry) → ltb 0 (length es) ≡ false → es ≡ []
 no-entries [] e = refl
 no-entries (x ∷ es) e = absurd (omega (arith, ltb-false 0 (length (x ∷ es)) e))
 
-diagnostics-fit : (n : ℕ) (d : Diagnostics) → Good n d → DiagnosticsFit d
+diagnostics-fit : (n : ℕ) (d : Diagnostics) → GoodDiagnostics n d → DiagnosticsFit d
 diagnostics-fit n d g = record { entries = record { few = g .count; each = ids (d .entries) (g .entries) }; none = λ e. no-entries (d .entries) (sym (g .listed) ∙ e) }
 
 -- a value of a kind that fits, if one is given
@@ -64,7 +64,7 @@ FitsAs : Kind → Given Span → Type 0
 FitsAs k (given v) = (valueKind v ≡ k) × Fits v
 FitsAs k absent = Unit
 
-by-reading : {A : Type 0} (k : Kind) (is : A → Value Span) (r : Read A) → ((a : A) → got a ≡ r → (valueKind (is a) ≡ k) × Fits (is a)) → FitsAs k (givenBy is r)
+by-reading : {A : Type 0} (k : Kind) (is : A → Value Span) (r : Read A) → ((a : A) → got a ≡ r → (valueKind (is a) ≡ k) × Fits (is a)) → FitsAs k (givenRead is r)
 unfolding FitsAs _>>=_
 by-reading k is (got a) g = g a refl
 by-reading k is (stop x) g = tt

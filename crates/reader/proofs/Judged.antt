@@ -19,7 +19,7 @@ use Rattle.octets.proofs.Chain.{then-got, same-got, got-stop}
 use Rattle.rows.specs.declared.Kind.{Kind}
 use Rattle.rows.specs.declared.Row.{Row}
 use Rattle.rows.specs.Table.{find, known, noRow, kindOf}
-use Rattle.kinds.specs.Kinds.{valueAt}
+use Rattle.kinds.specs.Kinds.{legibleAt}
 use Rattle.kinds.proofs.Laws.{as-read}
 use Rattle.envelopes.specs.declared.Head.{Head}
 use Rattle.envelopes.specs.Envelope.{envelopeAt, scanAt, onHead, headsAt}
@@ -37,7 +37,7 @@ unfolding _>>=_
 got-then-none (got a) q = tt
 got-then-none (stop x) q = got-stop q
 
-pub value-legible : (k : Kind) (s : List ℕ) (v : Span) → got tt ≡ valueAt k (take (v .to) s) (v .from) → Got (readAs k s v)
+pub value-legible : (k : Kind) (s : List ℕ) (v : Span) → got tt ≡ legibleAt k (take (v .to) s) (v .from) → Got (readAs k s v)
 value-legible k s v q = got-then-none (readAs k s v) (q ∙ as-read k s v)
 
 -- ---- elements, and the rows that have them
@@ -68,11 +68,11 @@ module _ (t : List Row) (s : List ℕ) where
   heads-legible (suc n) row at {end} q = by (envelopeAt s at) refl q (λ row to. heads-legible n row to)
     where
       by : (r : Read Head) → r ≡ envelopeAt s at
-          → got end ≡ (r >>= λ h. valueAt (kindOf t (h .id)) (take (h .value .to) s) (h .value .from) >> scanAt t s n (h .value .to))
+          → got end ≡ (r >>= λ h. legibleAt (kindOf t (h .id)) (take (h .value .to) s) (h .value .from) >> scanAt t s n (h .value .to))
           → ((row to : ℕ) → got end ≡ scanAt t s n to → Each Read′ (front t row (headsAt s n to)))
           → Each Read′ (front t row (onHead (λ h. headsAt s n (h .value .to)) r))
       by (got h) e q go =
-          let x = then-got (valueAt (kindOf t (h .id)) (take (h .value .to) s) (h .value .from)) _ q in
+          let x = then-got (legibleAt (kindOf t (h .id)) (take (h .value .to) s) (h .value .from)) _ q in
           let i = envelope-in s at e in
           let w : Read′ h = record { order = omega arith; within = i .2; value = value-legible (kindOf t (h .id)) s (h .value) (x .1) } in
           on-pick (Each Read′) (known t (h .id))

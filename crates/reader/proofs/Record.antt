@@ -21,7 +21,7 @@ use Rattle.editions.specs.declared.Edition.{Edition}
 use Rattle.editions.specs.declared.Message.{Message}
 use Rattle.editions.specs.declared.Named.{Named}
 use Rattle.editions.specs.declared.Named.the-variants as named
-use Rattle.editions.specs.Editions.{tableOf, containerOf, rowsOf, namedBy}
+use Rattle.editions.specs.Editions.{tableOf, containerOf, tableRows, namedBy}
 use Rattle.editions.proofs.Tables.{table-lawful}
 use Rattle.editions.proofs.Names.{number-names, named-listed}
 use Rattle.frames.specs.declared.Frame.{Frame}
@@ -92,7 +92,7 @@ put-front e r d g h p =
 
 -- ---- as the code has it: a table in an array, and what the judging hands back
 
-module _ (e : Edition) (m : Message) (f : Frame) (s : List ℕ) {t : Rows} {x : Opened} {ps : List ℕ} (is : t ≡ rowsOf e m) {c : Bool} (container : c ≡ containerOf e m) (q : Opens (openedAt (rowsIn t) c s (f .from)) x ps) where
+module _ (e : Edition) (m : Message) (f : Frame) (s : List ℕ) {t : Rows} {x : Opened} {ps : List ℕ} (is : t ≡ tableRows e m) {c : Bool} (container : c ≡ containerOf e m) (q : Opens (openedAt (rowsIn t) c s (f .from)) x ps) where
   module _ (g : x .gate ≡ gate.Pass) where
     found : Passed e m f s t x ps
     found = passed e m f s is container q g

@@ -11,7 +11,7 @@ use Rattle.octets.specs.Field.{flagAt, plainAt, padAt, endsAt}
 use Rattle.octets.specs.Write.{numberOctets, Wrote}
 use Rattle.octets.specs.declared.Stop.{Stop}
 use Rattle.octets.proofs.Chain.{past, got-stop, same-got}
-use Rattle.items.specs.Items.{itemsAt, resetBy, resetAt}
+use Rattle.items.specs.Items.{itemsAt, chosenResetAt, resetAt}
 use Rattle.entries.specs.declared.Entry.{Entry}
 use Rattle.entries.specs.Entries.{maybeListAt}
 use Rattle.diagnostics.specs.declared.Head.{Head}
@@ -56,7 +56,7 @@ got-none (stop y) q g = absurd g
 
 module _ (s : List ℕ) (at : ℕ) where
   -- behind its first two bits
-  reset-by : (b : Bool) → Got (resetBy b s at) → ResetIs b (resetBy b s at) (itemsAt s (at + 1))
+  reset-by : (b : Bool) → Got (chosenResetAt b s at) → ResetIs b (chosenResetAt b s at) (itemsAt s (at + 1))
   reset-by true g =
       let p = got-then (padAt s at 2) _ g in
       let x = got-then (itemsAt s (at + 1)) _ (p .2) in

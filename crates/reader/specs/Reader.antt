@@ -1,4 +1,4 @@
--- What the reader answers, and what it leaves in the room, by the verdict on the octets.
+-- Scaffolding: no demand speaks of it. What the reader answers, and what it leaves in the room, by the verdict on the octets.
 use Prim.Native.Nat.{ℕ}
 use mathlib.Core.Path.{_≡_}
 use mathlib.Core.List.{List}

@@ -1,4 +1,4 @@
--- What the steps of the putting ask of each other.
+-- Scaffolding: no demand speaks of it. What the steps of the putting ask of each other.
 use Prim.Native.Nat.{ℕ, _<_, _≤_}
 use mathlib.Core.Path.{_≡_}
 use mathlib.Core.Bool.{Bool, true, false}
@@ -27,11 +27,11 @@ Got (got a) = Unit
 Got (stop x) = ⊥
 
 -- the value that a reading gives, and its slot
-abbrev pub givenBy : {A : Type 0} → (A → Value Span) → Read A → Given Span
-givenBy is r = orAbsent (r >>= λ x. got (is x))
+abbrev pub givenRead : {A : Type 0} → (A → Value Span) → Read A → Given Span
+givenRead is r = orAbsent (r >>= λ x. got (is x))
 
 abbrev pub slotBy : {A : Type 0} → (A → Value Span) → Read A → List ℕ
-slotBy is r = slotOctets (givenBy is r)
+slotBy is r = slotOctets (givenRead is r)
 
 -- a Reset Type that was read is a part of the interface, with the items that stand behind it, or the whole
 abbrev pub ResetIs : Bool → Read ResetType → Read (List Item) → Type 0

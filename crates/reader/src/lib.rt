@@ -18,9 +18,9 @@ ghost use Rattle.meaning.specs.Reading.{readAs, orAbsent, valueIn, valuesIn};
 ghost use Rattle.editions.specs.Editions.{tableOf, containerOf, namedBy};
 ghost use Rattle.verdicts.specs.Verdict.{openedAt, verdictOf, every, readOf};
 ghost use Rattle.layout.specs.Rows.{itemRow, entryRow, listOctets};
-ghost use Rattle.layout.specs.Record.{yes, maybeOctets, headOctets, placeOctets, listsOf, slotOctets};
+ghost use Rattle.layout.specs.Record.{yes, numberSlotOctets, headSlotOctets, placeOctets, listsOf, slotOctets};
 ghost use Rattle.reader.specs.Reader.{Answers};
-ghost use Rattle.reader.specs.Steps.{Got, ResetIs, givenBy, slotBy, Legible, IfPresent, AllLegible, ItemsBegin, EntriesBegin, PutIn};
+ghost use Rattle.reader.specs.Steps.{Got, ResetIs, givenRead, slotBy, Legible, IfPresent, AllLegible, ItemsBegin, EntriesBegin, PutIn};
 use diagnostics::Head;
 use diagnostics::HeadRead;
 use diagnostics::Number;
@@ -136,7 +136,7 @@ struct Pair(u8, u8);
 
 // Whether a number is there, and which.
 fn pair_of(x: Number) -> Pair
-    ensures { λ r. ⌜ maybeOctets x ≡ r .0 ∷ r .1 ∷ [] ⌝ }
+    ensures { λ r. ⌜ numberSlotOctets x ≡ r .0 ∷ r .1 ∷ [] ⌝ }
 {
     match x {
         Number::Is(v) => Pair(1, v),
@@ -152,7 +152,7 @@ fn flag(b: bool) -> u8
 
 fn put_head(room: &mut [u8], at: usize, h: Head) -> usize
     requires { ⌜ at + 8 ≤ length (now room) ⌝ }
-    ensures { λ r. ⌜ Wrote (now (room .entry)) at (fill 0 8 (1 ∷ headOctets h)) (now (room .exit)) r ⌝ }
+    ensures { λ r. ⌜ Wrote (now (room .entry)) at (fill 0 8 (1 ∷ headSlotOctets h)) (now (room .exit)) r ⌝ }
 {
     let code = h.code;
     let trigger = h.trigger;
@@ -405,7 +405,7 @@ fn put_items(room: &mut [u8], at: usize, t: Rows, s: &[u8], places: &[usize; 24]
 // Behind the fields of Criticality Diagnostics that have a list.
 fn list_from(t: Triggers, s: &[u8], from: usize) -> Begins
     requires { ⌜ Got (diagnosticsAt (meanings t) (now s) from) ⌝ }
-    ensures { λ r. ⌜ EntriesBegin (givenBy (diagnostics t) (diagnosticsAt (meanings t) (now (s .entry)) from)) (now (s .entry)) r ⌝ }
+    ensures { λ r. ⌜ EntriesBegin (givenRead (diagnostics t) (diagnosticsAt (meanings t) (now (s .entry)) from)) (now (s .entry)) r ⌝ }
 {
     match diagnostics::head_at(rows::meanings(t), s, from) {
         HeadRead::Is(h, next) => {

@@ -26,7 +26,7 @@ use Rattle.editions.specs.declared.Edition.{Edition}
 use Rattle.editions.specs.declared.Message.{Message}
 use Rattle.editions.specs.declared.Named.{Named}
 use Rattle.editions.specs.declared.Named.the-variants as named
-use Rattle.editions.specs.Editions.{tableOf, rowsOf, numberedBy}
+use Rattle.editions.specs.Editions.{tableOf, tableRows, numberedBy}
 use Rattle.editions.proofs.Names.{numbered-number}
 use Rattle.editions.proofs.Tables.{table-lawful, lawful-count}
 use Rattle.meaning.specs.Value.{Value, Given, given, absent, octetsIn, onCarried, onGiven, saidBy}
@@ -131,7 +131,7 @@ module _ (e : Edition) (s values : List ℕ) where
       by (named.Is m) = rw (record-not e m s (formed-not (tableOf e m) s (lawful-count (tableOf e m) (table-lawful e m)) z))
       by named.Other = refl
 
-  module _ {m : Message} (l : length s ≡ 2662) (f : numberedBy e (getD s 0 0) ≡ named.Is m) {t : Rows} (rs : t ≡ rowsOf e m) where
+  module _ {m : Message} (l : length s ≡ 2662) (f : numberedBy e (getD s 0 0) ≡ named.Is m) {t : Rows} (rs : t ≡ tableRows e m) where
     table : rowsIn t ≡ tableOf e m
     table = ap rowsIn rs ∙ take-fill noRow 12 (tableOf e m)
 

@@ -31,7 +31,7 @@ use Rattle.layout.specs.Record.{Lists, noLists, announced, listsOf, slotOctets,
 use Rattle.layout.proofs.Sizes.{slot-size, slots-size, items-size, entries-size, rows-size}
 use Rattle.record_form.specs.declared.Form.{Form}
 use Rattle.record_form.specs.declared.Form.the-variants.{Is, Not}
-use Rattle.record_form.specs.Form.{slotGood, saysItems, saysEntries, formFrom, itemsPart, entriesPart, zerosAt, behind, formed}
+use Rattle.record_form.specs.Form.{slotGood, saysItems, saysEntries, formFrom, itemsPart, entriesPart, zerosAt, behindSlots, formed}
 
 -- ---- parts of octets that are the same
 
@@ -273,10 +273,10 @@ module _ (t : List Row) (s : List ℕ) (l : length s ≡ 2662) (h : length t ≤
         take-drop 1538 98 s,
       )
 
-  pub formed-by : {f : Form} → f ≡ formFrom false false t (drop 2 s) → behind (length t) s f ≡ formed t s
-  formed-by e = ap (behind (length t) s) (e ∙ form-all false false t (drop 2 s)) ∙ by (slotsGood t (drop 2 s)) ∙ sym parts
+  pub formed-by : {f : Form} → f ≡ formFrom false false t (drop 2 s) → behindSlots (length t) s f ≡ formed t s
+  formed-by e = ap (behindSlots (length t) s) (e ∙ form-all false false t (drop 2 s)) ∙ by (slotsGood t (drop 2 s)) ∙ sym parts
     where
-      by : (g : Bool) → behind (length t) s (pick g (Is (someItems t (drop 2 s)) (someEntries t (drop 2 s))) Not)
+      by : (g : Bool) → behindSlots (length t) s (pick g (Is (someItems t (drop 2 s)) (someEntries t (drop 2 s))) Not)
           ≡ (g && (zerosAt s (2 + 8 * length t) (96 - 8 * length t) && (itemsPart s (someItems t (drop 2 s)) && entriesPart s (someEntries t (drop 2 s)))))
       by true = refl
       by false = refl

@@ -17,7 +17,7 @@ use Rattle.rows.specs.declared.Kind.{Kind}
 use Rattle.rows.specs.declared.Kind.the-variants as kind
 use Rattle.diagnostics.specs.declared.Number.{Number}
 use Rattle.diagnostics.specs.declared.Number.the-variants as number
-use Rattle.layout.specs.Record.{slotOf, slotSays, headOctets}
+use Rattle.layout.specs.Record.{slotOf, slotSays, headSlotOctets}
 use Rattle.record_form.specs.Form.{markOf, usedBy, maybeGood, headGood, restGood, slotGood}
 use Rattle.record_form.proofs.Zeros.{eqb-sym}
 
@@ -69,7 +69,7 @@ listed-then h = and-true (eqb (pick (not (eqb h 0)) 1 0) h) ∙ by (eqb h 0) ref
         both-ways (eqb 1 h) (ltb h 2) (λ f. let o = eqb-true 1 h f in lt-ltb h 2 (omega arith)) (λ f. let o = ltb-true h 2 f in eq-eqb 1 h (omega arith))
 
 module _ (b c d e f g h : ℕ) where
-  head-same : (x y z : Number) (l : Bool) → let os = headOctets (record { code = x; trigger = y; crit = z; listed = l }) in
+  head-same : (x y z : Number) (l : Bool) → let os = headSlotOctets (record { code = x; trigger = y; crit = z; listed = l }) in
       same (os ++ replicate (8 - length (1 ∷ os)) 0) (b ∷ c ∷ d ∷ e ∷ f ∷ g ∷ h ∷ [])
       ≡ numberThen x b c (numberThen y d e (numberThen z f g (eqb (pick l 1 0) h && true)))
   unfolding same

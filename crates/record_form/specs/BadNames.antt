@@ -1,4 +1,4 @@
--- Which slots say a name that is not allowed.
+-- Scaffolding: no demand speaks of it. Which slots say a name that is not allowed.
 use Prim.Native.Nat.{ℕ}
 use mathlib.Core.Bool.{Bool, false, not, _||_}
 use mathlib.Core.List.{List, [], _∷_}

@@ -1,4 +1,4 @@
--- Whether octets are a record's, slot by slot, and what the slots announce.
+-- Scaffolding: no demand speaks of it. Whether octets are a record's, slot by slot, and what the slots announce.
 use Prim.Native.Nat.{ℕ, _+_, _*_, _-_}
 use mathlib.Core.Bool.{Bool, true, false, not, _&&_, _||_}
 use mathlib.Core.List.{List, [], _∷_, _++_}
@@ -134,6 +134,6 @@ abbrev pub entriesPart : List ℕ → Bool → Bool
 entriesPart s said = same (listOctets 1024 entryRow (pick said (listsIn s .entries) [])) (drop 1636 s)
 
 -- behind the slots of n rows: zeros, and the lists
-abbrev pub behind : ℕ → List ℕ → Form → Bool
-behind n s (Is items entries) = zerosAt s (2 + 8 * n) (96 - 8 * n) && (itemsPart s items && entriesPart s entries)
-behind n s Not = false
+abbrev pub behindSlots : ℕ → List ℕ → Form → Bool
+behindSlots n s (Is items entries) = zerosAt s (2 + 8 * n) (96 - 8 * n) && (itemsPart s items && entriesPart s entries)
+behindSlots n s Not = false

@@ -7,7 +7,7 @@ ghost use Rattle.lent.specs.Lent.{same};
 ghost use Rattle.rows.specs.Table.{rowsIn};
 ghost use Rattle.layout.specs.Record.{nameRefused};
 ghost use Rattle.record_form.specs.BadNames.{nameBad, slotBad, slotsBad};
-ghost use Rattle.record_form.specs.Form.{markOf, usedBy, maybeGood, headGood, headOf, restGood, slotGood, saysItems, saysEntries, formFrom, itemsPart, entriesPart, behind, formed};
+ghost use Rattle.record_form.specs.Form.{markOf, usedBy, maybeGood, headGood, headOf, restGood, slotGood, saysItems, saysEntries, formFrom, itemsPart, entriesPart, behindSlots, formed};
 use editions::Edition;
 use editions::Named;
 use rows::Kind;
@@ -251,7 +251,7 @@ fn is_entries_part(said: bool, s: &[u8]) -> bool
 // What stands behind the slots of n rows.
 fn is_behind(n: usize, s: &[u8], form: Form) -> bool
     requires { ⌜ (n ≤ 12) × (length (now s) ≡ 2662) ⌝ }
-    ensures { λ r. ⌜ r ≡ behind n (now (s .entry)) form ⌝ }
+    ensures { λ r. ⌜ r ≡ behindSlots n (now (s .entry)) form ⌝ }
 {
     match form {
         Form::Not => false,

@@ -21,7 +21,7 @@ use Rattle.octets.specs.Field.{flagAt, plainAt, padAt, endsAt}
 use Rattle.octets.specs.Span.{noSpan, present}
 use Rattle.octets.specs.declared.Stop.{Stop}
 use Rattle.octets.proofs.Chain.{then-got, same-got, got-stop}
-use Rattle.items.specs.Items.{ResetType, whole, part, itemsAt, resetBy, resetAt}
+use Rattle.items.specs.Items.{ResetType, whole, part, itemsAt, chosenResetAt, resetAt}
 use Rattle.rows.specs.declared.Row.{Row}
 use Rattle.rows.specs.declared.Kind.{Kind}
 use Rattle.rows.specs.declared.Kind.the-variants as kind
@@ -56,7 +56,7 @@ unfolding _>>=_
 reset-none (got v) e = got-stop (sym e)
 reset-none (stop y) e = refl
 
-part-seen : (b : Bool) (s : List ℕ) (at : ℕ) (v : ResetType) → got v ≡ resetBy b s at → pick b reset.Part reset.Whole ≡ resetSeen (got v)
+part-seen : (b : Bool) (s : List ℕ) (at : ℕ) (v : ResetType) → got v ≡ chosenResetAt b s at → pick b reset.Part reset.Whole ≡ resetSeen (got v)
 part-seen true s at v e =
     let a = then-got (padAt s at 2) _ e in
     let d = then-got (itemsAt s (at + 1)) _ (a .2) in
@@ -74,7 +74,7 @@ reset-seen s at {b} g h =
     let a = then-got (plainAt s at 0) _ (v .1) in
     let d = then-got (flagAt s at 1) _ (a .2) in
     let e : d .0 ≡ b = same-got (d .1 ∙ sym h) in
-    let r : got (v .0) ≡ resetBy b s at = rw (← e) (d .2) in
+    let r : got (v .0) ≡ chosenResetAt b s at = rw (← e) (d .2) in
     part-seen b s at (v .0) r ∙ ap resetSeen (v .1)
 
 pub reset-by-flag : (s : List ℕ) (at : ℕ) {b d : Bool} → _≡_ {A = Read Unit} (got tt) (resetAt s at >> got tt) → got b ≡ flagAt s at 1 → b ≡ d → pick d reset.Part reset.Whole ≡ resetSeen (resetAt s at)

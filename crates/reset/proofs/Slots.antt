@@ -22,22 +22,22 @@ use Rattle.identity.specs.declared.Item.{Item}
 use Rattle.item_words.specs.Words.{itemOf}
 use Rattle.table.specs.Table.{hasMme, hasMce, names, named}
 use Rattle.table.specs.declared.Association.{Association}
-use Rattle.reset.specs.Slots.{mmeSlot, mceSlot, slotBy, slotOf, slotAt, namesIn, Slotted}
+use Rattle.reset.specs.Slots.{mmeSlot, mceSlot, identitiesSlot, itemSlot, slotAt, namesIn, Slotted}
 
 -- ---- the two slots of an association
 first : (a : Association) (m : MmeId) (b : Bool) → hasMme m a ≡ true → (eqb (mmeSlot m) (mmeSlot (a .mme)) || b) ≡ true
 first a m b e = let n : m .0 ≡ a .mme .0 = sym (eqb-true (a .mme .0) (m .0) e) in rw (eq-eqb (mmeSlot m) (mmeSlot (a .mme)) (ap (_% 4096) n))
 
 -- what names it stands in one of them
-there : (a : Association) (x : Mme) (y : Mce) → names (record { mme = x; mce = y }) a ≡ true → (eqb (slotBy x y) (mmeSlot (a .mme)) || eqb (slotBy x y) (mceSlot (a .mce))) ≡ true
+there : (a : Association) (x : Mme) (y : Mce) → names (record { mme = x; mce = y }) a ≡ true → (eqb (identitiesSlot x y) (mmeSlot (a .mme)) || eqb (identitiesSlot x y) (mceSlot (a .mce))) ≡ true
 there a (mme.Is m) (mce.Is c) e = first a m _ (and-left (hasMme m a) (hasMce c a) e)
 there a (mme.Is m) mce.Absent e = first a m _ e
 there a mme.Absent (mce.Is c) e = let n : c .0 ≡ a .mce .0 = sym (eqb-true _ _ e) in rw (eq-eqb (mceSlot c) (mceSlot (a .mce)) (ap (_% 4096) n)) (or-true (eqb (mceSlot c) (mmeSlot (a .mme))))
 there a mme.Absent mce.Absent e = absurd (true≢false (sym e))
 
 in-either : (a : Association) (i : Item) → names i a ≡ (namesIn (mmeSlot (a .mme)) a i || namesIn (mceSlot (a .mce)) a i)
-unfolding slotOf
-in-either a i = by (names i a) (eqb (slotBy (i .mme) (i .mce)) (mmeSlot (a .mme))) (eqb (slotBy (i .mme) (i .mce)) (mceSlot (a .mce))) (there a (i .mme) (i .mce))
+unfolding itemSlot
+in-either a i = by (names i a) (eqb (identitiesSlot (i .mme) (i .mce)) (mmeSlot (a .mme))) (eqb (identitiesSlot (i .mme) (i .mce)) (mceSlot (a .mce))) (there a (i .mme) (i .mce))
   where
     by : (n b d : Bool) → (n ≡ true → (b || d) ≡ true) → n ≡ (b && n || d && n)
     by true b d f = sym (rw (and-true b, and-true d) (f refl))

@@ -1,4 +1,4 @@
--- How the items of a reset are chained by identity, so that each association meets few of them. What a reset means is `without`.
+-- Scaffolding: no demand speaks of it. How the items of a reset are chained by identity, so that each association meets few of them. What a reset means is `without`.
 use mathlib.Core.Bool.{Bool, not, _&&_}
 use mathlib.Core.List.{List}
 use Prim.Native.Nat.{ℕ, min, _%_}
@@ -25,21 +25,21 @@ abbrev pub mceSlot : MceId → ℕ
 mceSlot c = c .0 % 4096
 
 -- by the MME identity, else by the MCE identity; 4,096 is no slot
-abbrev pub slotBy : Mme → Mce → ℕ
-slotBy (mme.Is m) y = mmeSlot m
-slotBy mme.Absent (mce.Is c) = mceSlot c
-slotBy mme.Absent mce.Absent = 4096
+abbrev pub identitiesSlot : Mme → Mce → ℕ
+identitiesSlot (mme.Is m) y = mmeSlot m
+identitiesSlot mme.Absent (mce.Is c) = mceSlot c
+identitiesSlot mme.Absent mce.Absent = 4096
 
-unfoldable pub slotOf : Item → ℕ
-slotOf i = slotBy (i .mme) (i .mce)
+unfoldable pub itemSlot : Item → ℕ
+itemSlot i = identitiesSlot (i .mme) (i .mce)
 
 -- the slot of the item that the word at a place says
 abbrev pub slotAt : List ℕ → ℕ → ℕ
-slotAt ws j = slotOf (itemOf (getD ws j 0))
+slotAt ws j = itemSlot (itemOf (getD ws j 0))
 
 -- the item is in the slot, and names the association
 abbrev pub namesIn : ℕ → Association → Item → Bool
-namesIn h a i = eqb (slotOf i) h && names i a
+namesIn h a i = eqb (itemSlot i) h && names i a
 
 -- the items of the first 256 words are chained
 pub record Slotted (ws head next : List ℕ) : Type 0 where

@@ -8,8 +8,8 @@ ghost use Rattle.lists.specs.Lists.{some};
 ghost use lib.ListN.{length, replicate, take};
 ghost use Rattle.lent.specs.Lent.{firstRows};
 ghost use Rattle.item_words.specs.Words.{itemOf};
-ghost use Rattle.table.specs.Table.{held, tableOf, named, without};
-ghost use Rattle.reset.specs.Slots.{mmeSlot, mceSlot, slotOf, namesIn, Slotted, namesNone};
+ghost use Rattle.table.specs.Table.{held, tableHolding, named, without};
+ghost use Rattle.reset.specs.Slots.{mmeSlot, mceSlot, itemSlot, namesIn, Slotted, namesNone};
 use identity::Item;
 use identity::Mce;
 use identity::MceId;
@@ -33,7 +33,7 @@ fn mce_slot(c: MceId) -> usize
 
 // Where an item is chained; 4,096 for nowhere.
 fn slot(item: Item) -> usize
-    ensures { λ r. ⌜ r ≡ slotOf item ⌝ }
+    ensures { λ r. ⌜ r ≡ itemSlot item ⌝ }
 {
     let x = item.mme;
     let y = item.mce;
@@ -110,7 +110,7 @@ pub fn names_none(s: &[u8], n: usize, words: &[u64]) -> bool
 
 // The words say the items. All that some item names are removed, the others keep their order.
 pub fn reset(t: Table, words: &[u64]) -> Table
-    ensures { λ r. ⌜ r ≡ tableOf (without (map itemOf (take 256 (now (words .entry)))) (held t)) ⌝ }
+    ensures { λ r. ⌜ r ≡ tableHolding (without (map itemOf (take 256 (now (words .entry)))) (held t)) ⌝ }
 {
     let mut head: [u16; 4096] = [0; 4096];
     let mut next: [u16; 256] = [0; 256];

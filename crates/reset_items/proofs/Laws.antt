@@ -16,7 +16,7 @@ use lib.ListN.{length, length-take, take, drop, getD}
 use lib.Seq.{sets, length-sets, drop-cons, drop-length, getD-take}
 use Rattle.lists.specs.Lists.{pick}
 use Rattle.lists.proofs.Slices.{take-within}
-use Rattle.octets.specs.Read.{Read, got, stop, _>>=_}
+use Rattle.octets.specs.Read.{Read, got, stop, _>>=_, orNone}
 use Rattle.octets.specs.Field.{flagAt, plainAt, padAt, numberAt, endsAt}
 use Rattle.octets.specs.Many.{Part, many}
 use Rattle.octets.specs.Span.{noSpan, present}
@@ -28,9 +28,9 @@ use Rattle.values.specs.Values.{mmeAt, mceAt, tmgiAt, oneAt, twoAt, causeAt, wa
 use Rattle.names.specs.Names.{nameAt}
 use Rattle.diagnostics.specs.Diagnostics.{diagnosticsAt}
 use Rattle.item.specs.Item.{itemElementAt}
-use Rattle.items.specs.Items.{ResetType, whole, part, itemsAt, resetBy, resetAt}
+use Rattle.items.specs.Items.{ResetType, whole, part, itemsAt, chosenResetAt, resetAt}
 use Rattle.item_words.specs.Words.{wordOf}
-use Rattle.item_words.specs.Taken.{orNone, partOf, takenOf, resetTakenOf}
+use Rattle.item_words.specs.Taken.{partItems, takenOf, resetTakenOf}
 use Rattle.item_words.specs.declared.Taken.{Taken}
 use Rattle.item_words.specs.declared.Taken.the-variants as taken
 use Rattle.item_words.specs.declared.ResetTaken.{ResetTaken}
@@ -76,7 +76,7 @@ reset-some s at = some-then (plainAt s at 0) _ (λ _. some-then (flagAt s at 1) 
     on (got is) e = items-some s (at + 1) is e
     on (stop x) e = tt
 
-    by : (b : Bool) → Some (resetBy b s at)
+    by : (b : Bool) → Some (chosenResetAt b s at)
     by true = some-then (padAt s at 2) _ (λ _. on (itemsAt s (at + 1)) refl)
     by false = some-then (plainAt s at 2) _ (λ _. some-then (padAt s at 3) _ (λ _. some-then (endsAt s (at + 1)) _ (λ _. tt)))
 
@@ -97,10 +97,10 @@ partCount resetTaken.Whole = 0
 partCount (resetTaken.Part n) = n
 partCount (resetTaken.Stop x) = 0
 
-pub part-is : (r : Read ResetType) {t : ResetTaken} (k : ResetTaken) → t ≡ k → t ≡ resetTakenOf r → partCount k ≡ length (partOf r)
+pub part-is : (r : Read ResetType) {t : ResetTaken} (k : ResetTaken) → t ≡ k → t ≡ resetTakenOf r → partCount k ≡ length (partItems r)
 part-is r {t} k e q = ap partCount (sym e ∙ q) ∙ by r
   where
-    by : (r : Read ResetType) → partCount (resetTakenOf r) ≡ length (partOf r)
+    by : (r : Read ResetType) → partCount (resetTakenOf r) ≡ length (partItems r)
     by (got whole) = refl
     by (got (part is)) = refl
     by (stop x) = refl
@@ -128,11 +128,11 @@ module _ (s : List ℕ) (v : Span) where
     upto : take to s ≡ take (v .to) s
     upto = take-within s (v .to) (length s) refl m
 
-    pub of-reset : partOf (resetAt (take to s) (v .from)) ≡ itemsBy (valueIn kind.ResetType s v)
+    pub of-reset : partItems (resetAt (take to s) (v .from)) ≡ itemsBy (valueIn kind.ResetType s v)
     unfolding readAs _>>=_ listsOf
     of-reset = rw upto (by (resetAt (take (v .to) s) (v .from)) ∙ sym (of-reading kind.ResetType resetAt value.reset refl h))
       where
-        by : (r : Read ResetType) → partOf r ≡ itemsBy (orAbsent (r >>= λ x. got (value.reset x)))
+        by : (r : Read ResetType) → partItems r ≡ itemsBy (orAbsent (r >>= λ x. got (value.reset x)))
         by (got whole) = refl
         by (got (part is)) = refl
         by (stop x) = refl

@@ -1,4 +1,4 @@
--- Items in lent words.
+-- Scaffolding: no demand speaks of it. Items in lent words.
 use Prim.Native.Nat.{ℕ}
 use mathlib.Core.Path.{_≡_}
 use mathlib.Core.List.{List, map}

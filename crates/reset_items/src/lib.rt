@@ -3,7 +3,8 @@ ghost use Rattle.items.specs.Items.{itemsAt, resetAt};
 ghost use mathlib.Core.List.{_∷_, []};
 ghost use Rattle.places.specs.Places.{spansIn};
 ghost use Rattle.rows.specs.Table.{rowsIn};
-ghost use Rattle.item_words.specs.Taken.{orNone, partOf};
+ghost use Rattle.octets.specs.Read.{orNone};
+ghost use Rattle.item_words.specs.Taken.{partItems};
 ghost use Rattle.meaning.specs.Reading.{valueIn, valuesIn};
 ghost use Rattle.layout.specs.Record.{listsOf};
 ghost use Rattle.reset_items.specs.Items.{InFront};
@@ -15,7 +16,7 @@ use rows::Rows;
 
 // Those of a Reset Type: none where it says the whole interface.
 fn part_items(s: &[u8], at: usize, words: &mut [u64]) -> usize
-    ensures { λ r. ⌜ InFront (partOf (resetAt (now (s .entry)) at)) (now (words .entry)) r (now (words .exit)) ⌝ }
+    ensures { λ r. ⌜ InFront (partItems (resetAt (now (s .entry)) at)) (now (words .entry)) r (now (words .exit)) ⌝ }
 {
     match item_words::reset_into(s, at, words) {
         ResetTaken::Whole => 0,

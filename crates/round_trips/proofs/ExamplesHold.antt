@@ -26,10 +26,10 @@ use Rattle.identity.specs.declared.Item.{Item}
 use Rattle.values.specs.Values.{causeAt}
 use Rattle.values.specs.Written.{causeOctets}
 use Rattle.items.specs.Items.{ResetType, part, itemsAt, resetAt}
-use Rattle.item.specs.Item.{marksAt, itemAt, itemElementAt}
-use Rattle.items.specs.Written.{itemOctets, itemElementOctets, itemsOctets, resetOctets, critAt, critsAt, Rejecting}
+use Rattle.item.specs.Item.{itemMarksAt, itemAt, itemElementAt}
+use Rattle.items.specs.Written.{itemOctets, itemElementOctets, itemsOctets, resetOctets, envelopeCritAt, critsAt, Rejecting}
 use Rattle.diagnostics.specs.Diagnostics as diagnostics
-use Rattle.kinds.specs.Kinds.{valueAt}
+use Rattle.kinds.specs.Kinds.{legibleAt}
 use Rattle.rows.specs.Table.{find}
 use Rattle.envelopes.specs.Envelope.{criticalityAt, envelopeAt, scanAt, headsAt}
 use Rattle.elements.specs.Judge.{front, readInto, unknownOf, missingOf, judgedOf, extensionsAt, elementsAt}
@@ -86,7 +86,7 @@ abbrev resetRead : Understood
 resetRead = read 0 4 message.Reset (given (value.cause (record { group = 4; value = 2 })) ∷ given (value.reset (part items)) ∷ [])
 
 pub hold : Hold
-unfolding _>>=_ noMeaning bitsOf flagAt plainAt choiceAt padAt numberAt sameAt longLengthAt lengthAt openAt endsAt packedIn numberOctets lengthOctets many causeAt causeOctets marksAt itemAt itemElementAt itemsAt resetAt itemOctets itemElementOctets itemsOctets resetOctets diagnostics.marksAt diagnostics.headAt diagnostics.diagnosticsAt valueAt find criticalityAt envelopeAt scanAt headsAt front readInto unknownOf missingOf judgedOf extensionsAt elementsAt namedBy firstOf printed readAs valueIn valuesIn onCarried kindAt frameAt containerAt countAt openedAt readOf octetsOf hasOctets saidBy elementsOctets howMany insideOctets messageOctets elementsGood encoded
+unfolding _>>=_ noMeaning bitsOf flagAt plainAt choiceAt padAt numberAt sameAt longLengthAt lengthAt openAt endsAt packedIn numberOctets lengthOctets many causeAt causeOctets itemMarksAt itemAt itemElementAt itemsAt resetAt itemOctets itemElementOctets itemsOctets resetOctets diagnostics.marksAt diagnostics.headAt diagnostics.diagnosticsAt legibleAt find criticalityAt envelopeAt scanAt headsAt front readInto unknownOf missingOf judgedOf extensionsAt elementsAt namedBy firstOf printed readAs valueIn valuesIn onCarried kindAt frameAt containerAt countAt openedAt readOf octetsOf hasOctets saidBy elementsOctets howMany insideOctets messageOctets elementsGood encoded
 hold =
     (refl, refl)
     also (refl, refl)
@@ -109,7 +109,7 @@ all-octets (x ∷ s) e zero = let h = ltb-false 255 x (or-left (ltb 255 x) (some
 all-octets (x ∷ s) e (suc i) = all-octets s (or-right (ltb 255 x) (some (λ y. ltb 255 y) s) e) i
 
 pub reset-rewritable : ResetRewritable
-unfolding _>>=_ bitsOf flagAt plainAt choiceAt padAt numberAt sameAt longLengthAt lengthAt openAt endsAt many causeAt marksAt itemAt itemElementAt itemsAt resetAt critAt critsAt valueAt find criticalityAt envelopeAt scanAt headsAt front readInto unknownOf missingOf judgedOf extensionsAt elementsAt namedBy firstOf printed readAs valueIn valuesIn onCarried kindAt frameAt containerAt countAt openedAt readOf saidBy lacking
+unfolding _>>=_ bitsOf flagAt plainAt choiceAt padAt numberAt sameAt longLengthAt lengthAt openAt endsAt many causeAt itemMarksAt itemAt itemElementAt itemsAt resetAt envelopeCritAt critsAt legibleAt find criticalityAt envelopeAt scanAt headsAt front readInto unknownOf missingOf judgedOf extensionsAt elementsAt namedBy firstOf printed readAs valueIn valuesIn onCarried kindAt frameAt containerAt countAt openedAt readOf saidBy lacking
 reset-rewritable = record {
   octets = all-octets partialReset refl;
   what = resetRead;

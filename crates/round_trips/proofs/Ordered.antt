@@ -15,7 +15,7 @@ use Rattle.octets.specs.declared.Span.{Span}
 use Rattle.octets.specs.Span.{noSpan}
 use Rattle.octets.proofs.Chain.{then-got, same-got}
 use Rattle.octets.specs.Many.{Each}
-use Rattle.kinds.specs.Kinds.{valueAt}
+use Rattle.kinds.specs.Kinds.{legibleAt}
 use Rattle.rows.specs.declared.Row.{Row}
 use Rattle.envelopes.specs.declared.Head.{Head}
 use Rattle.rows.specs.Table.{find, known, kindOf}
@@ -27,14 +27,14 @@ module _ (t : List Row) (s : List ℕ) (end : ℕ) where
   -- elements, each with a value that can be read, from the place on up to the end
   abbrev pub Scanned : ℕ → List Head → Type 0
   Scanned at [] = end ≡ at
-  Scanned at (h ∷ hs) = (got h ≡ envelopeAt s at) × (got tt ≡ valueAt (kindOf t (h .id)) (take (h .value .to) s) (h .value .from)) × Scanned (h .value .to) hs
+  Scanned at (h ∷ hs) = (got h ≡ envelopeAt s at) × (got tt ≡ legibleAt (kindOf t (h .id)) (take (h .value .to) s) (h .value .from)) × Scanned (h .value .to) hs
 
   pub scanned : (n at : ℕ) → got end ≡ scanAt t s n at → (length (headsAt s n at) ≡ n) × Scanned at (headsAt s n at)
   unfolding scanAt headsAt
   scanned zero at q = (refl, same-got q)
   scanned (suc n) at q =
       let a = then-got (envelopeAt s at) _ q in
-      let b = then-got (valueAt (kindOf t (a .0 .id)) (take (a .0 .value .to) s) (a .0 .value .from)) _ (a .2) in
+      let b = then-got (legibleAt (kindOf t (a .0 .id)) (take (a .0 .value .to) s) (a .0 .value .from)) _ (a .2) in
       let r = scanned n (a .0 .value .to) (b .2) in
       subst (λ (x : Read Head). (length (onHead (λ h. headsAt s n (h .value .to)) x) ≡ suc n) × Scanned at (onHead (λ h. headsAt s n (h .value .to)) x)) (a .1)
       (ap suc (r .0), (a .1, b .1, r .1))

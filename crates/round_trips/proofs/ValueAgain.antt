@@ -24,27 +24,27 @@ use Rattle.names.proofs.Again.{name-again}
 use Rattle.values.proofs.Again.{mme-again, mce-again, tmgi-again, one-again, two-again, cause-again, wait-again}
 use Rattle.values.proofs.Good.{cause-good, wait-good}
 use Rattle.items.specs.Items.{ResetType, whole, part, itemsAt, resetAt}
-use Rattle.items.specs.Written.{ignore, GoodReset}
+use Rattle.items.specs.Written.{acknowledgementCrit, GoodReset}
 use Rattle.items.proofs.Again.{items-again, reset-again}
 use Rattle.items.proofs.Good.{items-good, reset-good}
 use Rattle.diagnostics.specs.declared.Number.{Number}
 use Rattle.diagnostics.specs.declared.Number.the-variants as number
 use Rattle.entries.specs.declared.Entry.{Entry}
 use Rattle.diagnostics.specs.Diagnostics.{Diagnostics, diagnosticsAt}
-use Rattle.diagnostics.specs.Written.{Under, GoodEntry, Good}
+use Rattle.diagnostics.specs.Written.{Under, GoodEntry, GoodDiagnostics}
 use Rattle.diagnostics.proofs.Again.{diagnostics-again}
 use Rattle.rows.specs.declared.Kind.{Kind}
 use Rattle.rows.specs.declared.Kind.the-variants as kind
 use Rattle.rows.specs.Table.{meanings}
-use Rattle.kinds.specs.Kinds.{valueAt}
+use Rattle.kinds.specs.Kinds.{legibleAt}
 use Rattle.meaning.specs.Value.{Value, mme, mce, tmgi, one, two, cause, wait, name, reset, list, diagnostics, octetsIn, onCarried}
-use Rattle.meaning.specs.Written.{octetsOf, counted, resetGood, under, entryGood, entriesGood, diagnosticsGood, hasOctets}
+use Rattle.meaning.specs.Written.{octetsOf, isListLength, resetGood, under, entryGood, entriesGood, diagnosticsGood, hasOctets}
 use Rattle.meaning.specs.Reading.{readAs}
 use Rattle.round_trips.specs.Ties.{itemsMarked}
 use Rattle.round_trips.proofs.ValueBack.{front-in, scanned-as}
 
 -- a value of a kind that can be read is read
-pub read-as : (k : Kind) (s : List ℕ) (p : Span) → got tt ≡ valueAt k (take (p .to) s) (p .from) → (v : Value Span) × (got v ≡ readAs k s p)
+pub read-as : (k : Kind) (s : List ℕ) (p : Span) → got tt ≡ legibleAt k (take (p .to) s) (p .from) → (v : Value Span) × (got v ≡ readAs k s p)
 read-as k s p q = let a = then-got (readAs k s p) _ (q ∙ scanned-as k s p) in (a .0, a .1)
 
 -- what holds of each value that a reading gives holds of the value that was read
@@ -82,7 +82,7 @@ module _ (s : List ℕ) (o : Octets s) (p : Span) where
       of-read Filled name (nameAt front (p .from)) q
       (λ a e. subst (λ (x : List ℕ). Fills front (p .from) (nameOctets x)) (name-there s p a i e) (name-again front (p .from) (octets-front s (p .to) o) e))
   value-again kind.ResetType l i q m = of-read Filled reset (resetAt front (p .from)) q (λ a e. reset-again front (p .from) (octets-front s (p .to) o) a e (m a e))
-  value-again kind.Acknowledged l i q m = of-read Filled list (itemsAt front (p .from)) q (λ a e. items-again ignore front (p .from) (octets-front s (p .to) o) e m)
+  value-again kind.Acknowledged l i q m = of-read Filled list (itemsAt front (p .from)) q (λ a e. items-again acknowledgementCrit front (p .from) (octets-front s (p .to) o) e m)
   value-again (kind.Diagnostics t) l i q m =
       of-read Filled (diagnostics t) (diagnosticsAt (meanings t) front (p .from)) q
       (λ a e. let d = diagnostics-again front (octets-front s (p .to) o) (meanings t) (p .from) a e in record { stands = d .0; ends = d .1 })
@@ -92,7 +92,7 @@ module _ (s : List ℕ) (o : Octets s) (p : Span) where
 both : {a b : Bool} → a ≡ true → b ≡ true → (a && b) ≡ true
 both e f = rw (e, f)
 
-pub counted-good : (n : ℕ) → 0 < n → n ≤ 256 → counted n ≡ true
+pub counted-good : (n : ℕ) → 0 < n → n ≤ 256 → isListLength n ≡ true
 counted-good n a b = both (lt-ltb 0 n a) (le-leb n 256 b)
 
 reset-has : (r : ResetType) → GoodReset r → resetGood r ≡ true
@@ -112,7 +112,7 @@ list-has : (b : Bool) (es : List Entry) → b ≡ ltb 0 (length es) → length e
 list-has false es e n g = refl
 list-has true es e n g = both (counted-good (length es) (ltb-true 0 (length es) (sym e)) n) (entries-has es g)
 
-pub diagnostics-has : (n : ℕ) (d : Diagnostics) → Good n d → diagnosticsGood n d ≡ true
+pub diagnostics-has : (n : ℕ) (d : Diagnostics) → GoodDiagnostics n d → diagnosticsGood n d ≡ true
 diagnostics-has n d g =
     both (both (under-has n (d .head .trigger) (g .head .trigger)) (under-has 3 (d .head .crit) (g .head .crit))) (list-has (d .head .listed) (d .entries) (g .listed) (g .count) (g .entries))
 

@@ -29,13 +29,13 @@ use Rattle.names.specs.Names.{nameAt}
 use Rattle.names.proofs.Good.{name-in}
 use Rattle.names.proofs.Back.{name-back}
 use Rattle.items.specs.Items.{ResetType, whole, part, itemsAt, resetAt}
-use Rattle.items.specs.Written.{ignore, GoodReset}
+use Rattle.items.specs.Written.{acknowledgementCrit, GoodReset}
 use Rattle.items.proofs.Back.{items-back, reset-back}
 use Rattle.entries.specs.declared.Entry.{Entry}
 use Rattle.diagnostics.specs.declared.Number.{Number}
 use Rattle.diagnostics.specs.declared.Number.the-variants as number
 use Rattle.diagnostics.specs.Diagnostics.{Diagnostics, marksAt, headAt, diagnosticsAt}
-use Rattle.diagnostics.specs.Written.{Under, GoodEntry, Good}
+use Rattle.diagnostics.specs.Written.{Under, GoodEntry, GoodDiagnostics}
 use Rattle.diagnostics.proofs.Bounds.{marks-in}
 use Rattle.diagnostics.proofs.Back.{diagnostics-back}
 use Rattle.rows.specs.declared.Kind.{Kind}
@@ -44,9 +44,9 @@ use Rattle.rows.specs.declared.Row.{Row}
 use Rattle.rows.specs.declared.Triggers.{Triggers}
 use Rattle.rows.specs.declared.Triggers.the-variants.{Three, Four}
 use Rattle.rows.specs.Table.{meanings}
-use Rattle.kinds.specs.Kinds.{valueAt}
+use Rattle.kinds.specs.Kinds.{legibleAt}
 use Rattle.meaning.specs.Value.{Value, Given, onGiven, carried, mme, mce, tmgi, one, two, cause, wait, name, reset, list, diagnostics, octetsIn, onCarried}
-use Rattle.meaning.specs.Written.{octetsOf, hasOctets, counted, under, entryGood, entriesGood, diagnosticsGood, resetGood}
+use Rattle.meaning.specs.Written.{octetsOf, hasOctets, isListLength, under, entryGood, entriesGood, diagnosticsGood, resetGood}
 use Rattle.meaning.specs.Reading.{readAs, valuesIn}
 use Rattle.octets.specs.declared.Span.{Span}
 use Rattle.octets.specs.Span.{noSpan}
@@ -55,7 +55,7 @@ use Rattle.round_trips.proofs.Each.{each-pass}
 
 -- ---- a value that has octets is good
 
-pub counted-bounds : (n : ℕ) → counted n ≡ true → (0 < n) × (n ≤ 256)
+pub counted-bounds : (n : ℕ) → isListLength n ≡ true → (0 < n) × (n ≤ 256)
 counted-bounds n e = (ltb-true 0 n (and-left (ltb 0 n) (leb n 256) e), leb-true n 256 (and-right (ltb 0 n) (leb n 256) e))
 
 reset-has : (r : ResetType) → ResetRange r → resetGood r ≡ true → GoodReset r
@@ -81,11 +81,11 @@ entries-has (e ∷ es) g h = (
 listed-has : (b : Bool) (es : List Entry) → Each (λ (e : Entry). e .id < 65536) es → (b ≡ false → es ≡ []) → pick b (entriesGood es) true ≡ true
     → Each GoodEntry es × (b ≡ ltb 0 (length es)) × (length es ≤ 256)
 listed-has true es g n e =
-    let c = counted-bounds (length es) (and-left (counted (length es)) _ e) in
-    (entries-has es g (each-pass entryGood es (not-true _ (and-right (counted (length es)) _ e))), sym (lt-ltb 0 (length es) (c .0)), c .1)
+    let c = counted-bounds (length es) (and-left (isListLength (length es)) _ e) in
+    (entries-has es g (each-pass entryGood es (not-true _ (and-right (isListLength (length es)) _ e))), sym (lt-ltb 0 (length es) (c .0)), c .1)
 listed-has false es g n e = rw (n refl) (tt, refl, omega arith)
 
-pub diagnostics-has : (n : ℕ) (d : Diagnostics) → DiagnosticsRange d → diagnosticsGood n d ≡ true → Good n d
+pub diagnostics-has : (n : ℕ) (d : Diagnostics) → DiagnosticsRange d → diagnosticsGood n d ≡ true → GoodDiagnostics n d
 diagnostics-has n d g e =
     let a = and-left (under n (d .head .trigger) && under 3 (d .head .crit)) _ e in
     let l = listed-has (d .head .listed) (d .entries) (g .ids) (g .none) (and-right (under n (d .head .trigger) && under 3 (d .head .crit)) _ e) in
@@ -147,7 +147,7 @@ value-back s p (name os) g e h f =
 value-back s p (reset v) g e h f = rw (sym (reset-back (take (p .to) s) (p .from) v (reset-has v g e) f)) refl
 value-back s p (list is) g e h f =
     let b = counted-bounds (length is) e in
-    rw (sym (items-back ignore (omega arith) (take (p .to) s) (p .from) is (b .0, b .1, g) f)) refl
+    rw (sym (items-back acknowledgementCrit (omega arith) (take (p .to) s) (p .from) is (b .0, b .1, g) f)) refl
 value-back s p (diagnostics t d) g e h f = rw (sym (diagnostics-back (take (p .to) s) (meanings t) (meanings-few t) (p .from) d (diagnostics-has (meanings t) d g e) (f .stands) (f .ends))) refl
 
 -- what can be scanned is what can be read as a value
@@ -156,8 +156,8 @@ unfolding _>>=_
 dropped is (got a) = refl
 dropped is (stop x) = refl
 
-pub scanned-as : (k : Kind) (s : List ℕ) (p : Span) → valueAt k (take (p .to) s) (p .from) ≡ (readAs k s p >> got tt)
-unfolding valueAt readAs _>>=_
+pub scanned-as : (k : Kind) (s : List ℕ) (p : Span) → legibleAt k (take (p .to) s) (p .from) ≡ (readAs k s p >> got tt)
+unfolding legibleAt readAs _>>=_
 scanned-as kind.Carried s p = refl
 scanned-as kind.Mme s p = dropped mme (mmeAt (take (p .to) s) (p .from))
 scanned-as kind.Mce s p = dropped mce (mceAt (take (p .to) s) (p .from))
@@ -171,7 +171,7 @@ scanned-as kind.ResetType s p = dropped reset (resetAt (take (p .to) s) (p .from
 scanned-as kind.Acknowledged s p = dropped list (itemsAt (take (p .to) s) (p .from))
 scanned-as (kind.Diagnostics t) s p = dropped (diagnostics t) (diagnosticsAt (meanings t) (take (p .to) s) (p .from))
 
-pub value-read : (k : Kind) (s : List ℕ) (p : Span) {v : Value (List ℕ)} → got v ≡ saidAt k s p → got tt ≡ valueAt k (take (p .to) s) (p .from)
+pub value-read : (k : Kind) (s : List ℕ) (p : Span) {v : Value (List ℕ)} → got v ≡ saidAt k s p → got tt ≡ legibleAt k (take (p .to) s) (p .from)
 value-read k s p q = let a = then-got (readAs k s p) _ q in past _ (a .0) (a .1) refl ∙ sym (scanned-as k s p)
 
 -- ---- of no octets nothing is read
@@ -229,8 +229,8 @@ module _ (at : ℕ) where
   diagnostics-none n v q = omega (arith, marks-in [] at (then-got (marksAt [] at) _ (then-got (headAt n [] at) _ q .1) .1))
 
 -- a value that has octets has at least one
-some-octets : (v : Value (List ℕ)) → hasOctets v ≡ true → octetsOf v ≡ [] → got tt ≡ valueAt (valueKind v) [] 0 → ⊥
-unfolding octetsOf hasOctets valueAt
+some-octets : (v : Value (List ℕ)) → hasOctets v ≡ true → octetsOf v ≡ [] → got tt ≡ legibleAt (valueKind v) [] 0 → ⊥
+unfolding octetsOf hasOctets legibleAt
 some-octets (carried os) e z q = let h = ltb-true 0 (length os) e in omega (arith, ap length z)
 some-octets (mme v) e z q = mme-none 0 _ (then-got (mmeAt [] 0) _ q .1)
 some-octets (mce v) e z q = mce-none 0 _ (then-got (mceAt [] 0) _ q .1)

@@ -42,8 +42,8 @@ pub record Example : Type 0 where
   pub what : What
   pub octets : List ℕ
 
-abbrev saying : Message → List (Given (List ℕ)) → Said
-saying m vs = record { message = m; values = vs }
+abbrev sayingValues : Message → List (Given (List ℕ)) → Said
+sayingValues m vs = record { message = m; values = vs }
 
 -- the octets are read as what they are, all of them
 abbrev pub Reads : What → List ℕ → Type 0
@@ -52,16 +52,16 @@ Reads (noNumber at) s = lengthAt s 0 ≡ stop (stopped.Fault (record { octet = a
 Reads (item i) s = itemAt s 0 ≡ got i
 Reads (cause c) s = causeAt s 0 ≡ got c
 Reads (reset r) s = resetAt s 0 ≡ got r
-Reads (message m vs) s = ReadAs Release18 s (saying m vs)
+Reads (message m vs) s = ReadAs Release18 s (sayingValues m vs)
 
 -- it is written as the octets; what is no length is not written
-abbrev pub Writes : What → List ℕ → Type 0
-Writes (number n) s = lengthOctets n ≡ s
-Writes (noNumber at) s = (n : ℕ) → lengthOctets n ≡ s → ⊥
-Writes (item i) s = itemOctets i ≡ s
-Writes (cause c) s = causeOctets c ≡ s
-Writes (reset r) s = resetOctets r ≡ s
-Writes (message m vs) s = encoded Release18 (saying m vs) ≡ written.octets s
+abbrev pub WrittenAs : What → List ℕ → Type 0
+WrittenAs (number n) s = lengthOctets n ≡ s
+WrittenAs (noNumber at) s = (n : ℕ) → lengthOctets n ≡ s → ⊥
+WrittenAs (item i) s = itemOctets i ≡ s
+WrittenAs (cause c) s = causeOctets c ≡ s
+WrittenAs (reset r) s = resetOctets r ≡ s
+WrittenAs (message m vs) s = encoded Release18 (sayingValues m vs) ≡ written.octets s
 
 abbrev both : ℕ → ℕ → Item
 both m c = record { mme = mme.Is (record { 0 = m }); mce = mce.Is (record { 0 = c }) }
@@ -101,7 +101,7 @@ examples =
 
 -- Each example is written as its octets, and read from them.
 abbrev pub Hold : Type 0
-Hold = Each (λ (e : Example). Writes (e .what) (e .octets) × Reads (e .what) (e .octets)) examples
+Hold = Each (λ (e : Example). WrittenAs (e .what) (e .octets) × Reads (e .what) (e .octets)) examples
 
 -- The rewriting theorem speaks of this RESET.
 abbrev pub ResetRewritable : Type 0

@@ -9,7 +9,7 @@ use Rattle.octets.specs.Read.{got}
 use Rattle.octets.specs.Stands.{Octets}
 use Rattle.octets.specs.Many.{Each}
 use Rattle.items.specs.Items.{ResetType, resetAt}
-use Rattle.items.specs.Written.{ignore, Marked, Rejecting}
+use Rattle.items.specs.Written.{acknowledgementCrit, Marked, Rejecting}
 use Rattle.rows.specs.declared.Kind.{Kind}
 use Rattle.rows.specs.declared.Kind.the-variants as kind
 use Rattle.rows.specs.declared.Row.{Row}
@@ -28,7 +28,7 @@ use Rattle.verdicts.specs.Verdict.{Understood, understood, every, readOf}
 -- the criticalities in the envelopes of items are the tables'
 abbrev pub itemsMarked : Kind → List ℕ → ℕ → Type 0
 itemsMarked kind.ResetType s at = (r : ResetType) → got r ≡ resetAt s at → Rejecting r s at
-itemsMarked kind.Acknowledged s at = Marked ignore s at
+itemsMarked kind.Acknowledged s at = Marked acknowledgementCrit s at
 itemsMarked kind.Carried s at = Unit
 itemsMarked kind.Mme s at = Unit
 itemsMarked kind.Mce s at = Unit

@@ -17,7 +17,7 @@ use Rattle.meaning.specs.Written.{Encoded, octets, none}
 use Rattle.layout.specs.Record.{written, nameRefused}
 use Rattle.plan.specs.declared.Written.{Written}
 use Rattle.plan.specs.declared.Written.the-variants as written
-use Rattle.plan.specs.Written.{Writing, kept, front, writtenIn, Writes}
+use Rattle.plan.specs.Written.{Writing, kept, inFront, writtenIn, Writes}
 use Rattle.units.specs.Unit.{Unit, withOpen, unitOctets, openIn, openOut, MaybeUnit, isUnit, noUnit, readUnit, lookedIn}
 use Rattle.units.proofs.Parts.{read-unit}
 use Rattle.units.proofs.OneForm.{mark-put}
@@ -115,7 +115,7 @@ module _ (e : Edition) (t : List ℕ) (c : Setup) where
               sent : SetupDone
               sent = record { answer = Opened; request = os; unit = unitOctets (withOpen true u); room = os ++ drop (length os) (c .room) }
 
-              by : (b : Bool) → LeftBy (pick b (front (c .room) os) (kept written.NoRoom (c .room))) (pick b sent (refusing NoRoom t (c .room)))
+              by : (b : Bool) → LeftBy (pick b (inFront (c .room) os) (kept written.NoRoom (c .room))) (pick b sent (refusing NoRoom t (c .room)))
               by true = (refl, refl, refl, refl)
               by false = (refl, refl)
 

@@ -12,7 +12,7 @@ use Rattle.rows.specs.declared.Rows.{Rows}
 use Rattle.rows.specs.Table.{rowsIn}
 use Rattle.editions.specs.declared.Edition.{Edition}
 use Rattle.editions.specs.declared.Message.{Message}
-use Rattle.editions.specs.Editions.{tableOf, containerOf, rowsOf}
+use Rattle.editions.specs.Editions.{tableOf, containerOf, tableRows}
 use Rattle.frames.specs.declared.Frame.{Frame}
 use Rattle.meaning.specs.Reading.{valuesIn}
 use Rattle.verdicts.specs.declared.Refusal.{Refusal}
@@ -34,7 +34,7 @@ module _ (e : Edition) (s : List ℕ) where
   unfolding nameIn
   refused-as q = sym (ap foundIn q)
 
-module _ (e : Edition) (m : Message) (f : Frame) (s : List ℕ) {t : Rows} {o : Opened} {ps : List ℕ} (rows : t ≡ rowsOf e m) {c : Bool} (container : c ≡ containerOf e m) (q : Opens (openedAt (rowsIn t) c s (f .from)) o ps) where
+module _ (e : Edition) (m : Message) (f : Frame) (s : List ℕ) {t : Rows} {o : Opened} {ps : List ℕ} (rows : t ≡ tableRows e m) {c : Bool} (container : c ≡ containerOf e m) (q : Opens (openedAt (rowsIn t) c s (f .from)) o ps) where
   pub not-opened : {x : Stop} → o .gate ≡ gate.Stop x → Nothing ≡ foundIn (verdictOf (tableOf e m) m f s (openedAt (tableOf e m) (containerOf e m) s (f .from)))
   not-opened g = sym (ap foundIn (verdict-stops e m f s rows container q g))
 

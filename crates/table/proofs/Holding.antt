@@ -13,18 +13,18 @@ use Rattle.lists.specs.Lists.{pick, keep, fill}
 use Rattle.lists.proofs.Keep.{keep-append}
 use Rattle.lists.proofs.Slices.{take-next, take-within, drop-replicate}
 use Rattle.lists.proofs.Fill.{length-fill, fill-more}
-use Rattle.table.specs.Table.{State, unheld, held, tableOf, vacated, holding, starting}
+use Rattle.table.specs.Table.{State, unheld, held, tableHolding, vacated, holding, starting}
 use Rattle.table.specs.declared.Association.{Association}
 use Rattle.table.specs.declared.Table.{Table}
 use Rattle.table.proofs.Rows.{held-of}
 use Rattle.table.proofs.Rules.{appended, not-appended}
 
 -- ---- the table of a state, holding another
-pub holding-of : (l m : State) → length m ≤ 256 → holding l (tableOf m) ≡ tableOf l
+pub holding-of : (l m : State) → length m ≤ 256 → holding l (tableHolding m) ≡ tableHolding l
 unfolding holding
 holding-of l m h =
     let e : length m + (256 - length m) ≡ 256 = omega arith in
-    let v : vacated (tableOf m) ≡ replicate 256 unheld =
+    let v : vacated (tableHolding m) ≡ replicate 256 unheld =
     rw (held-of m, drop-append-seam m (replicate (256 - length m) unheld), replicate-append-replicate (length m) (256 - length m) unheld, e) in
     rw (v, drop-replicate (length l) 256 unheld)
 

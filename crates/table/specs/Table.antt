@@ -38,8 +38,8 @@ abbrev pub held : Table → State
 held t = take (t .count) (t .rows)
 
 -- the table of a state of at most 256: none stands in the rows behind it
-abbrev pub tableOf : State → Table
-tableOf l = record { rows = fill unheld 256 l; count = length l }
+abbrev pub tableHolding : State → Table
+tableHolding l = record { rows = fill unheld 256 l; count = length l }
 
 -- the rows of a table with those emptied that are held
 abbrev pub vacated : Table → State

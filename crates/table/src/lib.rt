@@ -2,7 +2,7 @@
 ghost use mathlib.Core.Path.{_≡_};
 ghost use mathlib.Core.List.{[]};
 ghost use lib.Dec.{eqb};
-ghost use Rattle.table.specs.Table.{emptyAssociation, held, tableOf, hasPair, names, starting, stopping, holding};
+ghost use Rattle.table.specs.Table.{emptyAssociation, held, tableHolding, hasPair, names, starting, stopping, holding};
 use identity::Item;
 use identity::Mce;
 use identity::MceId;
@@ -64,7 +64,7 @@ const UNHELD: Association = Association {
 
 // The table that holds nothing; a whole reset leaves it.
 pub fn empty() -> Table
-    ensures { λ r. ⌜ r ≡ tableOf [] ⌝ }
+    ensures { λ r. ⌜ r ≡ tableHolding [] ⌝ }
 {
     Table {
         rows: [UNHELD; 256],

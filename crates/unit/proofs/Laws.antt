@@ -25,7 +25,7 @@ use Rattle.frames.specs.declared.Frame.{Frame}
 use Rattle.table.specs.declared.Association.{Association}
 use Rattle.table.specs.declared.Table.{Table}
 use Rattle.table.specs.declared.Standing.{Standing}
-use Rattle.table.specs.Table.{State, held, tableOf, holding, starting, distinctHeld}
+use Rattle.table.specs.Table.{State, held, tableHolding, holding, starting, distinctHeld}
 use Rattle.table.specs.Table as table
 use Rattle.table.proofs.Rows.{held-of}
 use Rattle.table.proofs.Rules.{appended, not-appended}
@@ -246,7 +246,7 @@ module _ (n : ℕ) (t : List ℕ) (h : HasRows n t) where
   few : length l ≤ 256
   few = one-form .table (take 3074 t) l table-in .few
 
-  put-from : (k : ℕ) (m : State) {x : Table} {t′ : List ℕ} → k ≤ length l → k ≤ length m → take k l ≡ take k m → x ≡ tableOf m →
+  put-from : (k : ℕ) (m : State) {x : Table} {t′ : List ℕ} → k ≤ length l → k ≤ length m → take k l ≡ take k m → x ≡ tableHolding m →
       t′ ≡ tableOut k (held x) (take 3074 t) ++ drop 3074 t → t′ ≡ unitOctets (withHeld (λ y. m) (unitIn n t))
   unfolding unitOctets
   put-from k m {x} {t′} a b e p q =
@@ -255,18 +255,18 @@ module _ (n : ℕ) (t : List ℕ) (h : HasRows n t) where
       q ∙ (λ i. w i ++ marks-of t (unitIn n t) (h .0) i)
 
   -- all of it
-  pub put-out : (m : State) {x : Table} {t′ : List ℕ} → x ≡ tableOf m → t′ ≡ tableOut 0 (held x) (take 3074 t) ++ drop 3074 t → t′ ≡ unitOctets (withHeld (λ y. m) (unitIn n t))
+  pub put-out : (m : State) {x : Table} {t′ : List ℕ} → x ≡ tableHolding m → t′ ≡ tableOut 0 (held x) (take 3074 t) ++ drop 3074 t → t′ ≡ unitOctets (withHeld (λ y. m) (unitIn n t))
   put-out m p q = put-from 0 m (omega arith) (omega arith) refl p q
 
   -- the rows by value, and what holds others then
-  held-then : (f : State → State) {x y : Table} → x ≡ tableOf l → y ≡ holding (f (held x)) x → y ≡ tableOf (f l)
+  held-then : (f : State → State) {x y : Table} → x ≡ tableHolding l → y ≡ holding (f (held x)) x → y ≡ tableHolding (f l)
   held-then f {x} {y} p q = q ∙ ap (λ (z : State). holding (f z) x) (ap held p ∙ held-of l) ∙ ap (holding (f l)) p ∙ holding-of (f l) l few
 
-  pub put-stop : (m : MmeId) (c : MceId) {x y : Table} {t′ : List ℕ} → x ≡ tableOf l → y ≡ holding (table.stopping m c (held x)) x →
+  pub put-stop : (m : MmeId) (c : MceId) {x y : Table} {t′ : List ℕ} → x ≡ tableHolding l → y ≡ holding (table.stopping m c (held x)) x →
       t′ ≡ tableOut 0 (held y) (take 3074 t) ++ drop 3074 t → t′ ≡ unitOctets (withHeld (table.stopping m c) (unitIn n t))
   put-stop m c p q r = put-out (table.stopping m c l) (held-then (table.stopping m c) p q) r
 
-  pub put-start : (a : Association) {x y : Table} {t′ : List ℕ} → x ≡ tableOf l → y ≡ holding (starting a (held x)) x →
+  pub put-start : (a : Association) {x y : Table} {t′ : List ℕ} → x ≡ tableHolding l → y ≡ holding (starting a (held x)) x →
       t′ ≡ tableOut n (held y) (take 3074 t) ++ drop 3074 t → t′ ≡ unitOctets (withHeld (starting a) (unitIn n t))
   put-start a p q r =
       let s = start-front a l (h .1) in
@@ -284,7 +284,7 @@ module _ (n : ℕ) (t : List ℕ) (h : HasRows n t) where
   put-closed q = q ∙ mark-put t (unitIn n t) (h .0) false
 
 -- the rows by value, and what a reset leaves of them
-pub reset-rows : (l : State) (is : List Item) {t u : Table} → t ≡ tableOf l → u ≡ tableOf (table.without is (held t)) → u ≡ tableOf (table.without is l)
+pub reset-rows : (l : State) (is : List Item) {t u : Table} → t ≡ tableHolding l → u ≡ tableHolding (table.without is (held t)) → u ≡ tableHolding (table.without is l)
 reset-rows l is e q = q ∙ rw (e, held-of l)
 
 -- where no item names a row, the unit that a reset leaves is the one that is there

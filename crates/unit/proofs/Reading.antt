@@ -19,7 +19,7 @@ use Rattle.rows.specs.Table.{rowsIn}
 use Rattle.editions.specs.declared.Edition.{Edition}
 use Rattle.editions.specs.declared.Message.{Message}
 use Rattle.editions.specs.declared.Named.{Named}
-use Rattle.editions.specs.Editions.{tableOf, containerOf, rowsOf, namedBy}
+use Rattle.editions.specs.Editions.{tableOf, containerOf, tableRows, namedBy}
 use Rattle.editions.proofs.Tables.{Fits, rows-fit}
 use Rattle.frames.specs.declared.Frame.{Frame}
 use Rattle.frames.specs.Frame.{frameAt}
@@ -59,7 +59,7 @@ module _ (e : Edition) (s : List ℕ) where
 
 -- ---- the numbers of a table
 
-pub numbers-fit : (e : Edition) (m : Message) {t : Rows} → t ≡ rowsOf e m → Each NumbersFit (rowsIn t)
+pub numbers-fit : (e : Edition) (m : Message) {t : Rows} → t ≡ tableRows e m → Each NumbersFit (rowsIn t)
 numbers-fit e m q = subst (Each NumbersFit) (sym (rows-of e m q)) (each (tableOf e m) (rows-fit e m))
   where
     each : (t : List Row) → Each Fits t → Each NumbersFit t
@@ -91,7 +91,7 @@ noted-count r q = ap (λ (z : Opened). z .noted) (q .result) ∙ by r
     by (got y) = refl
     by (stop x) = refl
 
-module _ (e : Edition) (m : Message) (f : Frame) (s : List ℕ) {t : Rows} {o : Opened} {ps : List ℕ} (rows : t ≡ rowsOf e m) {b : Bool} (container : b ≡ containerOf e m) (q : Opens (openedAt (rowsIn t) b s (f .from)) o ps) (g : o .gate ≡ gate.Pass) where
+module _ (e : Edition) (m : Message) (f : Frame) (s : List ℕ) {t : Rows} {o : Opened} {ps : List ℕ} (rows : t ≡ tableRows e m) {b : Bool} (container : b ≡ containerOf e m) (q : Opens (openedAt (rowsIn t) b s (f .from)) o ps) (g : o .gate ≡ gate.Pass) where
   found : Passed e m f s t o ps
   found = passed e m f s rows container q g
 

@@ -1,4 +1,4 @@
--- The call, as the code hands it back.
+-- Scaffolding: no demand speaks of it. The call, as the code hands it back.
 use Prim.Native.Nat.{ℕ, _<_}
 use mathlib.Core.Path.{_≡_}
 use mathlib.Core.Bool.{Bool, true, false}
@@ -20,7 +20,7 @@ use Rattle.carry.specs.declared.Change.{Change}
 use Rattle.carry.specs.declared.Change.the-variants as change
 use Rattle.calls.specs.Decided.{Decided, decided}
 use Rattle.calls.specs.Judged.{judgedBy}
-use Rattle.calls.specs.Call.{Call, Back, answerOf, unitAfter, nothing, settled}
+use Rattle.calls.specs.Call.{Call, Back, answerOf, unitAfter, withoutReply, settled}
 use Rattle.unit.specs.declared.Back as own
 
 -- an answer without a reply, if there is a unit
@@ -69,7 +69,7 @@ resets (change.SetupFails w) = false
 -- what comes back, by what the unit's octets say and what is decided on it
 abbrev pub carriedOn : Edition → List ℕ → List ℕ → (units.Unit → Decided) → MaybeUnit → Back
 carriedOn e t d decide (isUnit u) = settled e t d (decide u)
-carriedOn e t d decide noUnit = nothing answer.NoUnit t d
+carriedOn e t d decide noUnit = withoutReply answer.NoUnit t d
 
 -- of a verdict on the message
 abbrev pub settledOn : Edition → List ℕ → Call → Verdict → MaybeUnit → Back

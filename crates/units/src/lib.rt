@@ -1,7 +1,7 @@
 // The unit as 3,088 octets that the host lends: the table in front, the marks behind it. The mark of an open setup request is the one that may be set.
 ghost use mathlib.Core.Path.{_≡_};
 ghost use lib.ListN.{take};
-ghost use Rattle.table.specs.Table.{held, tableOf};
+ghost use Rattle.table.specs.Table.{held, tableHolding};
 ghost use Rattle.lent.specs.Lent.{firstRows};
 ghost use Rattle.lent.specs.Tests.{zeros};
 ghost use Rattle.put_table.specs.Out.{tableOut};
@@ -70,7 +70,7 @@ pub fn put_open(is: bool, unit: &mut [u8])
 
 // The first n rows of the table in front, whether or not it is one.
 pub fn rows_in(unit: &[u8], n: usize) -> Table
-    ensures { λ r. ⌜ r ≡ tableOf (firstRows n (take 3074 (now (unit .entry)))) ⌝ }
+    ensures { λ r. ⌜ r ≡ tableHolding (firstRows n (take 3074 (now (unit .entry)))) ⌝ }
 {
     let end = numbers::lesser(unit.len(), 3074);
     lent::rows_in(&unit[..end], n)

@@ -1,4 +1,4 @@
--- The readers' answers, as readings.
+-- Scaffolding: no demand speaks of it. The readers' answers, as readings.
 use Prim.Native.Nat.{ℕ}
 use Rattle.octets.specs.Read.{Read, got, stop}
 use Rattle.identity.specs.declared.MmeId.{MmeId}

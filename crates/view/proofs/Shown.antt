@@ -13,13 +13,13 @@ use Rattle.identity.specs.declared.Session.the-variants as session
 use Rattle.table.specs.declared.Association.{Association}
 use Rattle.lists.specs.Lists.{some}
 use Rattle.table.specs.Table.{State, emptyAssociation}
-use Rattle.lent.specs.Lent.{valueOf}
+use Rattle.lent.specs.Lent.{sessionOctet}
 use Rattle.units.specs.Unit.{Unit, isUnit, readUnit}
 use Rattle.units.proofs.OneForm.{one-unit}
 use Rattle.console.specs.declared.Record.{Record}
 use Rattle.console.specs.Console.{standsFor, isTable, counted, elsewhere, countedRun}
 use Rattle.view.specs.declared.Row.{Row}
-use Rattle.view.specs.View.{isThere, recordOf, rowFor, countFor}
+use Rattle.view.specs.View.{hasSession, recordOf, rowFor, countFor}
 use Rattle.view.specs.Shows.{Shows}
 
 -- a record stands for what it was made of

@@ -8,7 +8,7 @@ use Rattle.identity.specs.declared.Session.{Session}
 use Rattle.identity.specs.declared.Session.the-variants as session
 use Rattle.table.specs.declared.Association.{Association}
 use Rattle.table.specs.Table.{emptyAssociation}
-use Rattle.lent.specs.Lent.{valueOf}
+use Rattle.lent.specs.Lent.{sessionOctet}
 use Rattle.units.specs.Unit.{Unit, MaybeUnit, isUnit, noUnit, openOctet}
 use Rattle.console.specs.declared.TmgiOctets.{TmgiOctets}
 use Rattle.console.specs.declared.Record.{Record}
@@ -17,12 +17,12 @@ use Rattle.console.specs.Console.{hasTmgi, carriedOut, noTable}
 use Rattle.view.specs.declared.Row.{Row}
 use Rattle.view.specs.declared.Marks.{Marks}
 
-abbrev pub isThere : Session → Bool
-isThere (session.Is v) = true
-isThere session.Absent = false
+abbrev pub hasSession : Session → Bool
+hasSession (session.Is v) = true
+hasSession session.Absent = false
 
-abbrev octetsOf : Tmgi → TmgiOctets
-octetsOf t = record {
+abbrev hostTmgi : Tmgi → TmgiOctets
+hostTmgi t = record {
   plmn = record { 0 = t .plmn .0; 1 = t .plmn .1; 2 = t .plmn .2 };
   service = record { 0 = t .service .0; 1 = t .service .1; 2 = t .service .2 };
 }
@@ -32,9 +32,9 @@ abbrev pub recordOf : Association → Record
 recordOf a = record {
   mme = a .mme;
   mce = a .mce;
-  tmgi = octetsOf (a .tmgi);
-  flag = isThere (a .session);
-  session = valueOf (a .session);
+  tmgi = hostTmgi (a .tmgi);
+  flag = hasSession (a .session);
+  session = sessionOctet (a .session);
   link = 0;
 }
 

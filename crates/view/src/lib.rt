@@ -4,10 +4,10 @@ ghost use Prim.Native.Nat.{_+_, _*_, _≤_, _<_};
 ghost use lib.ListN.{length, getD, drop, take};
 ghost use Rattle.lists.specs.Lists.{keep};
 ghost use Rattle.table.specs.Table.{emptyAssociation};
-ghost use Rattle.lent.specs.Lent.{valueOf, rowsOf};
+ghost use Rattle.lent.specs.Lent.{sessionOctet, rowsOf};
 ghost use Rattle.units.specs.Unit.{readUnit, openOctet, openIn};
 ghost use Rattle.console.specs.Console.{tmgiOf, hasTmgi};
-ghost use Rattle.view.specs.View.{isThere, recordOf, rowFor, countFor, marksFor};
+ghost use Rattle.view.specs.View.{hasSession, recordOf, rowFor, countFor, marksFor};
 use console::Counted;
 use console::Record;
 use console::Three;
@@ -47,7 +47,7 @@ const NOBODY: Item = Item {
 };
 
 fn is_there(s: Session) -> bool
-    ensures { λ r. ⌜ r ≡ isThere s ⌝ }
+    ensures { λ r. ⌜ r ≡ hasSession s ⌝ }
 {
     match s {
         Session::Is(_) => true,
@@ -56,7 +56,7 @@ fn is_there(s: Session) -> bool
 }
 
 fn value_of(s: Session) -> u8
-    ensures { λ r. ⌜ r ≡ valueOf s ⌝ }
+    ensures { λ r. ⌜ r ≡ sessionOctet s ⌝ }
 {
     match s {
         Session::Is(v) => v,

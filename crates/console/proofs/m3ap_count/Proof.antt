@@ -50,7 +50,7 @@ use denote.Triple.Walked.{says, Stays, stay-none, stay-none-slice, walkOf, goes-
 use denote.Triple.Clauses.{ensured, lasts}
 use denote.Exit.{yes}
 use Rattle.console.specs.Console.{tmgiOf, countedRun}
-use Rattle.console.specs.Numbers.{Octets, numberOf, noMme, noMce, gathered, putIn, countedIn}
+use Rattle.console.specs.Numbers.{Octets6, sixOf, noMme, noMce, gathered, putIn, countedIn}
 use Rattle.console.specs.declared.Record.{Record}
 use Rattle.console.specs.declared.TmgiOctets.{TmgiOctets}
 use Rattle.console.specs.declared.Numbers.{Numbers}
@@ -234,13 +234,13 @@ module _ {M : Type 1} (𝓤 : URA M) (H : Heap 𝓤) (A : Atoms 𝓤) (W : Given
   said-none r = exE 𝓤 _ (λ ws. snd∗ 𝓤 (sem 𝓤 H A (lasts none-yet.ended tt tt ws)) (fact 𝓤 (r ≡ gathered [])))
 
   abbrev Stored : ℕ → Numbers → Type 0
-  Stored i r = (r ≡ putIn (upto i) i (rowAt i)) × Octets (rowAt i .tmgi)
+  Stored i r = (r ≡ putIn (upto i) i (rowAt i)) × Octets6 (rowAt i .tmgi)
 
   said-with : (i : ℕ) (r : Numbers) → ent 𝓤 (ensured 𝓤 H A with-record.ended (with-record.clauses 𝓤 H A mem run) tt (upto i, (i, (rowAt i, tt))) tt r) (fact 𝓤 (Stored i r))
   said-with i r = exE 𝓤 _ (λ ws. snd∗ 𝓤 (sem 𝓤 H A (lasts with-record.ended tt (upto i, (i, (rowAt i, tt))) ws)) (fact 𝓤 (Stored i r)))
 
   abbrev Answers : ℕ → Counted → Type 0
-  Answers i r = (r ≡ countedIn (upto i) n (numberOf t)) × Octets t
+  Answers i r = (r ≡ countedIn (upto i) n (sixOf t)) × Octets6 t
 
   said-judged : (i : ℕ) (r : Counted) → ent 𝓤 (ensured 𝓤 H A judged.ended (judged.clauses 𝓤 H A mem run) tt (upto i, (n, (t, tt))) tt r) (fact 𝓤 (Answers i r))
   said-judged i r = exE 𝓤 _ (λ ws. snd∗ 𝓤 (sem 𝓤 H A (lasts judged.ended tt (upto i, (n, (t, tt))) ws)) (fact 𝓤 (Answers i r)))
@@ -290,7 +290,7 @@ module _ {M : Type 1} (𝓤 : URA M) (H : Heap 𝓤) (A : Atoms 𝓤) (W : Given
       Turned x = afterTurn 𝓤 H (Below 𝓤 H A Nearer At x) (afterBlock 𝓤 H (afterSeq 𝓤 H (Wp 𝓤 H C Λ En mir.t-6 (atReturn 𝓤 H En Post)) (atReturn 𝓤 H En Post)))
 
       -- one record more is passed
-      abbrev next : (x : Upto) → x .i < m → Octets (rowAt (x .i) .tmgi) → Is S (upto (x .i + 1)) (nvals (upto (x .i + 1))) → Upto
+      abbrev next : (x : Upto) → x .i < m → Octets6 (rowAt (x .i) .tmgi) → Is S (upto (x .i + 1)) (nvals (upto (x .i + 1))) → Upto
       next x less oc g = record { i = x .i + 1; within = add-one-le less; octets = each-more ys (x .i) none (omega (arith, less)) (x .octets) oc; typed = g }
 
       -- a turn that passes one record

@@ -1,6 +1,6 @@
 -- The sums are the definition; that each is an octet is what its type tells.
 use mathlib.Core.Path.{refl}
-use Rattle.console.specs.Numbers.{numberOf}
+use Rattle.console.specs.Numbers.{sixOf}
 use borrow.Author.Needs.{needs}
 use Rattle.console.proofs.number_of.Statement.{statement}
 use Rattle.console.proofs.number_of.Tie as tie
@@ -54,7 +54,7 @@ add-result : tie.Need-add-result
 add-result c = search needs
 
 returns : tie.Need-returns
-unfolding numberOf
+unfolding sixOf
 returns c = (refl, record { plmn = (search needs, search needs, search needs); service = (search needs, search needs, search needs) })
 
 pub number-of-spec : {M : Type 1} → statement M

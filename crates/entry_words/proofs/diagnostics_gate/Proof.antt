@@ -5,8 +5,8 @@ use borrow.Author.Needs.{needs}
 use Rattle.diagnostics.specs.Diagnostics.{diagnosticsAt}
 use Rattle.diagnostics.specs.Found.{foundHead}
 use Rattle.entry_words.proofs.Laws.{same-gate}
-use Rattle.entry_words.specs.EntryWords.{checked}
 use Rattle.octets.proofs.Chain.{halt, past, told}
+use Rattle.octets.specs.Read.{checked}
 use Rattle.entry_words.proofs.diagnostics_gate.Statement.{statement}
 use Rattle.entry_words.proofs.diagnostics_gate.Tie as tie
 

@@ -11,10 +11,10 @@ use Rattle.entries.specs.Found.{foundEntry}
 use Rattle.entries.specs.declared.Entry.{Entry}
 use Rattle.entry_words.proofs.Laws.{gate-then}
 use Rattle.entry_words.proofs.Reading.{Reading, reading-all, reading-more, reading-none, reading-stop}
-use Rattle.entry_words.specs.EntryWords.{checked}
 use Rattle.octets.proofs.Chain.{halt, past, told}
 use Rattle.octets.proofs.Got.{pad-got}
 use Rattle.octets.specs.Found.{foundGate}
+use Rattle.octets.specs.Read.{checked}
 use Rattle.entry_words.proofs.entries_gate.Statement.{statement}
 use Rattle.entry_words.proofs.entries_gate.Tie as tie
 

@@ -7,10 +7,10 @@ use borrow.Author.Tests.{not-false, not-true}
 use denote.Ref.{now}
 use Rattle.entries.specs.Entries.{listAt}
 use Rattle.entry_words.proofs.Laws.{gate-then}
-use Rattle.entry_words.specs.EntryWords.{checked}
 use Rattle.octets.proofs.Chain.{halt, past, told}
 use Rattle.octets.proofs.Got.{number-got}
 use Rattle.octets.specs.Found.{foundOctet}
+use Rattle.octets.specs.Read.{checked}
 use Rattle.entry_words.proofs.list_gate.Statement.{statement}
 use Rattle.entry_words.proofs.list_gate.Tie as tie
 

@@ -1,7 +1,6 @@
 -- `item_words::items_gate` meets its contract: the invariant is the list read so far; each return is the chain of what was read on the way there. Assumes nothing.
 use Rattle.item_words.proofs.Reading.{Reading, reading-none, reading-more, reading-stop, reading-all, reading-word, then-tt}
 use Rattle.item_words.proofs.Full.{if-full, full-passes}
-use Rattle.item_words.specs.Taken.{checked}
 use Rattle.items.specs.Items.{itemsAt}
 use Rattle.item.specs.Found.{foundElement}
 use Rattle.item.specs.Item.{itemElementAt}
@@ -9,6 +8,7 @@ use Rattle.identity.specs.declared.Item.{Item}
 use Rattle.octets.proofs.Got.{number-got}
 use Rattle.octets.proofs.Chain.{past, halt, told}
 use Rattle.octets.specs.Found.{foundOctet}
+use Rattle.octets.specs.Read.{checked}
 use native.Mathlib.Omega.{arith}
 use Prim.Native.Nat.{_+_, _-_}
 use mathlib.Core.List.{List}

@@ -1,11 +1,10 @@
 -- `item_words::reset_gate` meets its contract: each return is the chain of what was read on the way there. Assumes nothing.
 use mathlib.Core.Path.{_∙_, sym, ap}
 use Prim.Native.Nat.{_-_}
-use Rattle.octets.specs.Read.{got}
+use Rattle.octets.specs.Read.{got, checked}
 use Rattle.octets.specs.Found.{foundGate, foundFlag}
 use Rattle.octets.proofs.Chain.{past, halt, told}
 use Rattle.items.specs.Items.{resetAt}
-use Rattle.item_words.specs.Taken.{checked}
 use Rattle.item_words.proofs.Reading.{reset-by}
 use borrow.Author.Needs.{needs}
 use Rattle.item_words.proofs.reset_gate.Statement.{statement}

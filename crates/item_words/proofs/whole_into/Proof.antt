@@ -4,7 +4,7 @@ use Prim.Native.Nat.{_-_}
 use Rattle.octets.specs.Read.{Read}
 use Rattle.octets.specs.Found.{foundGate}
 use Rattle.octets.proofs.Chain.{told}
-use Rattle.items.specs.Items.{ResetType, resetBy}
+use Rattle.items.specs.Items.{ResetType, chosenResetAt}
 use mathlib.Core.Bool.{false}
 use Rattle.item_words.specs.Taken.{ResetTaking}
 use Rattle.item_words.specs.declared.ResetTaken.the-variants as resetTaken
@@ -26,7 +26,7 @@ returns : tie.Need-returns
 returns c = λ l. subst (λ (y : Read ResetType). ResetTaking y l resetTaken.Whole l) (whole-read (c .before .before .before .before .args .s .now) (c .before .before .before .before .args .at) (told foundGate (c .enum-told .given .1) (c .before .before .whole-gate .ensures))) (refl, refl)
 
 returns-2 : tie.Need-returns-2
-returns-2 c = λ l. stopped-reset l (gate-stop (resetBy false (c .before .before .before .before .before .args .s .now) (c .before .before .before .before .before .args .at)) (told foundGate (c .before .x .given .1) (c .before .before .before .whole-gate .ensures)))
+returns-2 c = λ l. stopped-reset l (gate-stop (chosenResetAt false (c .before .before .before .before .before .args .s .now) (c .before .before .before .before .before .args .at)) (told foundGate (c .before .x .given .1) (c .before .before .before .whole-gate .ensures)))
 
 pub whole-into-spec : {M : Type 1} → statement M
 whole-into-spec = tie.close (tie.spec whole-gate-requires enum-told enum-known-x returns returns-2)

@@ -3,7 +3,7 @@ use denote.Ref.{now}
 use mathlib.Core.Path.{refl}
 use Rattle.octets.proofs.Chain.{past, halt, told}
 use Rattle.values.specs.Found.{foundMme, foundMce, foundTmgi, foundOneOctet, foundTwoOctets, foundCause}
-use Rattle.kinds.specs.Kinds.{valueAt}
+use Rattle.kinds.specs.Kinds.{legibleAt}
 use Rattle.kinds.proofs.Laws.{of-kind, carried}
 use borrow.Author.Needs.{needs}
 use Rattle.kinds.proofs.value_at.Statement.{statement}
@@ -121,51 +121,51 @@ returns : tie.Need-returns
 returns c = of-kind (now (c .before .before .before .args .s)) (c .before .before .before .args .at) (c .enum-told .given .1) (carried _ _)
 
 returns-2 : tie.Need-returns-2
-unfolding valueAt
+unfolding legibleAt
 returns-2 c = of-kind (now (c .before .before .before .before .before .before .args .s)) (c .before .before .before .before .before .before .args .at) (c .before .before .before .enum-told2 .given .1) (past _ _ (told foundMme (c .enum-told3 .given .1) (c .before .before .mme-at .ensures)) refl)
 
 returns-3 : tie.Need-returns-3
-unfolding valueAt
+unfolding legibleAt
 returns-3 c = of-kind (now (c .before .before .before .before .before .before .before .args .s)) (c .before .before .before .before .before .before .before .args .at) (c .before .before .before .before .enum-told2 .given .1) (halt _ (told foundMme (c .before .x .given .1) (c .before .before .before .mme-at .ensures)))
 
 returns-4 : tie.Need-returns-4
-unfolding valueAt
+unfolding legibleAt
 returns-4 c = of-kind (now (c .before .before .before .before .before .before .args .s)) (c .before .before .before .before .before .before .args .at) (c .before .before .before .enum-told4 .given .1) (past _ _ (told foundMce (c .enum-told5 .given .1) (c .before .before .mce-at .ensures)) refl)
 
 returns-5 : tie.Need-returns-5
-unfolding valueAt
+unfolding legibleAt
 returns-5 c = of-kind (now (c .before .before .before .before .before .before .before .args .s)) (c .before .before .before .before .before .before .before .args .at) (c .before .before .before .before .enum-told4 .given .1) (halt _ (told foundMce (c .before .x2 .given .1) (c .before .before .before .mce-at .ensures)))
 
 returns-6 : tie.Need-returns-6
-unfolding valueAt
+unfolding legibleAt
 returns-6 c = of-kind (now (c .before .before .before .before .before .before .args .s)) (c .before .before .before .before .before .before .args .at) (c .before .before .before .enum-told6 .given .1) (past _ _ (told foundTmgi (c .enum-told7 .given .1) (c .before .before .tmgi-at .ensures)) refl)
 
 returns-7 : tie.Need-returns-7
-unfolding valueAt
+unfolding legibleAt
 returns-7 c = of-kind (now (c .before .before .before .before .before .before .before .args .s)) (c .before .before .before .before .before .before .before .args .at) (c .before .before .before .before .enum-told6 .given .1) (halt _ (told foundTmgi (c .before .x3 .given .1) (c .before .before .before .tmgi-at .ensures)))
 
 returns-8 : tie.Need-returns-8
-unfolding valueAt
+unfolding legibleAt
 returns-8 c = of-kind (now (c .before .before .before .before .before .before .args .s)) (c .before .before .before .before .before .before .args .at) (c .before .before .before .enum-told8 .given .1) (past _ _ (told foundOneOctet (c .enum-told9 .given .1) (c .before .before .one-at .ensures)) refl)
 
 returns-9 : tie.Need-returns-9
-unfolding valueAt
+unfolding legibleAt
 returns-9 c = of-kind (now (c .before .before .before .before .before .before .before .args .s)) (c .before .before .before .before .before .before .before .args .at) (c .before .before .before .before .enum-told8 .given .1) (halt _ (told foundOneOctet (c .before .x4 .given .1) (c .before .before .before .one-at .ensures)))
 
 returns-10 : tie.Need-returns-10
-unfolding valueAt
+unfolding legibleAt
 returns-10 c = of-kind (now (c .before .before .before .before .before .before .args .s)) (c .before .before .before .before .before .before .args .at) (c .before .before .before .enum-told10 .given .1) (past _ _ (told foundTwoOctets (c .enum-told11 .given .1) (c .before .before .two-at .ensures)) refl)
 
 returns-11 : tie.Need-returns-11
-unfolding valueAt
+unfolding legibleAt
 returns-11 c = of-kind (now (c .before .before .before .before .before .before .before .args .s)) (c .before .before .before .before .before .before .before .args .at) (c .before .before .before .before .enum-told10 .given .1) (halt _ (told foundTwoOctets (c .before .x5 .given .1) (c .before .before .before .two-at .ensures)))
 
 returns-12 : tie.Need-returns-12
-unfolding valueAt
+unfolding legibleAt
 returns-12 c = of-kind (now (c .before .before .before .before .before .before .args .s)) (c .before .before .before .before .before .before .args .at) (c .before .before .before .enum-told12 .given .1) (past _ _ (told foundCause (c .enum-told13 .given .1) (c .before .before .cause-at .ensures)) refl)
 
 returns-13 : tie.Need-returns-13
-unfolding valueAt
+unfolding legibleAt
 returns-13 c = of-kind (now (c .before .before .before .before .before .before .before .args .s)) (c .before .before .before .before .before .before .before .args .at) (c .before .before .before .before .enum-told12 .given .1) (halt _ (told foundCause (c .before .x6 .given .1) (c .before .before .before .cause-at .ensures)))
 
 returns-14 : tie.Need-returns-14
@@ -175,15 +175,15 @@ returns-15 : tie.Need-returns-15
 returns-15 c = of-kind (now (c .before .before .before .before .args .s)) (c .before .before .before .before .args .at) (c .before .enum-told15 .given .1) (c .name-gate .ensures)
 
 returns-16 : tie.Need-returns-16
-unfolding valueAt
+unfolding legibleAt
 returns-16 c = of-kind (now (c .before .before .before .before .args .s)) (c .before .before .before .before .args .at) (c .before .enum-told16 .given .1) (c .reset-gate .ensures)
 
 returns-17 : tie.Need-returns-17
-unfolding valueAt
+unfolding legibleAt
 returns-17 c = of-kind (now (c .before .before .before .before .args .s)) (c .before .before .before .before .args .at) (c .before .enum-told17 .given .1) (c .items-gate .ensures)
 
 returns-18 : tie.Need-returns-18
-unfolding valueAt
+unfolding legibleAt
 returns-18 c = of-kind (now (c .before .before .before .before .before .before .args .s)) (c .before .before .before .before .before .before .args .at) (c .before .before .before .kind .given .1) (rw (c .before .meanings .ensures) at (c .diagnostics-gate .ensures))
 
 pub value-at-spec : {M : Type 1} → statement M

@@ -9,7 +9,7 @@ use borrow.Author.Tests.{eqb-true}
 use lib.Dec.{eqb}
 use lib.ListN.{length, drop}
 use Rattle.lists.specs.Lists.{pick}
-use Rattle.table.specs.Table.{tableOf}
+use Rattle.table.specs.Table.{tableHolding}
 use Rattle.table.specs.declared.Table.{Table}
 use Rattle.lent.specs.Lent.{rowsOf, room, firstRows}
 use Rattle.lent.proofs.ByRows.{InRows, next-row, in-none, in-more, in-all}
@@ -83,7 +83,7 @@ loop-again c =
     in-more (c .before .before .before .loop .inv) (c .before .before .loop-test .taken) (h .1) (next-row (c .before .before .before .before .before .before .before .args .s .now) (c .before .before .before .before .rows-there .result) (c .before .before .before .loop .i) (c .before .before .loop-test .taken) (omega (arith, h .0, h .1)) _ (c .row-of .ensures))
 
 returns : tie.Need-returns Inv-loop μ-loop
-returns c = in-all (c .before .loop .inv) (c .loop-test .left) ∙ ap tableOf (those (c .before .before .before .before .before .args .n) (c .before .before .before .before .before .args .s .now) (c .before .before .rows-there .ensures))
+returns c = in-all (c .before .loop .inv) (c .loop-test .left) ∙ ap tableHolding (those (c .before .before .before .before .before .args .n) (c .before .before .before .before .before .args .s .now) (c .before .before .rows-there .ensures))
 
 pub rows-in-spec : {M : Type 1} → statement M
 rows-in-spec =

@@ -6,7 +6,7 @@ use borrow.Author.Needs.{needs}
 use Rattle.packed.specs.Packed.{bit}
 use Rattle.octets.proofs.Writing.{wrote-then}
 use Rattle.diagnostics.specs.declared.Number.{Number}
-use Rattle.diagnostics.specs.Written.{marksOf, marks, numbers, withCode, headOctets}
+use Rattle.diagnostics.specs.Written.{marksOf, marks, presentNumber, withCode, headOctets}
 use Rattle.put_diagnostics.proofs.Putting.{wrote-as, with-code, without-code}
 use Rattle.put_diagnostics.proofs.put_head.Statement.{statement}
 use Rattle.put_diagnostics.proofs.put_head.Tie as tie
@@ -38,7 +38,7 @@ same-length c = search needs
 returns : tie.Need-returns
 unfolding headOctets
 returns c = let h = c .before .before .before .before .before .before .before .before .before .before .before .before .before .before .before .before .before .args .head in
-    let vs = numbers (h .trigger) ++ numbers (h .crit) in
+    let vs = presentNumber (h .trigger) ++ presentNumber (h .crit) in
     wrote-as
     (with-code (marksOf h) (c .before .before .before .before .before .before .before .before .before .before .before .before .before .before .before .marks-octet .result) vs (c .before .before .before .before .before .before .before .before .before .before .before .before .before .before .before .marks-octet .ensures) (c .before .before .before .before .before .before .before .before .before .before .before .before .before .code .given .0 .0) (search needs) ∙ ap (λ (n : Number). withCode n (map bit (marks (marksOf h))) vs) (sym (c .before .before .before .before .before .before .before .before .before .before .before .before .before .code .given .1)))
     (wrote-then (wrote-then (c .before .before .before .before .before .before .before .before .before .before .put-octet .ensures) (c .before .before .before .before .before .before .put-octet2 .ensures)) (c .before .before .put-numbers .ensures))
@@ -49,7 +49,7 @@ same-length-2 c = search needs
 returns-2 : tie.Need-returns-2
 unfolding headOctets
 returns-2 c = let h = c .before .before .before .before .before .before .before .before .args .head in
-    let vs = numbers (h .trigger) ++ numbers (h .crit) in
+    let vs = presentNumber (h .trigger) ++ presentNumber (h .crit) in
     wrote-as
     (without-code (marksOf h) (c .before .before .before .before .before .before .marks-octet .result) vs (c .before .before .before .before .before .before .marks-octet .ensures) ∙ ap (λ (n : Number). withCode n (map bit (marks (marksOf h))) vs) (sym (c .before .before .before .before .enum-told .given .1)))
     (c .before .before .put-numbers2 .ensures)

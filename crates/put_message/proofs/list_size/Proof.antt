@@ -1,8 +1,8 @@
 -- `put_message::list_size` meets its contract: by the number of items. Assumes nothing.
 use mathlib.Core.Path.{_∙_, sym}
 use denote.Ref.{now}
-use Rattle.items.specs.Written.{ignore}
-use Rattle.put_message.specs.Said.{itemsIn}
+use Rattle.items.specs.Written.{acknowledgementCrit}
+use Rattle.put_message.specs.Said.{saidItems}
 use Rattle.put_message.proofs.Sizes.{list-size, list-none}
 use borrow.Author.Needs.{needs}
 use Rattle.put_message.proofs.list_size.Statement.{statement}
@@ -18,10 +18,10 @@ said-size-requires : tie.Need-said-size-requires
 said-size-requires c κs = search needs
 
 returns : tie.Need-returns
-returns c = list-size (itemsIn (now (c .before .before .before .before .before .args .s))) (rw (c .before .before .before .said-items .ensures) at (sym (c .before .before .fits-a-list .ensures) ∙ c .before .if1 .taken)) (c .said-size .ensures ignore)
+returns c = list-size (saidItems (now (c .before .before .before .before .before .args .s))) (rw (c .before .before .before .said-items .ensures) at (sym (c .before .before .fits-a-list .ensures) ∙ c .before .if1 .taken)) (c .said-size .ensures acknowledgementCrit)
 
 returns-2 : tie.Need-returns-2
-returns-2 c = list-none (itemsIn (now (c .before .before .before .before .args .s))) (rw (c .before .before .said-items .ensures) at (sym (c .before .fits-a-list .ensures) ∙ c .if1 .left))
+returns-2 c = list-none (saidItems (now (c .before .before .before .before .args .s))) (rw (c .before .before .said-items .ensures) at (sym (c .before .fits-a-list .ensures) ∙ c .if1 .left))
 
 pub list-size-spec : {M : Type 1} → statement M
 list-size-spec =

@@ -3,8 +3,8 @@ use native.Mathlib.Omega.{arith}
 use Rattle.put_message.proofs.Words.{items-small}
 use mathlib.Core.Path.{_∙_, sym}
 use denote.Ref.{now}
-use Rattle.items.specs.Written.{reject}
-use Rattle.put_message.specs.Said.{itemsIn}
+use Rattle.items.specs.Written.{resetCrit}
+use Rattle.put_message.specs.Said.{saidItems}
 use Rattle.put_message.proofs.Sizes.{part-size, part-none}
 use borrow.Author.Needs.{needs}
 use Rattle.put_message.proofs.part_size.Statement.{statement}
@@ -20,13 +20,13 @@ said-size-requires : tie.Need-said-size-requires
 said-size-requires c κs = search needs
 
 add-result : tie.Need-add-result
-add-result c = omega (arith, c .said-size .ensures reject, items-small (now (c .before .before .before .before .before .args .s)) reject)
+add-result c = omega (arith, c .said-size .ensures resetCrit, items-small (now (c .before .before .before .before .before .args .s)) resetCrit)
 
 returns : tie.Need-returns
-returns c = part-size (itemsIn (now (c .before .before .before .before .before .args .s))) (rw (c .before .before .before .said-items .ensures) at (sym (c .before .before .fits-a-list .ensures) ∙ c .before .if1 .taken)) (c .said-size .ensures reject)
+returns c = part-size (saidItems (now (c .before .before .before .before .before .args .s))) (rw (c .before .before .before .said-items .ensures) at (sym (c .before .before .fits-a-list .ensures) ∙ c .before .if1 .taken)) (c .said-size .ensures resetCrit)
 
 returns-2 : tie.Need-returns-2
-returns-2 c = part-none (itemsIn (now (c .before .before .before .before .args .s))) (rw (c .before .before .said-items .ensures) at (sym (c .before .fits-a-list .ensures) ∙ c .if1 .left))
+returns-2 c = part-none (saidItems (now (c .before .before .before .before .args .s))) (rw (c .before .before .said-items .ensures) at (sym (c .before .fits-a-list .ensures) ∙ c .if1 .left))
 
 pub part-size-spec : {M : Type 1} → statement M
 part-size-spec =

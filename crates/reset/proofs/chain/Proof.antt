@@ -6,7 +6,7 @@ use borrow.Author.Needs.{needs}
 use lib.ListN.{length}
 use Rattle.lists.specs.Chains.{Chained}
 use Rattle.lists.proofs.Chains.{chained-none, chained-more, chained-not}
-use Rattle.reset.specs.Slots.{slotOf, slotAt}
+use Rattle.reset.specs.Slots.{itemSlot, slotAt}
 use Rattle.reset.proofs.chain.Statement.{statement}
 use Rattle.reset.proofs.chain.Tie as tie
 
@@ -62,13 +62,13 @@ loop-less : tie.Need-loop-less Inv-loop μ-loop
 loop-less c = search needs
 
 loop-again : tie.Need-loop-again Inv-loop μ-loop
-loop-again c = (omega arith, chained-more (c .before .before .before .before .before .before .loop .inv .1) _ _ (sym (c .before .before .slot .ensures ∙ ap slotOf (c .before .before .before .item-of .ensures))) (c .before .if1 .taken) (omega arith) refl)
+loop-again c = (omega arith, chained-more (c .before .before .before .before .before .before .loop .inv .1) _ _ (sym (c .before .before .slot .ensures ∙ ap itemSlot (c .before .before .before .item-of .ensures))) (c .before .if1 .taken) (omega arith) refl)
 
 loop-less-2 : tie.Need-loop-less-2 Inv-loop μ-loop
 loop-less-2 c = search needs
 
 loop-again-2 : tie.Need-loop-again-2 Inv-loop μ-loop
-loop-again-2 c = (omega arith, chained-not (c .before .before .before .before .before .loop .inv .1) (rw (sym (c .before .slot .ensures ∙ ap slotOf (c .before .before .item-of .ensures))) (c .if1 .left)))
+loop-again-2 c = (omega arith, chained-not (c .before .before .before .before .before .loop .inv .1) (rw (sym (c .before .slot .ensures ∙ ap itemSlot (c .before .before .item-of .ensures))) (c .if1 .left)))
 
 returns : tie.Need-returns Inv-loop μ-loop
 returns c = let q : min (length (c .before .before .before .before .args .words .now)) 256 ≡ c .before .loop .i = omega arith in record { chained = rw q (c .before .loop .inv .1) }

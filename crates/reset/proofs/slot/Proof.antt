@@ -1,6 +1,6 @@
 -- By the identities that there are.
 use borrow.Author.Needs.{needs}
-use Rattle.reset.specs.Slots.{slotOf}
+use Rattle.reset.specs.Slots.{itemSlot}
 use Rattle.reset.proofs.slot.Statement.{statement}
 use Rattle.reset.proofs.slot.Tie as tie
 
@@ -23,15 +23,15 @@ enum-told-2 : tie.Need-enum-told-2
 enum-told-2 c = search needs
 
 returns : tie.Need-returns
-unfolding slotOf
+unfolding itemSlot
 returns c = rw (c .before .before .x .given .1) (c .mme-slot .ensures)
 
 returns-2 : tie.Need-returns-2
-unfolding slotOf
+unfolding itemSlot
 returns-2 c = rw (c .before .before .before .before .enum-told .given .1, c .before .before .y .given .1) (c .mce-slot .ensures)
 
 returns-3 : tie.Need-returns-3
-unfolding slotOf
+unfolding itemSlot
 returns-3 c = rw (c .before .before .enum-told .given .1, c .enum-told2 .given .1)
 
 pub slot-spec : {M : Type 1} → statement M

@@ -5,7 +5,7 @@ use Prim.Native.Nat.{ℕ}
 use native.Mathlib.Omega.{arith}
 use borrow.Author.Needs.{needs}
 use lib.Seq.{length-take-le}
-use Rattle.table.specs.Table.{tableOf}
+use Rattle.table.specs.Table.{tableHolding}
 use Rattle.lent.specs.Lent.{firstRows}
 use Rattle.units.proofs.Parts.{front-take}
 use Rattle.units.proofs.rows_in.Statement.{statement}
@@ -21,7 +21,7 @@ rows-in-requires : tie.Need-rows-in-requires
 rows-in-requires c κs = search needs
 
 returns : tie.Need-returns
-returns c = c .rows-in .ensures ∙ ap (λ (s : List ℕ). tableOf (firstRows (c .before .before .before .before .args .n) s)) (front-take (c .before .before .before .before .args .unit .now) (c .before .before .lesser .ensures))
+returns c = c .rows-in .ensures ∙ ap (λ (s : List ℕ). tableHolding (firstRows (c .before .before .before .before .args .n) s)) (front-take (c .before .before .before .before .args .unit .now) (c .before .before .lesser .ensures))
 
 pub rows-in-spec : {M : Type 1} → statement M
 rows-in-spec =
