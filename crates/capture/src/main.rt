@@ -4,7 +4,7 @@ ghost use Rattle.std.specs.Prelude.{◌≡◌, length};
 use libc::{STDIN_FILENO, STDOUT_FILENO};
 
 // The entries played, the octets left over at the front of the space, and whether more may come.
-#[derive(Drop)]
+#[derive(Clone, Copy)]
 struct Reading {
     messages: usize,
     left: usize,
@@ -12,7 +12,7 @@ struct Reading {
 }
 
 // The entries played, and how many octets they have.
-#[derive(Drop)]
+#[derive(Clone, Copy)]
 struct Progress {
     messages: usize,
     octets: usize,

@@ -10,7 +10,7 @@ use table::{Association, Standing};
 use values::Cause;
 use verdicts::Outcome;
 
-#[derive(Drop)]
+#[derive(Clone, Copy)]
 pub enum Answer {
     // 0
     CarriedOut,
@@ -41,14 +41,14 @@ pub enum Answer {
 }
 
 // What the judging of elements ends in: a request of which nothing is absent, or answer 5 with its reply.
-#[derive(Drop)]
+#[derive(Clone, Copy)]
 pub enum Ruling {
     Granted(Request),
     Refused(Reply),
 }
 
 // What becomes of the table: it stays, with an answer; or it changes, and the answer is 0.
-#[derive(Drop)]
+#[derive(Clone, Copy)]
 pub enum Change {
     Stays(Answer),
     Starts(Association),
@@ -64,7 +64,7 @@ pub enum Change {
 }
 
 // What becomes of the table, and the reply.
-#[derive(Drop)]
+#[derive(Clone, Copy)]
 pub struct Decision {
     pub change: Change,
     pub reply: Reply,

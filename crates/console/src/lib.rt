@@ -8,11 +8,11 @@ use identity::{MceId, MmeId};
 
 // Three octets, as the host lays them out.
 #[repr(C)]
-#[derive(Drop)]
+#[derive(Clone, Copy)]
 pub struct Three(pub u8, pub u8, pub u8);
 
 #[repr(C)]
-#[derive(Drop)]
+#[derive(Clone, Copy)]
 pub struct TmgiOctets {
     pub plmn: Three,
     pub service: Three,
@@ -20,7 +20,7 @@ pub struct TmgiOctets {
 
 // An association record of the host's: 13 octets, and one of pad. Without the flag the Session Identity says nothing. There is one link, 0.
 #[repr(C)]
-#[derive(Drop)]
+#[derive(Clone, Copy)]
 pub struct Record {
     pub mme: MmeId,
     pub mce: MceId,
@@ -32,7 +32,7 @@ pub struct Record {
 
 // The number of 01's answer, and the count, which is 0 beside any answer but 0.
 #[repr(C)]
-#[derive(Drop)]
+#[derive(Clone, Copy)]
 pub struct Counted {
     pub answer: u16,
     pub count: usize,

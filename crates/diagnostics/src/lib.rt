@@ -5,14 +5,14 @@ ghost use Rattle.diagnostics.specs.Found.{found_marks, found_number, found_head}
 
 use octets::{Flag, Gate, Octet, Stop};
 
-#[derive(Drop)]
+#[derive(Clone, Copy)]
 pub enum Number {
     Is(u8),
     Absent,
 }
 
 // The fields before the list, and whether there is one.
-#[derive(Drop)]
+#[derive(Clone, Copy)]
 pub struct Head {
     pub code: Number,
     pub trigger: Number,
@@ -21,7 +21,7 @@ pub struct Head {
 }
 
 // Which fields are there.
-#[derive(Drop)]
+#[derive(Clone, Copy)]
 struct Marks {
     code: bool,
     trigger: bool,
@@ -29,20 +29,20 @@ struct Marks {
     listed: bool,
 }
 
-#[derive(Drop)]
+#[derive(Clone, Copy)]
 enum MarksRead {
     Is(Marks),
     Stop(Stop),
 }
 
-#[derive(Drop)]
+#[derive(Clone, Copy)]
 enum NumberRead {
     Is(Number),
     Stop(Stop),
 }
 
 // The fields before the list, and the place behind them.
-#[derive(Drop)]
+#[derive(Clone, Copy)]
 pub enum HeadRead {
     Is(Head, usize),
     Stop(Stop),

@@ -7,7 +7,7 @@ ghost use Rattle.editions.specs.Steps.{Heads, rows_by};
 
 use rows::{Kind, Row, Rows, Triggers};
 
-#[derive(Drop)]
+#[derive(Clone, Copy)]
 pub enum Message {
     StartRequest,
     StartResponse,
@@ -26,14 +26,14 @@ pub enum Message {
 }
 
 // One of an edition's messages, or another.
-#[derive(Drop)]
+#[derive(Clone, Copy)]
 pub enum Named {
     Is(Message),
     Other,
 }
 
 // What the frame of a message says: kind (0 initiating, 1 successful, 2 unsuccessful), procedure code, criticality.
-#[derive(Drop)]
+#[derive(Clone, Copy)]
 pub struct Code {
     pub kind: u8,
     pub code: u8,
@@ -41,7 +41,7 @@ pub struct Code {
 }
 
 // Which messages there are, and which tables hold: Release 18 of M3AP; warnings over SBc-AP, and their lab profile.
-#[derive(Drop)]
+#[derive(Clone, Copy)]
 pub enum Edition {
     Release18,
     Warnings,
@@ -398,7 +398,7 @@ const WARNINGS: [Message; WARNING_COUNT] = [
 ];
 
 // Number for C, kind, procedure code, criticality, whether a container can stand beside the elements.
-#[derive(Drop)]
+#[derive(Clone, Copy)]
 struct Head(u8, u8, u8, u8, bool);
 
 fn printed_head(m: Message) -> Head

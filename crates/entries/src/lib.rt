@@ -7,7 +7,7 @@ ghost use Rattle.entries.specs.Found.{found_entry};
 use octets::{Gate, Octet, Stop, Two};
 
 // A listed element: its id, its criticality, and the type of error (0 not understood, 1 missing).
-#[derive(Drop)]
+#[derive(Clone, Copy)]
 pub struct Entry {
     pub id: u16,
     pub crit: u8,
@@ -15,7 +15,7 @@ pub struct Entry {
 }
 
 // An entry, and the place behind it.
-#[derive(Drop)]
+#[derive(Clone, Copy)]
 pub enum EntryRead {
     Is(Entry, usize),
     Stop(Stop),

@@ -13,7 +13,7 @@ use entries::{Entry, EntryRead};
 use octets::{Gate, Octet, Stop};
 
 // So many entries stand in the words; or why there are none, and the words are as they were.
-#[derive(Drop)]
+#[derive(Clone, Copy)]
 pub enum Taken {
     Is(usize),
     Stop(Stop),

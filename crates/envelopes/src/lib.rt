@@ -8,21 +8,21 @@ use octets::{Gate, Octet, Open, Span, Stop, Two};
 use rows::Rows;
 
 // An element: its id and criticality, and where its value stands.
-#[derive(Drop)]
+#[derive(Clone, Copy)]
 pub struct Head {
     pub id: u16,
     pub crit: u8,
     pub value: Span,
 }
 
-#[derive(Drop)]
+#[derive(Clone, Copy)]
 pub enum Envelope {
     Is(Head),
     Stop(Stop),
 }
 
 // Where elements end.
-#[derive(Drop)]
+#[derive(Clone, Copy)]
 pub enum End {
     Is(usize),
     Stop(Stop),

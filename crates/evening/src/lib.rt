@@ -11,7 +11,7 @@ use editions::Edition;
 use identity::MceId;
 
 // What an entry gives: the number of the answer, the reply's octets or 0, and how many associations are held afterwards.
-#[derive(Drop)]
+#[derive(Clone, Copy)]
 pub struct Turn {
     pub answer: usize,
     pub reply: usize,
@@ -19,7 +19,7 @@ pub struct Turn {
 }
 
 // How many entries were played, and how many octets they have.
-#[derive(Drop)]
+#[derive(Clone, Copy)]
 pub struct Played {
     pub entries: usize,
     pub octets: usize,

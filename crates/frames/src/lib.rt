@@ -7,7 +7,7 @@ ghost use Rattle.frames.specs.Frame.{found_count, found_frame, kind_at, frame_at
 use octets::{Flag, Gate, Octet, Open, Stop, Two};
 
 // What the frame says, and where the message in it begins.
-#[derive(Drop)]
+#[derive(Clone, Copy)]
 pub struct Frame {
     pub kind: u8,
     pub code: u8,
@@ -15,20 +15,20 @@ pub struct Frame {
     pub from: usize,
 }
 
-#[derive(Drop)]
+#[derive(Clone, Copy)]
 pub enum FrameRead {
     Is(Frame),
     Stop(Stop),
 }
 
 // How many elements a message has, and whether a container stands behind them.
-#[derive(Drop)]
+#[derive(Clone, Copy)]
 pub struct Count {
     pub elements: u16,
     pub container: bool,
 }
 
-#[derive(Drop)]
+#[derive(Clone, Copy)]
 pub enum CountRead {
     Is(Count),
     Stop(Stop),

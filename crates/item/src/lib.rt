@@ -7,39 +7,39 @@ use identity::{Item, Mce, MceId, Mme, MmeId};
 use octets::{Flag, Gate, Octet, Open, Stop, Two};
 
 // Which identities an item says that it has.
-#[derive(Drop)]
+#[derive(Clone, Copy)]
 pub struct Marks {
     pub mme: bool,
     pub mce: bool,
 }
 
 // What the readers answer.
-#[derive(Drop)]
+#[derive(Clone, Copy)]
 enum MarksRead {
     Is(Marks),
     Stop(Stop),
 }
 
-#[derive(Drop)]
+#[derive(Clone, Copy)]
 enum MmeRead {
     Is(Mme),
     Stop(Stop),
 }
 
-#[derive(Drop)]
+#[derive(Clone, Copy)]
 enum MceRead {
     Is(Mce),
     Stop(Stop),
 }
 
-#[derive(Drop)]
+#[derive(Clone, Copy)]
 enum ItemRead {
     Is(Item),
     Stop(Stop),
 }
 
 // An item, and the place behind its envelope.
-#[derive(Drop)]
+#[derive(Clone, Copy)]
 pub enum ElementRead {
     Is(Item, usize),
     Stop(Stop),

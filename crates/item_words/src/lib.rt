@@ -20,21 +20,21 @@ use octets::{Flag, Gate, Octet, Stop};
 use put_values::Criticality;
 
 // A word, and the place behind its item's envelope.
-#[derive(Drop)]
+#[derive(Clone, Copy)]
 pub enum WordRead {
     Is(u64, usize),
     Stop(Stop),
 }
 
 // So many items stand in the words; or why there are none, and the words are as they were.
-#[derive(Drop)]
+#[derive(Clone, Copy)]
 pub enum Taken {
     Is(usize),
     Stop(Stop),
 }
 
 // A Reset Type: the items of a part stand in the words, else the words are as they were.
-#[derive(Drop)]
+#[derive(Clone, Copy)]
 pub enum ResetTaken {
     Whole,
     Part(usize),

@@ -19,7 +19,7 @@ use verdicts::Outcome;
 
 // What is inside the frame of a message, before any value is taken over: the outcome, and how many diagnostics are noted. Where the value of each row stands is
 // put into places that are lent. Where octets are at fault the gate says so, and nothing else is found.
-#[derive(Drop)]
+#[derive(Clone, Copy)]
 pub struct Opened {
     pub gate: Gate,
     pub outcome: Outcome,
@@ -34,14 +34,14 @@ const NO_ROW: Row = Row {
 };
 
 // How many are noted, and whether any, beyond the first 256 too, is a reason to reject.
-#[derive(Drop)]
+#[derive(Clone, Copy)]
 struct Tally {
     count: usize,
     reject: bool,
 }
 
 // Where the walk stopped, at which octet and behind how many elements, and what it found before.
-#[derive(Drop)]
+#[derive(Clone, Copy)]
 struct Reached {
     at: usize,
     place: usize,
@@ -49,7 +49,7 @@ struct Reached {
 }
 
 // What stands behind the elements: whether it can be read, and the tally with its extensions.
-#[derive(Drop)]
+#[derive(Clone, Copy)]
 struct Behind {
     gate: Gate,
     tally: Tally,

@@ -15,14 +15,14 @@ use identity::{Item, Mce, MceId, Mme, MmeId, Plmn, Service, Session, Tmgi};
 use table::{Association, Standing, Table};
 
 // What octets say of an item's identities: what is held of them, and how many rows there are; or the octets are no table.
-#[derive(Drop)]
+#[derive(Clone, Copy)]
 pub enum Looked {
     Is(Standing, usize),
     NoTable,
 }
 
 // Whether an identity is held, where no two rows share one of its series.
-#[derive(Drop)]
+#[derive(Clone, Copy)]
 pub enum Series {
     Apart(bool),
     Shared,

@@ -18,7 +18,7 @@ use verdicts::{Outcome, Refusal};
 // The number of the answer; the octet at fault for 2 and 3, else 0; how many octets stand in front of the room; 0 yet; the seconds to wait of a setup that
 // failed, else 0.
 #[repr(C)]
-#[derive(Drop)]
+#[derive(Clone, Copy)]
 pub struct Answer {
     pub answer: u32,
     pub place: u32,
@@ -29,7 +29,7 @@ pub struct Answer {
 
 // A part of the request, 0, or of the label, 1: where it begins, and how many octets it has.
 #[repr(C)]
-#[derive(Drop)]
+#[derive(Clone, Copy)]
 pub struct Part {
     pub of_label: u32,
     pub from: u32,

@@ -10,7 +10,7 @@ ghost use Rattle.names.specs.Written.{name_octets};
 use octets::{Gate, Octet, Span, Stop};
 
 // What the reader answers: where the characters stand.
-#[derive(Drop)]
+#[derive(Clone, Copy)]
 pub enum NameRead {
     Is(Span),
     Stop(Stop),

@@ -9,73 +9,73 @@ ghost use Rattle.octets.specs.Field.{flag_at, plain_at, choice_at, pad_at, numbe
 ghost use Rattle.octets.specs.Write.{number_octets, length_octets, Wrote};
 
 // Where a field at fault begins, counted from the first octet handed in.
-#[derive(Drop)]
+#[derive(Clone, Copy)]
 pub struct Place {
     pub octet: usize,
 }
 
 // Why reading stops: octets that are no encoding, or an extension; and where.
-#[derive(Drop)]
+#[derive(Clone, Copy)]
 pub enum Stop {
     Fault(Place),
     Extension(Place),
 }
 
 // What a reader answers: what it read, or why and where it stopped.
-#[derive(Drop)]
+#[derive(Clone, Copy)]
 pub enum Gate {
     Pass,
     Stop(Stop),
 }
 
-#[derive(Drop)]
+#[derive(Clone, Copy)]
 pub enum Flag {
     Is(bool),
     Stop(Stop),
 }
 
-#[derive(Drop)]
+#[derive(Clone, Copy)]
 pub enum Octet {
     Is(u8),
     Stop(Stop),
 }
 
-#[derive(Drop)]
+#[derive(Clone, Copy)]
 pub enum Two {
     Is(u16),
     Stop(Stop),
 }
 
-#[derive(Drop)]
+#[derive(Clone, Copy)]
 pub struct Octets3(pub u8, pub u8, pub u8);
 
-#[derive(Drop)]
+#[derive(Clone, Copy)]
 pub enum Three {
     Is(Octets3),
     Stop(Stop),
 }
 
 // A number, and the place behind the octets that say it.
-#[derive(Drop)]
+#[derive(Clone, Copy)]
 pub struct Counted {
     pub count: usize,
     pub next: usize,
 }
 
-#[derive(Drop)]
+#[derive(Clone, Copy)]
 pub enum Length {
     Is(Counted),
     Stop(Stop),
 }
 
 // Where octets begin and end.
-#[derive(Drop)]
+#[derive(Clone, Copy)]
 pub struct Span {
     pub from: usize,
     pub to: usize,
 }
 
-#[derive(Drop)]
+#[derive(Clone, Copy)]
 pub enum Open {
     Is(Span),
     Stop(Stop),

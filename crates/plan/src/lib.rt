@@ -9,7 +9,7 @@ use editions::Code;
 use rows::Rows;
 
 // Done with so many octets (0); the room is too small for them (10); the message is not written (11).
-#[derive(Drop)]
+#[derive(Clone, Copy)]
 pub enum Written {
     Done(usize),
     NoRoom,
@@ -17,7 +17,7 @@ pub enum Written {
 }
 
 // How many elements there are, and their octets, at most 8,192; or nothing: the message is not written.
-#[derive(Drop)]
+#[derive(Clone, Copy)]
 pub enum Plan {
     Is(u16, usize),
     None,

@@ -26,14 +26,14 @@ use rows::{Kind, Row, Rows};
 use values::Cause;
 
 // The reply stands in front of the room, with so many octets (0 where there is none); or the room is too small for it.
-#[derive(Drop)]
+#[derive(Clone, Copy)]
 pub enum Sent {
     Done(usize),
     NoRoom,
 }
 
 // What a reply gives for a row. The items of a list and the entries of diagnostics stand beside it.
-#[derive(Drop)]
+#[derive(Clone, Copy)]
 pub enum Part {
     Absent,
     Mme(MmeId),
@@ -44,7 +44,7 @@ pub enum Part {
 }
 
 // One for each kind that a reply can have.
-#[derive(Drop)]
+#[derive(Clone, Copy)]
 pub struct Parts {
     pub mme: Part,
     pub mce: Part,

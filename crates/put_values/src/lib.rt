@@ -8,7 +8,7 @@ use identity::{MceId, MmeId, Tmgi};
 use values::Cause;
 
 // Of the envelopes of items: reject in a RESET, ignore in an acknowledgement.
-#[derive(Drop)]
+#[derive(Clone, Copy)]
 pub enum Criticality {
     Reject,
     Ignore,

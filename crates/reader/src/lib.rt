@@ -29,7 +29,7 @@ use rows::{Kind, Rows, Triggers};
 use values::{CauseRead, MceRead, MmeRead, OneRead, TmgiRead, TwoRead, WaitRead};
 use verdicts::{Outcome, Refusal};
 
-#[derive(Drop)]
+#[derive(Clone, Copy)]
 pub enum Reading {
     // 1 to 4: nothing is put
     Refused(Refusal),
@@ -115,7 +115,7 @@ fn put_place(room: &mut [u8], at: usize, v: Span) -> usize
     )
 }
 
-#[derive(Drop)]
+#[derive(Clone, Copy)]
 struct Pair(u8, u8);
 
 // Whether a number is there, and which.
@@ -337,7 +337,7 @@ fn put_slots(room: &mut [u8], at: usize, t: Rows, s: &[u8], places: &[usize; 24]
 // ---- the lists that values announce
 
 // Where a list begins, if there is one.
-#[derive(Drop)]
+#[derive(Clone, Copy)]
 enum Begins {
     At(usize),
     Nowhere,

@@ -10,7 +10,7 @@ use editions::{Edition, Named};
 use rows::{Kind, Rows};
 
 // Whether a slot announces items, and whether one announces entries; or the slots are not a record's.
-#[derive(Drop)]
+#[derive(Clone, Copy)]
 enum Form {
     Is(bool, bool),
     Not,

@@ -2,7 +2,7 @@
 use identity::{Mce, MceId, Mme, MmeId};
 use values::Cause;
 
-#[derive(Drop)]
+#[derive(Clone, Copy)]
 pub enum Reply {
     None,
     StartResponse(MmeId, MceId),

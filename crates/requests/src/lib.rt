@@ -14,21 +14,21 @@ use octets::{Flag, Gate, Span};
 use rows::{Kind, Rows};
 use values::{MceRead, MmeRead, OneRead, TmgiRead, WaitRead};
 
-#[derive(Drop)]
+#[derive(Clone, Copy)]
 pub enum MaybeTmgi {
     Is(Tmgi),
     Absent,
 }
 
 // Time to Wait, by its number.
-#[derive(Drop)]
+#[derive(Clone, Copy)]
 pub enum MaybeWait {
     Is(u8),
     Absent,
 }
 
 // A Reset Type; the items of a part stand beside it.
-#[derive(Drop)]
+#[derive(Clone, Copy)]
 pub enum MaybeReset {
     Whole,
     Part,
@@ -36,7 +36,7 @@ pub enum MaybeReset {
 }
 
 // What the rules look at, of all values of a message.
-#[derive(Drop)]
+#[derive(Clone, Copy)]
 pub struct Seen {
     pub mme: Mme,
     pub mce: Mce,
@@ -47,7 +47,7 @@ pub struct Seen {
 }
 
 // Which request a message is.
-#[derive(Drop)]
+#[derive(Clone, Copy)]
 pub enum Ask {
     Start,
     Stop,
@@ -62,7 +62,7 @@ pub enum Ask {
 }
 
 // A request of which nothing is absent.
-#[derive(Drop)]
+#[derive(Clone, Copy)]
 pub enum Request {
     Start(MmeId, Tmgi, Session),
     Stop(MmeId, MceId),
@@ -76,7 +76,7 @@ pub enum Request {
 }
 
 // A request, or a mandatory element is lacking.
-#[derive(Drop)]
+#[derive(Clone, Copy)]
 pub enum Wanted {
     Is(Request),
     Lacking,

@@ -3,14 +3,14 @@ ghost use Rattle.std.specs.Prelude.{◌≡◌, ◌≤◌, length};
 ghost use Rattle.rows.specs.Table.{rows_in, kind_of, meanings};
 
 // How many meanings the triggering message of Criticality Diagnostics has.
-#[derive(Drop)]
+#[derive(Clone, Copy)]
 pub enum Triggers {
     Three,
     Four,
 }
 
 // What is carried is not read.
-#[derive(Drop)]
+#[derive(Clone, Copy)]
 pub enum Kind {
     Carried,
     Mme,
@@ -30,7 +30,7 @@ pub enum Kind {
 }
 
 // A row of a message's table, as 9.3.4 has it.
-#[derive(Drop)]
+#[derive(Clone, Copy)]
 pub struct Row {
     pub id: u16,
     pub crit: u8,
@@ -39,7 +39,7 @@ pub struct Row {
 }
 
 // A table: its first count rows.
-#[derive(Drop)]
+#[derive(Clone, Copy)]
 pub struct Rows {
     pub rows: [Row; 12],
     pub count: usize,

@@ -7,7 +7,7 @@ use identity::{Item, Mce, Mme};
 use lent::Looked;
 use plan::Written;
 
-#[derive(Drop)]
+#[derive(Clone, Copy)]
 pub enum SetupAnswer {
     // 0
     Opened,
@@ -24,7 +24,7 @@ pub enum SetupAnswer {
 }
 
 // The answer, and how many octets the request has: 0 where there is none.
-#[derive(Drop)]
+#[derive(Clone, Copy)]
 pub struct SetupBack {
     pub answer: SetupAnswer,
     pub octets: usize,

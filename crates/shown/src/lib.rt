@@ -16,14 +16,14 @@ use rows::{Kind, Rows};
 use verdicts::Outcome;
 
 // Where the characters of a name stand.
-#[derive(Drop)]
+#[derive(Clone, Copy)]
 pub enum Found {
     Name(Span),
     Nothing,
 }
 
 // A part of the request, or of the label.
-#[derive(Drop)]
+#[derive(Clone, Copy)]
 pub struct Part {
     pub of_label: bool,
     pub span: Span,

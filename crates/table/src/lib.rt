@@ -4,7 +4,7 @@ ghost use Rattle.table.specs.Table.{empty_association, held, table_holding, has_
 
 use identity::{Item, Mce, MceId, Mme, MmeId, Plmn, Service, Session, Tmgi};
 
-#[derive(Drop)]
+#[derive(Clone, Copy)]
 pub struct Association {
     pub mme: MmeId,
     pub mce: MceId,
@@ -20,7 +20,7 @@ pub struct Table {
 }
 
 // What is held of two identities: the first, the second, both in one association. A full table has no room for one more.
-#[derive(Drop)]
+#[derive(Clone, Copy)]
 pub struct Standing {
     pub mme: bool,
     pub mce: bool,

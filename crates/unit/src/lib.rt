@@ -32,7 +32,7 @@ use put_reply::Sent;
 use rows::Rows;
 
 // The answer, and how many octets the reply has: 0 where there is none.
-#[derive(Drop)]
+#[derive(Clone, Copy)]
 pub struct Back {
     pub answer: Answer,
     pub octets: usize,

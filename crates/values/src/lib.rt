@@ -7,50 +7,50 @@ ghost use Rattle.values.specs.Values.{mme_at, mce_at, one_at, two_at, tmgi_at, r
 use identity::{MceId, MmeId, Plmn, Service, Tmgi};
 use octets::{Gate, Octet, Stop, Three, Two};
 
-#[derive(Drop)]
+#[derive(Clone, Copy)]
 pub struct Cause {
     pub group: u8,
     pub value: u8,
 }
 
 // What the readers answer.
-#[derive(Drop)]
+#[derive(Clone, Copy)]
 pub enum MmeRead {
     Is(MmeId),
     Stop(Stop),
 }
 
-#[derive(Drop)]
+#[derive(Clone, Copy)]
 pub enum MceRead {
     Is(MceId),
     Stop(Stop),
 }
 
-#[derive(Drop)]
+#[derive(Clone, Copy)]
 pub enum OneRead {
     Is(u8),
     Stop(Stop),
 }
 
-#[derive(Drop)]
+#[derive(Clone, Copy)]
 pub enum TwoRead {
     Is(u16),
     Stop(Stop),
 }
 
-#[derive(Drop)]
+#[derive(Clone, Copy)]
 pub enum TmgiRead {
     Is(Tmgi),
     Stop(Stop),
 }
 
-#[derive(Drop)]
+#[derive(Clone, Copy)]
 pub enum CauseRead {
     Is(Cause),
     Stop(Stop),
 }
 
-#[derive(Drop)]
+#[derive(Clone, Copy)]
 pub enum WaitRead {
     Is(u8),
     Stop(Stop),

@@ -230,7 +230,7 @@ fn show_setup(b: SetupBack, unit: &[u8], room: &[u8]) {
 }
 
 // An entry in front of its octets.
-#[derive(Drop)]
+#[derive(Clone, Copy)]
 struct Front {
     what: u8,
     first: u16,

@@ -2,7 +2,7 @@
 use octets::Stop;
 
 // Answers 1 to 4: nothing is read.
-#[derive(Drop)]
+#[derive(Clone, Copy)]
 pub enum Refusal {
     // 1: over 8,192 octets
     TooLong,
@@ -13,7 +13,7 @@ pub enum Refusal {
 }
 
 // What the judging of the elements comes to.
-#[derive(Drop)]
+#[derive(Clone, Copy)]
 pub enum Outcome {
     // 0: no element rejected
     Accepted,

@@ -14,7 +14,7 @@ use table::Association;
 
 // The number of 01's answer, how many associations are held, and the one asked for: all zeros where there is none.
 #[repr(C)]
-#[derive(Drop)]
+#[derive(Clone, Copy)]
 pub struct Row {
     pub answer: u32,
     pub held: u32,
@@ -23,7 +23,7 @@ pub struct Row {
 
 // The number of 01's answer, and what a unit remembers beside its rows. Of the marks only that of an open setup request is set yet.
 #[repr(C)]
-#[derive(Drop)]
+#[derive(Clone, Copy)]
 pub struct Marks {
     pub answer: u32,
     pub held: u32,

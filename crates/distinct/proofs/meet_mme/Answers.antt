@@ -1,0 +1,6 @@
+-- The identity's bit of the word.
+use borrow.Author.Rules.{rules}
+use Rattle.distinct.proofs.meet_mme.Goals as goal
+
+pub returns : goal.returns
+returns c = rw c.meet_number-m.ensures

@@ -1,0 +1,15 @@
+-- `item::mme_at` meets its contract: by what the mark says: the identity that was read, or none. Assumes nothing.
+use Rattle.octets.proofs.Chain.{past, halt, told}
+use mathlib.Core.Path.{refl}
+use Rattle.octets.specs.Found.{found_two}
+use borrow.Author.Rules.{rules}
+use Rattle.item.proofs.mme_at.Goals as goal
+
+pub returns-in-Is : goal.returns-in-Is
+returns-in-Is c = rw c.if-there.true (past _ _ c.in-Is.ensures refl)
+
+pub returns-in-Stop : goal.returns-in-Stop
+returns-in-Stop c = rw c.if-there.true (halt _ c.in-Stop.ensures)
+
+pub returns-else-there : goal.returns-else-there
+returns-else-there c = rw c.if-there.false

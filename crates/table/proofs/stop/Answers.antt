@@ -1,0 +1,25 @@
+-- The rows passed that stay stand in front, and behind them rows are empty up to those not passed yet.
+use mathlib.Core.Path.{◌≡◌, ap}
+use mathlib.Core.Bool.{not}
+use Prim.Native.Nat.{◌-◌}
+use native.Mathlib.Omega.{arith}
+use borrow.Author.Rules.{rules}
+use lib.ListN.{length}
+use Rattle.lists.proofs.Slices.{length_of}
+use Rattle.table.specs.Table.{has_pair, stopping}
+use Rattle.table.specs.declared.Association.{Association}
+use Rattle.table.proofs.Holding.{Stayed, stayed_none, stayed_one, stayed_not, stayed_all}
+use Rattle.table.proofs.stop.Goals as goal
+
+pub loop-i-init : goal.loop-i-init
+loop-i-init c = stayed_none
+
+pub loop-i-preserved-then-not-has_pair : goal.loop-i-preserved-then-not-has_pair
+loop-i-preserved-then-not-has_pair c = let b : length c.args.t.rows ≡ 256 = search (rules, length_of) in stayed_one c.loop-i.invariant c.loop-i-test.true (omega arith) _ (ap not (rw c.has_pair.ensures at c.if-not-has_pair.true))
+
+pub loop-i-preserved : goal.loop-i-preserved
+loop-i-preserved c = let b : length c.args.t.rows ≡ 256 = search (rules, length_of) in stayed_not c.loop-i.invariant c.loop-i-test.true (omega arith) _ (ap not (rw c.has_pair.ensures at c.if-not-has_pair.false))
+
+pub returns : goal.returns
+unfolding stopping
+returns c = stayed_all c.args.t (search (rules, length_of)) c.lesser-n.ensures c.loop-i.invariant c.loop-i-test.false

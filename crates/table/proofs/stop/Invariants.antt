@@ -1,0 +1,17 @@
+use mathlib.Core.Path.{◌≡◌}
+use mathlib.Core.Bool.{not}
+use Prim.Native.Nat.{◌-◌}
+use native.Mathlib.Omega.{arith}
+use borrow.Author.Rules.{rules}
+use lib.ListN.{length}
+use Rattle.lists.proofs.Slices.{length_of}
+use Rattle.table.specs.Table.{has_pair, stopping}
+use Rattle.table.specs.declared.Association.{Association}
+use Rattle.table.proofs.Holding.{Stayed, stayed_none, stayed_one, stayed_not, stayed_all}
+use Rattle.table.proofs.stop.Given as goal
+
+abbrev pub invariant-loop-i : goal.invariant-loop-i
+invariant-loop-i l = Stayed (λ (a : Association). not (has_pair l.m l.c a)) l.initial.out.rows l.n l.out.rows l.k l.i
+
+abbrev pub decreases-loop-i : goal.decreases-loop-i
+decreases-loop-i l = l.n - l.i
