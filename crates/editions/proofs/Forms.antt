@@ -1,24 +1,15 @@
 -- What an edition takes of a printed form. The lab profile knows all rows of every message but a Stop-Warning Request; heads are the same in all editions.
 -- Assumes nothing.
 use mathlib.Core.Path.{◌≡◌, refl}
-use mathlib.Core.List.{List, [], ◌∷◌}
-use Prim.Native.Nat.{ℕ}
-use denote.Enum.Declared.{tag_of}
-use types.Run.{OneOf, miss}
 use Rattle.editions.specs.declared.Edition.{Edition}
 use Rattle.editions.specs.declared.Edition.TheVariants.{Release18, Warnings, WarningsLab}
 use Rattle.editions.specs.declared.Message.{Message}
-use Rattle.editions.specs.contracts.Message as messages
 use Rattle.editions.specs.declared.Message.TheVariants as message
 use Rattle.editions.specs.declared.Head.{Head}
 use Rattle.editions.specs.Editions.{printed_form, printed, in_lab, form_of}
 use Rattle.editions.specs.Steps.{Heads, rows_by}
 
--- a message of any other variant
-abbrev others : List ℕ
-others = 0 ∷ 1 ∷ 2 ∷ 3 ∷ 4 ∷ 5 ∷ 6 ∷ 7 ∷ 8 ∷ 9 ∷ 10 ∷ 12 ∷ 13 ∷ []
-
-pub lab_others : (m : Message) → OneOf others (tag_of messages.the_type m) → rows_by (printed_form m) ≡ rows_by (in_lab (printed_form m))
+pub lab_others : (m : Message) → (m ≡ message.StopWarningRequest → ⊥) → rows_by (printed_form m) ≡ rows_by (in_lab (printed_form m))
 lab_others message.StartRequest o = refl
 lab_others message.StartResponse o = refl
 lab_others message.StartFailure o = refl
@@ -30,7 +21,7 @@ lab_others message.ErrorIndication o = refl
 lab_others message.SetupRequest o = refl
 lab_others message.SetupResponse o = refl
 lab_others message.SetupFailure o = refl
-lab_others message.StopWarningRequest o = absurd (miss others 11 tt o)
+lab_others message.StopWarningRequest o = absurd (o refl)
 lab_others message.StopWarningResponse o = refl
 lab_others message.WarningErrorIndication o = refl
 

@@ -69,6 +69,7 @@ module _ (r : List ℕ) where
 
   pub rows_range : (l : State) → rows_of (length l) (rows_octets l ++ r) ≡ l → (a : Association) → Memᴰ a l → IdentitiesInRange a
   unfolding rows_of rows_octets number_octets
+  rows_range [] e a x = elim x [ ]
   rows_range (b ∷ l) e a (Memᴰ.head h) = rw h (row_range b (rows_octets l ++ r) (cc))
   rows_range (b ∷ l) e a (Memᴰ.tail m) = rows_range l (cc) a m
 

@@ -28,47 +28,47 @@ after_bits-r-requires c = omega (arith, after_le c.in-Is.v.code 10 6, after_le c
 pub code_at-requires : goal.code_at-requires
 code_at-requires c =
     let marks : got (marks_in c.in-Is.v) ≡ marks_at c.args.s.now c.args.at = told found_marks c.in-Is.is c.marks_at.ensures in
-    let begun : c.args.at < length c.args.s.now = marks_in_lem _ _ (marks) in
+    let begun : c.args.at < length c.args.s.now = marks_in_lem _ _ marks in
     begun
 
 pub returns-in-Stop-code_at : goal.returns-in-Stop-code_at
 unfolding head_at
 returns-in-Stop-code_at c =
     let marks : got (marks_in c.in-Is.v) ≡ marks_at c.args.s.now c.args.at = told found_marks c.in-Is.is c.marks_at.ensures in
-    past _ _ (marks) (halt _ c.in-Stop-code_at.ensures)
+    past _ _ marks (halt _ c.in-Stop-code_at.ensures)
 
 pub maybe_at-requires : goal.maybe_at-requires
 maybe_at-requires c =
     let marks : got (marks_in c.in-Is.v) ≡ marks_at c.args.s.now c.args.at = told found_marks c.in-Is.is c.marks_at.ensures in
-    let begun : c.args.at < length c.args.s.now = marks_in_lem _ _ (marks) in
+    let begun : c.args.at < length c.args.s.now = marks_in_lem _ _ marks in
     begun
 
 pub returns-in-Stop-maybe_at : goal.returns-in-Stop-maybe_at
 unfolding head_at
 returns-in-Stop-maybe_at c =
-    let code : got c.in-Is-code_at.v ≡ code_at c.in-Is.v.code c.args.s.now c.args.at = told found_number c.in-Is-code_at.is c.code_at.ensures in
     let marks : got (marks_in c.in-Is.v) ≡ marks_at c.args.s.now c.args.at = told found_marks c.in-Is.is c.marks_at.ensures in
-    past _ _ (marks) (past _ _ (code) (halt _ (told found_number c.in-Stop-maybe_at.is (c.maybe_at.ensures ∙ ap (maybe_at _ _ _ _) c.after_bits-p.ensures))))
+    let code : got c.in-Is-code_at.v ≡ code_at c.in-Is.v.code c.args.s.now c.args.at = told found_number c.in-Is-code_at.is c.code_at.ensures in
+    past _ _ marks (past _ _ code (halt _ (told found_number c.in-Stop-maybe_at.is (c.maybe_at.ensures ∙ ap (maybe_at _ _ _ _) c.after_bits-p.ensures))))
 
 pub maybe_at-requires-2 : goal.maybe_at-requires-2
 maybe_at-requires-2 c =
     let marks : got (marks_in c.in-Is.v) ≡ marks_at c.args.s.now c.args.at = told found_marks c.in-Is.is c.marks_at.ensures in
-    let begun : c.args.at < length c.args.s.now = marks_in_lem _ _ (marks) in
+    let begun : c.args.at < length c.args.s.now = marks_in_lem _ _ marks in
     begun
 
 pub returns-in-Stop-maybe_at-2 : goal.returns-in-Stop-maybe_at-2
 unfolding head_at
 returns-in-Stop-maybe_at-2 c =
-    let second : c.after_bits-q.result ≡ behind_trigger (marks_in c.in-Is.v) = c.after_bits-q.ensures ∙ ap (after c.in-Is.v.trigger 2) c.after_bits-p.ensures in
-    let trigger : got c.in-Is-maybe_at.v ≡ maybe_at c.args.n c.in-Is.v.trigger c.args.s.now c.args.at (behind_code (marks_in c.in-Is.v)) = told found_number c.in-Is-maybe_at.is (c.maybe_at.ensures ∙ ap (maybe_at _ _ _ _) c.after_bits-p.ensures) in
-    let code : got c.in-Is-code_at.v ≡ code_at c.in-Is.v.code c.args.s.now c.args.at = told found_number c.in-Is-code_at.is c.code_at.ensures in
     let marks : got (marks_in c.in-Is.v) ≡ marks_at c.args.s.now c.args.at = told found_marks c.in-Is.is c.marks_at.ensures in
-    past _ _ (marks) (past _ _ (code) (past _ _ (trigger) (halt _ (told found_number c.in-Stop-maybe_at-2.is (c.maybe_at-2.ensures ∙ ap (maybe_at _ _ _ _) (second))))))
+    let code : got c.in-Is-code_at.v ≡ code_at c.in-Is.v.code c.args.s.now c.args.at = told found_number c.in-Is-code_at.is c.code_at.ensures in
+    let trigger : got c.in-Is-maybe_at.v ≡ maybe_at c.args.n c.in-Is.v.trigger c.args.s.now c.args.at (behind_code (marks_in c.in-Is.v)) = told found_number c.in-Is-maybe_at.is (c.maybe_at.ensures ∙ ap (maybe_at _ _ _ _) c.after_bits-p.ensures) in
+    let second : c.after_bits-q.result ≡ behind_trigger (marks_in c.in-Is.v) = c.after_bits-q.ensures ∙ ap (after c.in-Is.v.trigger 2) c.after_bits-p.ensures in
+    past _ _ marks (past _ _ code (past _ _ trigger (halt _ (told found_number c.in-Stop-maybe_at-2.is (c.maybe_at-2.ensures ∙ ap (maybe_at _ _ _ _) second)))))
 
 pub overflow_add-at : goal.overflow_add-at
 overflow_add-at c =
     let marks : got (marks_in c.in-Is.v) ≡ marks_at c.args.s.now c.args.at = told found_marks c.in-Is.is c.marks_at.ensures in
-    let begun : c.args.at < length c.args.s.now = marks_in_lem _ _ (marks) in
+    let begun : c.args.at < length c.args.s.now = marks_in_lem _ _ marks in
     omega (arith, begun, c.well_formed.1.0.1)
 
 pub overflow_add-r : goal.overflow_add-r
@@ -77,29 +77,29 @@ overflow_add-r c = omega (arith, after_le c.in-Is.v.code 10 6, after_le c.in-Is.
 pub overflow_add-result : goal.overflow_add-result
 overflow_add-result c =
     let marks : got (marks_in c.in-Is.v) ≡ marks_at c.args.s.now c.args.at = told found_marks c.in-Is.is c.marks_at.ensures in
-    let begun : c.args.at < length c.args.s.now = marks_in_lem _ _ (marks) in
+    let begun : c.args.at < length c.args.s.now = marks_in_lem _ _ marks in
     omega (arith, begun, c.well_formed.1.0.1)
 
 pub returns-in-Pass : goal.returns-in-Pass
 unfolding head_at
 returns-in-Pass c =
-    let third : c.after_bits-r.result ≡ behind_crit (marks_in c.in-Is.v) = c.after_bits-r.ensures ∙ ap (after c.in-Is.v.crit 2) (second) in
-    let second : c.after_bits-q.result ≡ behind_trigger (marks_in c.in-Is.v) = c.after_bits-q.ensures ∙ ap (after c.in-Is.v.trigger 2) c.after_bits-p.ensures in
-    let pad : found_gate c.pad_at.result ≡ pad_at c.args.s.now (c.args.at + behind_crit (marks_in c.in-Is.v) / 8) (behind_crit (marks_in c.in-Is.v)) = rw (← third, ← c.wide.ensures) c.pad_at.ensures in
-    let crit : got c.in-Is-maybe_at-2.v ≡ maybe_at 3 c.in-Is.v.crit c.args.s.now c.args.at (behind_trigger (marks_in c.in-Is.v)) = told found_number c.in-Is-maybe_at-2.is (c.maybe_at-2.ensures ∙ ap (maybe_at _ _ _ _) (second)) in
-    let trigger : got c.in-Is-maybe_at.v ≡ maybe_at c.args.n c.in-Is.v.trigger c.args.s.now c.args.at (behind_code (marks_in c.in-Is.v)) = told found_number c.in-Is-maybe_at.is (c.maybe_at.ensures ∙ ap (maybe_at _ _ _ _) c.after_bits-p.ensures) in
-    let code : got c.in-Is-code_at.v ≡ code_at c.in-Is.v.code c.args.s.now c.args.at = told found_number c.in-Is-code_at.is c.code_at.ensures in
     let marks : got (marks_in c.in-Is.v) ≡ marks_at c.args.s.now c.args.at = told found_marks c.in-Is.is c.marks_at.ensures in
-    past _ _ (marks) (past _ _ (code) (past _ _ (trigger) (past _ _ (crit) (past _ _ (told found_gate c.in-Pass.is (pad)) (rw (c.wide-in-Pass.ensures, third))))))
+    let code : got c.in-Is-code_at.v ≡ code_at c.in-Is.v.code c.args.s.now c.args.at = told found_number c.in-Is-code_at.is c.code_at.ensures in
+    let trigger : got c.in-Is-maybe_at.v ≡ maybe_at c.args.n c.in-Is.v.trigger c.args.s.now c.args.at (behind_code (marks_in c.in-Is.v)) = told found_number c.in-Is-maybe_at.is (c.maybe_at.ensures ∙ ap (maybe_at _ _ _ _) c.after_bits-p.ensures) in
+    let second : c.after_bits-q.result ≡ behind_trigger (marks_in c.in-Is.v) = c.after_bits-q.ensures ∙ ap (after c.in-Is.v.trigger 2) c.after_bits-p.ensures in
+    let third : c.after_bits-r.result ≡ behind_crit (marks_in c.in-Is.v) = c.after_bits-r.ensures ∙ ap (after c.in-Is.v.crit 2) second in
+    let crit : got c.in-Is-maybe_at-2.v ≡ maybe_at 3 c.in-Is.v.crit c.args.s.now c.args.at (behind_trigger (marks_in c.in-Is.v)) = told found_number c.in-Is-maybe_at-2.is (c.maybe_at-2.ensures ∙ ap (maybe_at _ _ _ _) second) in
+    let pad : found_gate c.pad_at.result ≡ pad_at c.args.s.now (c.args.at + behind_crit (marks_in c.in-Is.v) / 8) (behind_crit (marks_in c.in-Is.v)) = rw (← third, ← c.wide.ensures) c.pad_at.ensures in
+    past _ _ marks (past _ _ code (past _ _ trigger (past _ _ crit (past _ _ (told found_gate c.in-Pass.is pad) (rw (c.wide-in-Pass.ensures, third))))))
 
 pub returns-in-Stop-pad_at : goal.returns-in-Stop-pad_at
 unfolding head_at
 returns-in-Stop-pad_at c =
-    let third : c.after_bits-r.result ≡ behind_crit (marks_in c.in-Is.v) = c.after_bits-r.ensures ∙ ap (after c.in-Is.v.crit 2) (second c.before) in
-    let second : c.after_bits-q.result ≡ behind_trigger (marks_in c.in-Is.v) = c.after_bits-q.ensures ∙ ap (after c.in-Is.v.trigger 2) c.after_bits-p.ensures in
-    let pad : found_gate c.pad_at.result ≡ pad_at c.args.s.now (c.args.at + behind_crit (marks_in c.in-Is.v) / 8) (behind_crit (marks_in c.in-Is.v)) = rw (← third, ← c.wide.ensures) c.pad_at.ensures in
-    let crit : got c.in-Is-maybe_at-2.v ≡ maybe_at 3 c.in-Is.v.crit c.args.s.now c.args.at (behind_trigger (marks_in c.in-Is.v)) = told found_number c.in-Is-maybe_at-2.is (c.maybe_at-2.ensures ∙ ap (maybe_at _ _ _ _) (second)) in
-    let trigger : got c.in-Is-maybe_at.v ≡ maybe_at c.args.n c.in-Is.v.trigger c.args.s.now c.args.at (behind_code (marks_in c.in-Is.v)) = told found_number c.in-Is-maybe_at.is (c.maybe_at.ensures ∙ ap (maybe_at _ _ _ _) c.after_bits-p.ensures) in
-    let code : got c.in-Is-code_at.v ≡ code_at c.in-Is.v.code c.args.s.now c.args.at = told found_number c.in-Is-code_at.is c.code_at.ensures in
     let marks : got (marks_in c.in-Is.v) ≡ marks_at c.args.s.now c.args.at = told found_marks c.in-Is.is c.marks_at.ensures in
-    past _ _ (marks) (past _ _ (code) (past _ _ (trigger) (past _ _ (crit) (halt _ (told found_gate c.in-Stop-pad_at.is (pad))))))
+    let code : got c.in-Is-code_at.v ≡ code_at c.in-Is.v.code c.args.s.now c.args.at = told found_number c.in-Is-code_at.is c.code_at.ensures in
+    let trigger : got c.in-Is-maybe_at.v ≡ maybe_at c.args.n c.in-Is.v.trigger c.args.s.now c.args.at (behind_code (marks_in c.in-Is.v)) = told found_number c.in-Is-maybe_at.is (c.maybe_at.ensures ∙ ap (maybe_at _ _ _ _) c.after_bits-p.ensures) in
+    let second : c.after_bits-q.result ≡ behind_trigger (marks_in c.in-Is.v) = c.after_bits-q.ensures ∙ ap (after c.in-Is.v.trigger 2) c.after_bits-p.ensures in
+    let third : c.after_bits-r.result ≡ behind_crit (marks_in c.in-Is.v) = c.after_bits-r.ensures ∙ ap (after c.in-Is.v.crit 2) second in
+    let crit : got c.in-Is-maybe_at-2.v ≡ maybe_at 3 c.in-Is.v.crit c.args.s.now c.args.at (behind_trigger (marks_in c.in-Is.v)) = told found_number c.in-Is-maybe_at-2.is (c.maybe_at-2.ensures ∙ ap (maybe_at _ _ _ _) second) in
+    let pad : found_gate c.pad_at.result ≡ pad_at c.args.s.now (c.args.at + behind_crit (marks_in c.in-Is.v) / 8) (behind_crit (marks_in c.in-Is.v)) = rw (← third, ← c.wide.ensures) c.pad_at.ensures in
+    past _ _ marks (past _ _ code (past _ _ trigger (past _ _ crit (halt _ (told found_gate c.in-Stop-pad_at.is pad)))))

@@ -8,4 +8,4 @@ pub returns-in-StopWarningRequest : goal.returns-in-StopWarningRequest
 returns-in-StopWarningRequest c = rw c.in-StopWarningRequest.is refl
 
 pub returns-in_default : goal.returns-in_default
-returns-in_default c = c.printed_rows.ensures ∙ lab_others c.args.m c.in_default.in_default-own.keys2
+returns-in_default c = c.printed_rows.ensures ∙ lab_others c.args.m c.in_default.not-StopWarningRequest

@@ -1,0 +1,45 @@
+-- `item_words::items_gate` meets its contract: the invariant is the list read so far; each return is the chain of what was read on the way there. Assumes nothing.
+use Rattle.item_words.proofs.Reading.{Reading, reading_none, reading_more, reading_stop, reading_all, reading_word, then_tt}
+use Rattle.item_words.proofs.Full.{if_full, full_passes}
+use Rattle.items.specs.Items.{items_at}
+use Rattle.item.specs.Found.{found_element}
+use Rattle.item.specs.Item.{item_element_at}
+use Rattle.identity.specs.declared.Item.{Item}
+use Rattle.octets.proofs.Got.{number_got}
+use Rattle.octets.proofs.Chain.{past, halt, told}
+use Rattle.octets.specs.Found.{found_octet}
+use Rattle.octets.specs.Read.{checked}
+use native.Mathlib.Omega.{arith}
+use Prim.Native.Nat.{◌+◌, ◌-◌}
+use mathlib.Core.List.{List}
+use mathlib.Core.Logic.{⊎_elim}
+use mathlib.Core.Path.{◌∙◌, refl, ap}
+use borrow.Author.Rules.{rules}
+use Rattle.item_words.proofs.items_gate.Goals as goal
+
+pub returns-in-Stop : goal.returns-in-Stop
+unfolding items_at
+returns-in-Stop c = halt _ (halt _ c.in-Stop.ensures)
+
+pub overflow_add-next : goal.overflow_add-next
+overflow_add-next c = let h = (number_got _ _ 1 c.in-Is.ensures).0 in omega arith
+
+pub loop-i-init : goal.loop-i-init
+loop-i-init c = (_, reading_none)
+
+pub overflow_add-next-then-is_full : goal.overflow_add-next-then-is_full
+overflow_add-next-then-is_full c = let h = (if_full c.is_full.result {s = c.args.s.now} {at = c.loop-i.next} c.if-is_full.true c.is_full.ensures).room in omega arith
+
+pub returns-in-Stop-item_element_at : goal.returns-in-Stop-item_element_at
+unfolding items_at
+returns-in-Stop-item_element_at c = halt _ (past _ _ c.in-Is.ensures (halt _ (reading_stop c.loop-i.invariant.1 _ c.loop-i-test.true c.in-Stop-item_element_at.ensures)))
+
+pub loop-i-preserved : goal.loop-i-preserved
+loop-i-preserved c = ⊎_elim
+    (λ w. rw w.1 (_, (reading_word c.loop-i.invariant.1 c.loop-i-test.true (full_passes c.args.s.now c.loop-i.next (if_full c.is_full.result w.0.taken c.is_full.ensures)).1).2))
+    (λ w. rw w.5 (_, reading_more c.loop-i.invariant.1 _ c.loop-i-test.true (told found_element w.3.given.1 w.1.ensures)))
+    c.if-is_full.branch
+
+pub returns : goal.returns
+unfolding items_at
+returns c = c.ends_at.ensures ∙ (then_tt _ _ ∙ ap checked (past _ _ c.in-Is.ensures (past _ _ (reading_all c.loop-i.invariant.1 c.loop-i-test.false) refl)))

@@ -1,0 +1,13 @@
+use Prim.Native.Nat.{◌+◌, ◌*◌, ◌-◌, ◌≤◌}
+use native.Mathlib.Omega.{arith}
+use mathlib.Core.Path.{refl}
+use borrow.Author.Rules.{rules}
+use lib.ListN.{length, get_or}
+use Rattle.item_words.proofs.Written.{WordsSized, sized_word, sized_words, word_small}
+use Rattle.item_words.proofs.words_size.Given as goal
+
+abbrev pub invariant-loop-i : goal.invariant-loop-i
+invariant-loop-i l = (l.i ≤ length l.words) × (l.size ≤ 1 + 9 * l.i) × WordsSized l.words l.i l.size
+
+abbrev pub decreases-loop-i : goal.decreases-loop-i
+decreases-loop-i l = length l.words - l.i

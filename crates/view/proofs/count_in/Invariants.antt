@@ -1,0 +1,17 @@
+use mathlib.Core.Path.{sym, ap, ◌∙◌}
+use mathlib.Core.Logic.{⊎_elim}
+use Prim.Native.Nat.{◌-◌}
+use native.Mathlib.Omega.{arith}
+use lib.ListN.{drop}
+use Rattle.table.specs.Table.{empty_association}
+use Rattle.lent.specs.Lent.{rows_of}
+use Rattle.lent.proofs.Rows.{length_rows}
+use Rattle.console.specs.Console.{tmgi_of, has_tmgi}
+use Rattle.console.proofs.Counting.{Passed, passed_none, passed_one, passed_not, passed_all}
+use Rattle.view.proofs.count_in.Given as goal
+
+abbrev pub invariant-loop-i : goal.invariant-loop-i
+invariant-loop-i l = Passed (has_tmgi (tmgi_of l.tmgi)) (rows_of l.n (drop 2 l.table)) l.count l.i
+
+abbrev pub decreases-loop-i : goal.decreases-loop-i
+decreases-loop-i l = l.n - l.i

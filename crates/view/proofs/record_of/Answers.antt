@@ -1,0 +1,6 @@
+-- Field by field.
+use borrow.Author.Rules.{rules}
+use Rattle.view.proofs.record_of.Goals as goal
+
+pub returns : goal.returns
+returns c = rw (c.is_there-flag.ensures, c.value_of-session.ensures)
