@@ -16,12 +16,12 @@ use Rattle.elements.specs.Judge.{read_into, read_of, unknown_entry, unknown_of, 
 pub read_snoc : (t : List Row) (l : List Span) (ys : List Head) (h : Head) → set (read_into t l ys) (find h.id t) h.value ≡ read_into t l (ys ++ h ∷ [])
 unfolding read_into
 read_snoc t l [] h = refl
-read_snoc t l (y ∷ ys) h = read_snoc t _ ys h
+read_snoc t l (y ∷ ys) h = read_snoc t (set l (find y.id t) y.value) ys h
 
 read_length : (t : List Row) (l : List Span) (ys : List Head) → length (read_into t l ys) ≡ length l
 unfolding read_into
 read_length t l [] = refl
-read_length t l (y ∷ ys) = read_length t _ ys ∙ length-set l _ _
+read_length t l (y ∷ ys) = read_length t (set l (find y.id t) y.value) ys ∙ length-set l _ _
 
 pub read_rows : (t : List Row) (ys : List Head) → length (read_of t ys) ≡ length t
 read_rows t ys = read_length t (replicate (length t) no_span) ys ∙ length-replicate (length t) no_span

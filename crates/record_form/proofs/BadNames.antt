@@ -7,8 +7,6 @@ use Prim.Native.Nat.{ℕ, ◌+◌, ◌*◌, ◌≤◌, ◌<◌}
 use native.Mathlib.Numerals.{add-one}
 use native.Mathlib.Omega.{arith}
 use borrow.Author.Tests.{ne_eqb}
-use denote.Enum.Declared.{tag_of}
-use types.Run.{OneOf, miss}
 use lib.Dec.{eqb}
 use lib.ListN.{length, drop, get_or, drop_of_length-le}
 use lib.Seq.{drop-cons, drop-drop}
@@ -17,7 +15,6 @@ use Rattle.lists.proofs.Fill.{take_fill}
 use Rattle.octets.specs.declared.Span.{Span}
 use Rattle.names.specs.Names.{name_allowed, part_in}
 use Rattle.rows.specs.declared.Kind.{Kind}
-use Rattle.rows.specs.contracts.Kind as kinds
 use Rattle.rows.specs.declared.Kind.TheVariants as kind
 use Rattle.rows.specs.declared.Row.{Row}
 use Rattle.rows.specs.declared.Rows.{Rows}
@@ -51,8 +48,8 @@ module _ (values s : List ℕ) (at : ℕ) where
       rw (first_at s at, ne_eqb (get_or s at 0) 0 h, two_at_lem s at 1, two_at_lem s at 3, a, b)
 
 module _ (values p : List ℕ) where
-  pub no_name : (k : Kind) → OneOf (0 ∷ 1 ∷ 2 ∷ 3 ∷ 4 ∷ 5 ∷ 6 ∷ 7 ∷ 9 ∷ 10 ∷ 11 ∷ []) (tag_of kinds.the_type k) → false ≡ slot_bad values k p
-  no_name kind.Name o = absurd (miss (0 ∷ 1 ∷ 2 ∷ 3 ∷ 4 ∷ 5 ∷ 6 ∷ 7 ∷ 9 ∷ 10 ∷ 11 ∷ []) 8 tt o)
+  pub no_name : (k : Kind) → (k ≡ kind.Name → ⊥) → false ≡ slot_bad values k p
+  no_name kind.Name o = absurd (o refl)
   no_name kind.Carried o = refl
   no_name kind.Mme o = refl
   no_name kind.Mce o = refl

@@ -12,10 +12,10 @@ use Rattle.octets.specs.Read.{checked}
 use native.Mathlib.Omega.{arith}
 use Prim.Native.Nat.{◌+◌, ◌-◌}
 use mathlib.Core.List.{List}
-use mathlib.Core.Logic.{⊎_elim}
 use mathlib.Core.Path.{◌∙◌, refl, ap}
 use borrow.Author.Rules.{rules}
 use Rattle.item_words.proofs.items_gate.Goals as goal
+use Rattle.item_words.proofs.items_gate.Goals.{then-is_full, else-is_full+in-Is-item_element_at}
 
 pub returns-in-Stop : goal.returns-in-Stop
 unfolding items_at
@@ -35,10 +35,11 @@ unfolding items_at
 returns-in-Stop-item_element_at c = halt _ (past _ _ c.in-Is.ensures (halt _ (reading_stop c.loop-i.invariant.1 _ c.loop-i-test.true c.in-Stop-item_element_at.ensures)))
 
 pub loop-i-preserved : goal.loop-i-preserved
-loop-i-preserved c = ⊎_elim
-    (λ w. rw w.1 (_, (reading_word c.loop-i.invariant.1 c.loop-i-test.true (full_passes c.args.s.now c.loop-i.next (if_full c.is_full.result w.0.taken c.is_full.ensures)).1).2))
-    (λ w. rw w.5 (_, reading_more c.loop-i.invariant.1 _ c.loop-i-test.true (told found_element w.3.given.1 w.1.ensures)))
-    c.if-is_full.branch
+loop-i-preserved c =
+    elim c.if-is_full.branch [
+      then-is_full w ↦ rw w.next-is (_, (reading_word c.loop-i.invariant.1 c.loop-i-test.true (full_passes c.args.s.now c.loop-i.next (if_full c.is_full.result w.if-is_full.true c.is_full.ensures)).1).2)
+    | else-is_full+in-Is-item_element_at w ↦ rw w.next-is (_, reading_more c.loop-i.invariant.1 _ c.loop-i-test.true w.in-Is-item_element_at.ensures)
+    ]
 
 pub returns : goal.returns
 unfolding items_at

@@ -1,0 +1,19 @@
+use mathlib.Core.List.{List, map, map-append}
+use mathlib.Core.Path.{◌∙◌, ap}
+use Prim.Native.Nat.{◌-◌}
+use native.Mathlib.Omega.{arith}
+use borrow.Author.Rules.{rules}
+use lib.Seq.{sets}
+use Rattle.entries.specs.declared.Entry.{Entry}
+use Rattle.entry_rows.proofs.Saying.{Passed, passed_all, passed_more, passed_none, said_all, said_few}
+use Rattle.entry_words.specs.EntryWords.{entry_word}
+use Rattle.layout.specs.Rows.{row_entry}
+use Rattle.octets.proofs.Writing.{wrote_length, wrote_none, wrote_then}
+use Rattle.octets.specs.Write.{Wrote}
+use Rattle.entry_rows.proofs.entries_said.Given as goal
+
+abbrev pub invariant-loop-i : goal.invariant-loop-i
+invariant-loop-i l = (es : List Entry) × Passed row_entry 4 l.n l.s 1638 es l.i × Wrote l.initial.words 0 (map entry_word es) l.words l.to
+
+abbrev pub decreases-loop-i : goal.decreases-loop-i
+decreases-loop-i l = l.n - l.i

@@ -1,0 +1,26 @@
+-- `put_reply::are_good` meets its contract: the loop's invariant: none of the first i entries is bad. Assumes nothing.
+use mathlib.Core.Path.{sym, ◌∙◌, ap}
+use mathlib.Core.Bool.{not}
+use Prim.Native.Nat.{◌-◌}
+use borrow.Author.Rules.{rules}
+use lib.ListN.{length}
+use native.Mathlib.Omega.{arith}
+use borrow.Author.Tests.{not-true, not-false}
+use Rattle.lists.proofs.Search.{Sought, sought_none, sought_more, sought_found, sought_all}
+use Rattle.put_reply.proofs.Sizes.{is_bad, good_none, good_some}
+use Rattle.put_reply.proofs.are_good.Goals as goal
+
+pub returns-then-not-fits_a_list : goal.returns-then-not-fits_a_list
+returns-then-not-fits_a_list c = good_none c.args.noted.now (sym c.fits_a_list.ensures ∙ c.if-not-fits_a_list.true)
+
+pub loop-i-init : goal.loop-i-init
+loop-i-init c = sought_none (omega arith)
+
+pub returns-then-not-is_entry_good : goal.returns-then-not-is_entry_good
+returns-then-not-is_entry_good c = good_some c.args.noted.now (sym c.fits_a_list.ensures ∙ c.if-not-fits_a_list.false) (sought_found c.loop-i.invariant 0 c.loop-i-test.true (omega arith) (ap not (sym c.is_entry_good.ensures) ∙ c.if-not-is_entry_good.true))
+
+pub loop-i-preserved : goal.loop-i-preserved
+loop-i-preserved c = sought_more c.loop-i.invariant 0 c.loop-i-test.true (omega arith) (ap not (sym c.is_entry_good.ensures) ∙ c.if-not-is_entry_good.false)
+
+pub returns : goal.returns
+returns c = good_some c.args.noted.now (sym c.fits_a_list.ensures ∙ c.if-not-fits_a_list.false) (sought_all c.loop-i.invariant c.loop-i-test.false)

@@ -1,0 +1,22 @@
+use mathlib.Core.Path.{◌≡◌}
+use mathlib.Core.List.{map}
+use Prim.Native.Nat.{◌≤◌, ◌<◌, ◌-◌}
+use borrow.Author.Rules.{rules}
+use native.Mathlib.Omega.{arith}
+use lib.ListN.{length}
+use Rattle.octets.specs.Write.{Wrote}
+use Rattle.octets.proofs.Writing.{wrote_none, wrote_length}
+use Rattle.rows.specs.Table.{rows_in}
+use Rattle.item_words.specs.Words.{item_of}
+use Rattle.entry_words.specs.EntryWords.{entry_by}
+use Rattle.plan.specs.Plan.{elements_to}
+use Rattle.plan.proofs.Steps.{wrote_within}
+use Rattle.put_reply.specs.Parts.{given_rows}
+use Rattle.put_reply.proofs.Rows.{rows_more}
+use Rattle.put_reply.proofs.put_rows.Given as goal
+
+abbrev pub invariant-loop-i : goal.invariant-loop-i
+invariant-loop-i l = (l.i ≤ l.n) × (l.n ≤ 12) × (l.next ≤ length l.room) × Wrote l.initial.room l.at (elements_to l.t.rows (given_rows (map item_of l.kept) (map entry_by l.noted) l.p l.t.rows) l.i) l.room l.next
+
+abbrev pub decreases-loop-i : goal.decreases-loop-i
+decreases-loop-i l = l.n - l.i

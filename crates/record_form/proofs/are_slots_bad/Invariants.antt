@@ -1,0 +1,17 @@
+use borrow.Author.Rules.{rules}
+use Prim.Native.Nat.{◌≤◌, ◌<◌, ◌-◌, ◌+◌, ◌*◌}
+use mathlib.Core.Path.{◌≡◌, ◌∙◌, refl, sym}
+use mathlib.Core.Bool.{false, true}
+use native.Mathlib.Omega.{arith}
+use lib.ListN.{length, drop, get_or}
+use Rattle.rows.specs.Table.{no_row, rows_in}
+use Rattle.record_form.specs.BadNames.{slot_bad, slots_bad}
+use Rattle.record_form.proofs.Forms.{row_in}
+use Rattle.record_form.proofs.BadNames.{bad_here, bad_next, bad_end}
+use Rattle.record_form.proofs.are_slots_bad.Given as goal
+
+abbrev pub invariant-loop-i : goal.invariant-loop-i
+invariant-loop-i l = (l.i ≤ l.n) × (l.n ≤ 12) × (slots_bad l.values (drop l.i (rows_in l.rows)) (drop (2 + 8 * l.i) l.s) ≡ slots_bad l.values (rows_in l.rows) (drop 2 l.s))
+
+abbrev pub decreases-loop-i : goal.decreases-loop-i
+decreases-loop-i l = l.n - l.i

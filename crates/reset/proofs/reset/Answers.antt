@@ -1,0 +1,36 @@
+-- A filter into the empty table, by what the chains tell of each row.
+use mathlib.Core.Path.{◌≡◌, refl, ap}
+use mathlib.Core.Bool.{not}
+use Prim.Native.Nat.{◌-◌}
+use native.Mathlib.Omega.{arith}
+use borrow.Author.Rules.{rules}
+use lib.ListN.{length}
+use Rattle.lists.proofs.Slices.{length_of}
+use Rattle.lists.proofs.Filter.{Kept, kept_none, kept_one, kept_not}
+use Rattle.table.specs.Table.{unheld, named, without}
+use Rattle.table.specs.declared.Association.{Association}
+use Rattle.table.proofs.Rows.{table_kept}
+use Rattle.reset.proofs.Slots.{word_items}
+use Rattle.reset.proofs.reset.Goals as goal
+
+pub chain-requires : goal.chain-requires
+chain-requires c = (refl, refl)
+
+pub loop-i-init : goal.loop-i-init
+loop-i-init c = rw c.empty-out.ensures kept_none
+
+pub named-requires : goal.named-requires
+named-requires c = c.chain.ensures
+
+pub loop-i-preserved-then-not-named : goal.loop-i-preserved-then-not-named
+loop-i-preserved-then-not-named c = let b : length c.args.t.rows ≡ 256 = search (rules, length_of) in
+    kept_one c.loop-i.invariant (omega arith) (omega arith) _ (omega arith) (ap not (rw c.named.ensures at c.if-not-named.true))
+
+pub loop-i-preserved : goal.loop-i-preserved
+loop-i-preserved c = let b : length c.args.t.rows ≡ 256 = search (rules, length_of) in
+    kept_not c.loop-i.invariant (omega arith) (omega arith) _ (ap not (rw c.named.ensures at c.if-not-named.false))
+
+pub returns : goal.returns
+unfolding without
+returns c = let b : length c.args.t.rows ≡ 256 = search (rules, length_of) in
+    table_kept c.args.t b c.lesser-n.ensures c.loop-i.invariant c.loop-i-test.false
