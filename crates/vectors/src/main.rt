@@ -11,28 +11,33 @@
 //     5   a setup: of the octets, as many as the first number says are a record, and its values lie in the others; the second number is the room
 //     6   a record to be written, likewise
 //     7   what is shown: of the octets, as many as the first number says are a request, and the others a label
+#![tactic(auto)]
+
+ghost use Rattle.std.specs.Prelude.{◌≡◌, length};
+
 use carry::Answer;
 use editions::{Edition, Named};
 use frames::FrameRead;
 use identity::MceId;
-use libc::{STDIN_FILENO, STDOUT_FILENO};
 use octets::{Stop, Two};
 use plan::Written;
 use reader::Reading;
 use setup::SetupBack;
+use std::io;
+use std::io::{BufReader, BufWriter, ErrorKind, Read, Write};
 use unit::Back;
 use verdicts::{Outcome, Refusal};
 
-fn text(b: &[u8]) {
-    io::write_all(STDOUT_FILENO, b);
+fn text<W: Write>(output: &mut W, b: &[u8]) -> io::Result<()> {
+    output.write_all(b)
 }
 
-fn number(n: usize) {
-    io::print_decimal(STDOUT_FILENO, n as u64);
+fn number<W: Write>(output: &mut W, n: usize) -> io::Result<()> {
+    write!(output, "{n}")
 }
 
-fn octet(x: u8) {
-    io::print_hex(STDOUT_FILENO, x as u64, 2);
+fn octet<W: Write>(output: &mut W, x: u8) -> io::Result<()> {
+    write!(output, "{x:02x}")
 }
 
 fn two(s: &[u8], at: usize) -> u16 {
@@ -43,72 +48,70 @@ fn two(s: &[u8], at: usize) -> u16 {
 }
 
 // The octets from a place up to another.
-fn part(s: &[u8], from: usize, to: usize) {
-    let mut i = from;
-    while i < to {
+fn part<W: Write>(output: &mut W, s: &[u8], from: usize, to: usize) -> io::Result<()> {
+    for i in from..to {
         if s.len() <= i {
-            return;
+            return Ok(());
         }
-        octet(s[i]);
-        i += 1;
+        octet(output, s[i])?;
     }
+    Ok(())
 }
 
-fn entries(words: &[u64; 256], n: usize) {
-    let mut i: usize = 0;
-    while i < 256 {
+fn entries<W: Write>(output: &mut W, words: &[u64; 256], n: usize) -> io::Result<()> {
+    for i in 0..256 {
         if n <= i {
-            return;
+            return Ok(());
         }
         let e = entry_words::entry_of(words[i]);
-        text(b" ");
-        number(e.crit as usize);
-        text(b".");
-        number(e.id as usize);
-        text(b".");
-        number(e.error as usize);
-        i += 1;
+        text(output, b" ")?;
+        number(output, e.crit as usize)?;
+        text(output, b".")?;
+        number(output, e.id as usize)?;
+        text(output, b".")?;
+        number(output, e.error as usize)?;
     }
+    Ok(())
 }
 
-fn refusal(x: Refusal) {
+fn refusal<W: Write>(output: &mut W, x: Refusal) -> io::Result<()> {
     match x {
-        Refusal::TooLong => text(b"answer=1"),
+        Refusal::TooLong => text(output, b"answer=1"),
         Refusal::Stopped(s) => match s {
             Stop::Fault(p) => {
-                text(b"answer=2 offset=");
-                number(p.octet);
+                text(output, b"answer=2 offset=")?;
+                number(output, p.octet)
             }
             Stop::Extension(p) => {
-                text(b"answer=3 offset=");
-                number(p.octet);
+                text(output, b"answer=3 offset=")?;
+                number(output, p.octet)
             }
         },
-        Refusal::NotAmong => text(b"answer=4"),
+        Refusal::NotAmong => text(output, b"answer=4"),
     }
 }
 
-fn outcome(o: Outcome) {
+fn outcome<W: Write>(output: &mut W, o: Outcome) -> io::Result<()> {
     match o {
-        Outcome::Accepted => text(b"answer=0"),
+        Outcome::Accepted => text(output, b"answer=0"),
         Outcome::Misplaced(k) => {
-            text(b"answer=5 cause=3.5 place=");
-            number(k);
+            text(output, b"answer=5 cause=3.5 place=")?;
+            number(output, k)
         }
-        Outcome::Rejected => text(b"answer=5 cause=3.1"),
+        Outcome::Rejected => text(output, b"answer=5 cause=3.1"),
     }
 }
 
-fn record(d: &[u8]) {
+fn record<W: Write>(output: &mut W, d: &[u8]) -> io::Result<()> {
     let items = 100 + 6 * two(d, 98) as usize;
     let entries = 1638 + 4 * two(d, 1636) as usize;
-    text(b" record=");
-    part(d, 0, 98);
-    text(b" items=");
-    part(d, 98, items);
-    text(b" entries=");
-    part(d, 1636, entries);
-    text(b" noted:");
+    text(output, b" record=")?;
+    part(output, d, 0, 98)?;
+    text(output, b" items=")?;
+    part(output, d, 98, items)?;
+    text(output, b" entries=")?;
+    part(output, d, 1636, entries)?;
+    text(output, b" noted:")
 }
 
 fn edition(n: u16) -> Edition {
@@ -122,7 +125,7 @@ fn edition(n: u16) -> Edition {
 }
 
 // What is noted of a message that is understood.
-fn noted(e: Edition, m: &[u8]) {
+fn noted<W: Write>(output: &mut W, e: Edition, m: &[u8]) -> io::Result<()> {
     match frames::frame_at(m) {
         FrameRead::Is(f) => match editions::message_of(e, f.kind, f.code) {
             Named::Is(x) => {
@@ -130,58 +133,56 @@ fn noted(e: Edition, m: &[u8]) {
                 let t = editions::rows_of(e, x);
                 let c = editions::has_container(e, x);
                 let n = judging::noted_into(t, c, m, f.from, &mut words);
-                entries(&words, n);
+                entries(output, &words, n)
             }
-            Named::Other => {}
+            Named::Other => Ok(())
         },
-        FrameRead::Stop(_) => {}
+        FrameRead::Stop(_) => Ok(())
     }
 }
 
-fn read(e: Edition, m: &[u8]) {
+fn read<W: Write>(output: &mut W, e: Edition, m: &[u8]) -> io::Result<()> {
     let mut d = [0u8; 2662];
     match reader::read(e, m, &mut d) {
         Reading::Refused(x) => {
-            refusal(x);
-            record(&d);
+            refusal(output, x)?;
+            record(output, &d)?;
         }
         Reading::NoRoom => {}
         Reading::Put(o) => {
-            outcome(o);
-            record(&d);
-            noted(e, m);
+            outcome(output, o)?;
+            record(output, &d)?;
+            noted(output, e, m)?;
         }
     }
-    text(b"\n");
+    text(output, b"\n")
 }
 
-fn show_written(w: Written, room: &[u8]) {
+fn show_written<W: Write>(output: &mut W, w: Written, room: &[u8]) -> io::Result<()> {
     match w {
         Written::Done(n) => {
-            text(b"answer=0 ");
-            part(room, 0, n);
+            text(output, b"answer=0 ")?;
+            part(output, room, 0, n)?;
         }
-        Written::NoRoom => text(b"answer=10"),
-        Written::NotWritten => text(b"answer=11"),
+        Written::NoRoom => text(output, b"answer=10")?,
+        Written::NotWritten => text(output, b"answer=11")?,
     }
-    text(b"\n");
+    text(output, b"\n")
 }
 
 // The place stands beside 2 and 3.
-fn answer(a: Answer) {
+fn answer<W: Write>(output: &mut W, a: Answer) -> io::Result<()> {
     let n = answers::number_of(a) as usize;
-    text(b"answer=");
-    number(n);
-    text(b" offset=");
+    text(output, b"answer=")?;
+    number(output, n)?;
+    text(output, b" offset=")?;
     if n == 2 {
-        number(answers::place_of(a));
-        return;
+        return number(output, answers::place_of(a));
     }
     if n == 3 {
-        number(answers::place_of(a));
-        return;
+        return number(output, answers::place_of(a));
     }
-    text(b"-");
+    text(output, b"-")
 }
 
 // The octet that marks an open setup request.
@@ -192,41 +193,40 @@ fn mark(unit: &[u8]) -> u8 {
     unit[3076]
 }
 
-fn state(unit: &[u8]) {
-    text(b" held=");
-    number(two(unit, 0) as usize);
-    text(b" open=");
-    number(mark(unit) as usize);
+fn state<W: Write>(output: &mut W, unit: &[u8]) -> io::Result<()> {
+    text(output, b" held=")?;
+    number(output, two(unit, 0) as usize)?;
+    text(output, b" open=")?;
+    number(output, mark(unit) as usize)
 }
 
 // The seconds that a failed setup hands back.
-fn wait(seconds: u16) {
-    text(b" wait=");
+fn wait<W: Write>(output: &mut W, seconds: u16) -> io::Result<()> {
+    text(output, b" wait=")?;
     if seconds == 0 {
-        text(b"-\n");
-        return;
+        return text(output, b"-\n");
     }
-    number(seconds as usize);
-    text(b"\n");
+    number(output, seconds as usize)?;
+    text(output, b"\n")
 }
 
-fn show_back(b: Back, unit: &[u8], room: &[u8]) {
+fn show_back<W: Write>(output: &mut W, b: Back, unit: &[u8], room: &[u8]) -> io::Result<()> {
     let a = b.answer;
-    answer(a);
-    text(b" reply=");
-    part(room, 0, b.octets);
-    state(unit);
-    wait(answers::wait_of(a));
+    answer(output, a)?;
+    text(output, b" reply=")?;
+    part(output, room, 0, b.octets)?;
+    state(output, unit)?;
+    wait(output, answers::wait_of(a))
 }
 
-fn show_setup(b: SetupBack, unit: &[u8], room: &[u8]) {
+fn show_setup<W: Write>(output: &mut W, b: SetupBack, unit: &[u8], room: &[u8]) -> io::Result<()> {
     let a = b.answer;
-    text(b"answer=");
-    number(setup::number_of(a) as usize);
-    text(b" offset=- reply=");
-    part(room, 0, b.octets);
-    state(unit);
-    wait(0);
+    text(output, b"answer=")?;
+    number(output, setup::number_of(a) as usize)?;
+    text(output, b" offset=- reply=")?;
+    part(output, room, 0, b.octets)?;
+    state(output, unit)?;
+    wait(output, 0)
 }
 
 // An entry in front of its octets.
@@ -239,16 +239,29 @@ struct Front {
     whole: bool,
 }
 
-fn next_front() -> Front {
+// Fills the space from the input; false where that ends before.
+fn filled<R: Read>(input: &mut R, space: &mut [u8]) -> io::Result<bool> {
+    match input.read_exact(space) {
+        Ok(()) => Ok(true),
+        Err(error) => {
+            if error.kind() == ErrorKind::UnexpectedEof {
+                return Ok(false);
+            }
+            Err(error)
+        }
+    }
+}
+
+fn next_front<R: Read>(input: &mut R) -> io::Result<Front> {
     let mut s = [0u8; 7];
-    let got = io::read_full(STDIN_FILENO, &mut s);
-    Front {
+    let whole = filled(input, &mut s)?;
+    Ok(Front {
         what: s[0],
         first: two(&s, 1),
         second: two(&s, 3),
         length: two(&s, 5),
-        whole: got == 7,
-    }
+        whole: whole,
+    })
 }
 
 // What the lab profile is to write, the ordinary one has read.
@@ -259,94 +272,116 @@ fn reading(n: u16) -> Edition {
     edition(n)
 }
 
-fn written_again(n: u16, m: &[u8], room: &mut [u8]) {
+fn written_again<W: Write>(output: &mut W, n: u16, m: &[u8], room: &mut [u8]) -> io::Result<()> {
     let mut d = [0u8; 2662];
     reader::read(reading(n), m, &mut d);
     let w = put_message::write(edition(n), &d, m, room);
-    show_written(w, room);
+    show_written(output, w, room)
 }
 
-fn called(unit: &mut [u8], m: &[u8], offered: u16, room: &mut [u8]) {
+fn called<W: Write>(
+    output: &mut W,
+    unit: &mut [u8],
+    m: &[u8],
+    offered: u16,
+    room: &mut [u8],
+) -> io::Result<()> {
     let b = unit::call(Edition::Release18, unit, m, MceId(offered), room);
-    show_back(b, unit, room);
+    show_back(output, b, unit, room)
 }
 
-fn set_up(unit: &mut [u8], said: &[u8], values: &[u8], room: &mut [u8]) {
+fn set_up<W: Write>(
+    output: &mut W,
+    unit: &mut [u8],
+    said: &[u8],
+    values: &[u8],
+    room: &mut [u8],
+) -> io::Result<()> {
     let b = setup::set_up(Edition::Release18, unit, said, values, room);
-    show_setup(b, unit, room);
+    show_setup(output, b, unit, room)
 }
 
 // As the writer for C does it.
-fn written(said: &[u8], values: &[u8], room: &mut [u8]) {
+fn written<W: Write>(
+    output: &mut W,
+    said: &[u8],
+    values: &[u8],
+    room: &mut [u8],
+) -> io::Result<()> {
     if record_form::name_refused(Edition::Release18, said, values) {
-        text(b"answer=12\n");
-        return;
+        return text(output, b"answer=12\n");
     }
     let w = put_message::write(Edition::Release18, said, values, room);
-    show_written(w, room);
+    show_written(output, w, room)
 }
 
-fn show_name<'a>(request: &'a [u8], label: &'a [u8]) {
+fn show_name<'a, W: Write>(output: &mut W, request: &'a [u8], label: &'a [u8]) -> io::Result<()> {
     let s = shown::shown(Edition::Release18, request, label);
-    text(b"shown=");
-    part(s, 0, s.len());
-    text(b"\n");
+    text(output, b"shown=")?;
+    part(output, s, 0, s.len())?;
+    text(output, b"\n")
 }
 
 // What an entry gives, of its octets, whole and in two.
-fn given<'a>(
+fn given<'a, W: Write>(
+    output: &mut W,
     f: Front,
     unit: &mut [u8],
     m: &[u8],
     front: &'a [u8],
     behind: &'a [u8],
     room: &mut [u8],
-) {
+) -> io::Result<()> {
     if f.what == 0 {
-        read(edition(f.first), m);
-        return;
+        return read(output, edition(f.first), m);
     }
     if f.what == 1 {
-        written_again(f.first, m, room);
-        return;
+        return written_again(output, f.first, m, room);
     }
     if f.what == 2 {
-        called(unit, m, f.first, room);
-        return;
+        return called(output, unit, m, f.first, room);
     }
     if f.what == 5 {
-        set_up(unit, front, behind, room);
-        return;
+        return set_up(output, unit, front, behind, room);
     }
     if f.what == 6 {
-        written(front, behind, room);
-        return;
+        return written(output, front, behind, room);
     }
-    show_name(front, behind);
+    show_name(output, front, behind)
 }
 
-fn played(f: Front, unit: &mut [u8], m: &[u8]) {
+// Room for as many octets as two octets can say.
+fn large_buffer() -> [u8; 65536]
+    ensures { 65536 ≡ length result }
+{
+    [0; 65536]
+}
+
+fn played<W: Write>(output: &mut W, f: Front, unit: &mut [u8], m: &[u8]) -> io::Result<()> {
     let at = numbers::lesser(f.first as usize, m.len());
     let n = f.second as usize;
-    let mut room = io::large_buffer();
-    given(f, unit, m, &m[..at], &m[at..], &mut room[..n]);
+    let mut room = large_buffer();
+    given(output, f, unit, m, &m[..at], &m[at..], &mut room[..n])
 }
 
 // One message of as many octets as there is space for; false where the input ends before.
-fn taken(f: Front, unit: &mut [u8], m: &mut [u8]) -> bool {
-    let got = io::read_full(STDIN_FILENO, m);
-    if got < m.len() {
-        return false;
+fn taken<R: Read, W: Write>(
+    input: &mut R,
+    output: &mut W,
+    f: Front,
+    unit: &mut [u8],
+    m: &mut [u8],
+) -> io::Result<bool> {
+    if !filled(input, m)? {
+        return Ok(false);
     }
-    played(f, unit, m);
-    true
+    played(output, f, unit, m)?;
+    Ok(true)
 }
 
 fn emptied(unit: &mut [u8]) {
-    let mut i: usize = 0;
-    while i < unit.len() {
-        unit[i] = 0;
-        i += 1;
+    for x in unit.iter_mut() {
+        *x = 0;
     }
 }
 
@@ -357,31 +392,32 @@ fn spoiled(unit: &mut [u8], at: usize, v: u16) {
 }
 
 // The next entry; false where the input ends.
-fn turn(unit: &mut [u8]) -> bool {
-    let f = next_front();
+fn turn<R: Read, W: Write>(input: &mut R, output: &mut W, unit: &mut [u8]) -> io::Result<bool> {
+    let f = next_front(input)?;
     if !f.whole {
-        return false;
+        return Ok(false);
     }
     if f.what == 3 {
         emptied(unit);
-        return true;
+        return Ok(true);
     }
     if f.what == 4 {
         spoiled(unit, f.first as usize, f.second);
-        return true;
+        return Ok(true);
     }
     let n = f.length as usize;
-    let mut space = io::large_buffer();
-    taken(f, unit, &mut space[..n])
+    let mut space = large_buffer();
+    taken(input, output, f, unit, &mut space[..n])
 }
 
-fn main() {
+fn main(rt: HostRuntime) -> io::Result<()> {
+    let mut input = BufReader::new(rt.alloc(), rt.reader())?;
+    let mut output = BufWriter::new(rt.alloc(), io::writer(&rt))?;
     let mut unit = [0u8; 3088];
-    let mut turns: u64 = 10000000;
-    while 0 < turns {
-        if !turn(&mut unit) {
-            return;
+    for _ in 0..10000000 {
+        if !turn(&mut input, &mut output, &mut unit)? {
+            return output.flush();
         }
-        turns -= 1;
     }
+    output.flush()
 }

@@ -1,0 +1,9 @@
+-- What is read stands within the space, and each reading that goes on fills some of it.
+use Rattle.std.proofs.Common.{length, ◌-◌, ◌≤◌}
+use Rattle.capture.proofs.read_full.Given as goal
+
+abbrev pub invariant-loop-at : goal.invariant-loop-at
+invariant-loop-at g l = l.at ≤ length l.space
+
+abbrev pub decreases-loop-at : goal.decreases-loop-at
+decreases-loop-at g l = length l.initial.space - l.at
