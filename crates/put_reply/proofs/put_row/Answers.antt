@@ -4,7 +4,7 @@ use borrow.Author.Rules.{rules}
 use Rattle.put_reply.proofs.put_row.Goals as goal
 
 pub returns-then-size-eq0 : goal.returns-then-size-eq0
-returns-then-size-eq0 c = row_none _ _ c.requires.2 c.if-size-eq0.true c.requires.0
+returns-then-size-eq0 c = row_none c.args.row _ c.requires.2 c.if-size-eq0.true c.requires.0
 
 pub returns : goal.returns
-returns c = row_is _ _ c.requires.2 c.if-size-eq0.false c.requires.3 c.requires.1 c.put_front-value.ensures c.put_part.ensures
+returns c = row_is c.args.row _ c.requires.2 c.if-size-eq0.false c.requires.3 c.requires.1 c.put_front-value.ensures c.put_part.ensures

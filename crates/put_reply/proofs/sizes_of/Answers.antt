@@ -26,7 +26,7 @@ pub bounds-t-i : goal.bounds-t-i
 bounds-t-i c = omega (arith, c.row_count-n.ensures.1)
 
 pub loop-i-preserved : goal.loop-i-preserved
-loop-i-preserved c = let l : length c.args.t.rows ≡ 12 = search (rules, length_of) in rw (c.type_size.ensures, c.part_of.ensures) (copied_more c.loop-i.invariant no_row c.loop-i-test.true (omega arith) (omega arith))
+loop-i-preserved c = let l : length c.args.t.rows ≡ 12 = search (rules, length_of) in rw (c.size_of-size.ensures, c.part_of.ensures) (copied_more c.loop-i.invariant no_row c.loop-i-test.true (omega arith) (omega arith))
 
 pub returns : goal.returns
 returns c = let l : length c.args.t.rows ≡ 12 = search (rules, length_of) in let t = c.args.t in let k = c.row_count-n.ensures.0 ∙ length-take t.count t.rows in copied_all c.loop-i.invariant c.loop-i-test.false ∙ ap (fill 0 12) (ap (map _) (take_within t.rows t.count 12 l (rw l at k)) ∙ sym (map-map size_given _ (rows_in t)))
