@@ -1,0 +1,9 @@
+-- `carry::asked` meets its contract, by the case. Assumes nothing.
+use borrow.Author.Rules.{rules}
+use Rattle.carry.proofs.asked.Goals as goal
+
+pub returns-in-Granted : goal.returns-in-Granted
+returns-in-Granted c = rw c.in-Granted.is c.asked_by_request.ensures
+
+pub returns-in-Refused : goal.returns-in-Refused
+returns-in-Refused c = rw c.in-Refused.is

@@ -1,0 +1,16 @@
+use borrow.Author.Rules.{rules}
+use mathlib.Core.Path.{◌≡◌, sym}
+use Prim.Native.Nat.{◌+◌, ◌≤◌, ◌-◌}
+use native.Mathlib.Omega.{arith}
+use native.Mathlib.Nat.{zero-add}
+use borrow.Author.Tests.{lt-ltb, le-ltb}
+use lib.ListN.{drop, length}
+use Rattle.rows.specs.Table.{rows_in, find}
+use Rattle.rows.proofs.TableLaws.{row_here, row_past, ended}
+use Rattle.judging.proofs.is_known.Given as goal
+
+abbrev pub invariant-loop-k : goal.invariant-loop-k
+invariant-loop-k l = (l.k ≤ length (rows_in l.t)) × (l.k + find l.id (drop l.k (rows_in l.t)) ≡ find l.id (rows_in l.t))
+
+abbrev pub decreases-loop-k : goal.decreases-loop-k
+decreases-loop-k l = length (rows_in l.t) - l.k

@@ -1,0 +1,16 @@
+use borrow.Author.Rules.{rules}
+use borrow.Author.Tests.{not-true, not-false}
+use Prim.Native.Nat.{◌<◌, ◌-◌}
+use native.Mathlib.Omega.{arith}
+use lib.ListN.{length}
+use Rattle.places.specs.Places.{spans_in}
+use Rattle.places.proofs.Laws.{pairs_length}
+use Rattle.rows.specs.Table.{rows_in}
+use Rattle.judging.proofs.NotedLaws.{Without, without_none, without_present, without_optional, without_more, without_all}
+use Rattle.judging.proofs.note_missing.Given as goal
+
+abbrev pub invariant-loop-k : goal.invariant-loop-k
+invariant-loop-k l = Without l.t (spans_in l.places) l.initial.words l.seen l.k l.words l.count
+
+abbrev pub decreases-loop-k : goal.decreases-loop-k
+decreases-loop-k l = length (rows_in l.t) - l.k

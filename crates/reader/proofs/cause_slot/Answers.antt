@@ -1,0 +1,15 @@
+-- `reader::cause_slot` meets its contract. By what the reading gives. Assumes nothing.
+use Rattle.octets.specs.Read.{◌>>=◌}
+use Rattle.octets.proofs.Chain.{told}
+use Rattle.values.specs.Found.{found_cause}
+use Rattle.layout.specs.Record.{slot_of}
+use borrow.Author.Rules.{rules}
+use Rattle.reader.proofs.cause_slot.Goals as goal
+
+pub returns-in-Is : goal.returns-in-Is
+unfolding slot_of ◌>>=◌
+returns-in-Is c = rw (← told found_cause c.in-Is.is c.cause_at.ensures) c.put_eight.ensures
+
+pub returns-in-Stop : goal.returns-in-Stop
+unfolding ◌>>=◌
+returns-in-Stop c = rw (← told found_cause c.in-Stop.is c.cause_at.ensures) c.put_absent.ensures

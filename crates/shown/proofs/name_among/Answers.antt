@@ -1,0 +1,25 @@
+-- `shown::name_among` meets its contract: from the last row to the first, what is found in the rows from there on. Assumes nothing.
+use mathlib.Core.Path.{◌≡◌, ◌∙◌}
+use Prim.Native.Nat.{◌≤◌}
+use native.Mathlib.Omega.{arith}
+use borrow.Author.Rules.{rules}
+use lib.ListN.{length, drop}
+use Rattle.places.specs.Places.{spans_in}
+use Rattle.places.proofs.Laws.{pairs_length}
+use Rattle.rows.specs.Table.{rows_in}
+use Rattle.meaning.specs.Reading.{values_in}
+use Rattle.shown.specs.Shown.{found_among}
+use Rattle.shown.proofs.Values.{found_none, found_row_at}
+use Rattle.shown.proofs.name_among.Goals as goal
+
+pub loop-k-init : goal.loop-k-init
+loop-k-init c = (c.row_count-k.ensures.1, omega (arith, c.row_count-k.ensures.0), found_none _ _ _ c.row_count-k.ensures.0)
+
+pub loop-k-preserved : goal.loop-k-preserved
+loop-k-preserved c = let a = c.args in
+    let l = c.loop-k in
+    let p = spans_in a.places.now in
+    (omega arith, omega arith, rw c.span_in-v.ensures at c.with_value-x.ensures ∙ found_row_at a.t p a.s.now l.k l.x (omega arith) l.invariant.1 (omega (arith, pairs_length 12 a.places.now)) l.invariant.2)
+
+pub returns : goal.returns
+returns c = let z : c.loop-k.k ≡ 0 = omega arith in rw z at c.loop-k.invariant.2

@@ -1,0 +1,18 @@
+use mathlib.Core.Path.{◌≡◌, ◌∙◌}
+use Prim.Native.Nat.{◌≤◌}
+use native.Mathlib.Omega.{arith}
+use borrow.Author.Rules.{rules}
+use lib.ListN.{length, drop}
+use Rattle.places.specs.Places.{spans_in}
+use Rattle.places.proofs.Laws.{pairs_length}
+use Rattle.rows.specs.Table.{rows_in}
+use Rattle.meaning.specs.Reading.{values_in}
+use Rattle.shown.specs.Shown.{found_among}
+use Rattle.shown.proofs.Values.{found_none, found_row_at}
+use Rattle.shown.proofs.name_among.Given as goal
+
+abbrev pub invariant-loop-k : goal.invariant-loop-k
+invariant-loop-k l = (l.k ≤ 12) × (l.k ≤ length (rows_in l.t)) × (l.x ≡ found_among (values_in (drop l.k (rows_in l.t)) l.s (drop l.k (spans_in l.places))))
+
+abbrev pub decreases-loop-k : goal.decreases-loop-k
+decreases-loop-k l = l.k
