@@ -5,8 +5,6 @@ use mathlib.Core.Path.{◌≡◌, refl, sym}
 use mathlib.Core.Bool.{Bool, true, false}
 use mathlib.Core.List.{List, [], ◌∷◌}
 use Prim.Native.Nat.{ℕ, ◌+◌, ◌≤◌}
-use denote.Enum.Declared.{tag_of}
-use types.Run.{OneOf, miss}
 use lib.ListN.{length, take}
 use Rattle.lists.specs.Lists.{pick}
 use Rattle.octets.specs.Read.{Read, got, stop, ◌>>=◌}
@@ -24,7 +22,6 @@ use Rattle.entries.specs.Entries.{maybe_list_at}
 use Rattle.diagnostics.specs.declared.Head.{Head}
 use Rattle.diagnostics.specs.Diagnostics.{Diagnostics, diagnostics_at}
 use Rattle.rows.specs.declared.Kind.{Kind}
-use Rattle.rows.specs.contracts.Kind as kinds
 use Rattle.rows.specs.declared.Kind.TheVariants as kind
 use Rattle.rows.specs.declared.Triggers.{Triggers}
 use Rattle.rows.specs.Table.{meanings}
@@ -69,11 +66,11 @@ module _ (s : List ℕ) (v : Span) where
   unfolding value_in read_as lists_of ◌>>=◌
   list_items is p q = (is, q, λ vs. rw (p, q))
 
-  pub no_items : (k : Kind) → OneOf (0 ∷ 1 ∷ 2 ∷ 3 ∷ 4 ∷ 5 ∷ 6 ∷ 7 ∷ 8 ∷ 11 ∷ []) (tag_of kinds.the_type k) → ItemsBegin (value_in k s v) (take v.to s) Nowhere
+  pub no_items : (k : Kind) → (k ≡ kind.ResetType → ⊥) × (k ≡ kind.Acknowledged → ⊥) → ItemsBegin (value_in k s v) (take v.to s) Nowhere
   unfolding value_in read_as lists_of ◌>>=◌
   no_items k o vs = by k o
     where
-      by : (k : Kind) → OneOf (0 ∷ 1 ∷ 2 ∷ 3 ∷ 4 ∷ 5 ∷ 6 ∷ 7 ∷ 8 ∷ 11 ∷ []) (tag_of kinds.the_type k) → (lists_of (value_in k s v ∷ vs)).items ≡ (lists_of vs).items
+      by : (k : Kind) → (k ≡ kind.ResetType → ⊥) × (k ≡ kind.Acknowledged → ⊥) → (lists_of (value_in k s v ∷ vs)).items ≡ (lists_of vs).items
       by kind.Carried o = on_value (λ g. (lists_of (g ∷ vs)).items ≡ (lists_of vs).items) (present v) (got v) carried refl (λ a. refl)
       by kind.Mme o = on_value (λ g. (lists_of (g ∷ vs)).items ≡ (lists_of vs).items) (present v) (mme_at (take v.to s) v.from) mme refl (λ a. refl)
       by kind.Mce o = on_value (λ g. (lists_of (g ∷ vs)).items ≡ (lists_of vs).items) (present v) (mce_at (take v.to s) v.from) mce refl (λ a. refl)
@@ -83,8 +80,8 @@ module _ (s : List ℕ) (v : Span) where
       by kind.Cause o = on_value (λ g. (lists_of (g ∷ vs)).items ≡ (lists_of vs).items) (present v) (cause_at (take v.to s) v.from) cause refl (λ a. refl)
       by kind.Wait o = on_value (λ g. (lists_of (g ∷ vs)).items ≡ (lists_of vs).items) (present v) (wait_at (take v.to s) v.from) wait refl (λ a. refl)
       by kind.Name o = on_value (λ g. (lists_of (g ∷ vs)).items ≡ (lists_of vs).items) (present v) (name_at (take v.to s) v.from) name refl (λ a. refl)
-      by kind.ResetType o = absurd (miss (0 ∷ 1 ∷ 2 ∷ 3 ∷ 4 ∷ 5 ∷ 6 ∷ 7 ∷ 8 ∷ 11 ∷ []) 9 tt o)
-      by kind.Acknowledged o = absurd (miss (0 ∷ 1 ∷ 2 ∷ 3 ∷ 4 ∷ 5 ∷ 6 ∷ 7 ∷ 8 ∷ 11 ∷ []) 10 tt o)
+      by kind.ResetType o = absurd (o.0 refl)
+      by kind.Acknowledged o = absurd (o.1 refl)
       by (kind.Diagnostics t) o = on_value (λ g. (lists_of (g ∷ vs)).items ≡ (lists_of vs).items) (present v) (diagnostics_at (meanings t) (take v.to s) v.from) (diagnostics t) refl (λ a. refl)
 
   -- ---- entries
@@ -94,7 +91,7 @@ module _ (s : List ℕ) (v : Span) where
   unfolding value_in read_as
   diagnostics_entries t x p b = rw p b
 
-  pub no_entries : (k : Kind) → OneOf (0 ∷ 1 ∷ 2 ∷ 3 ∷ 4 ∷ 5 ∷ 6 ∷ 7 ∷ 8 ∷ 9 ∷ 10 ∷ []) (tag_of kinds.the_type k) → EntriesBegin (value_in k s v) (take v.to s) Nowhere
+  pub no_entries : (k : Kind) → ((t : Triggers) → k ≡ kind.Diagnostics t → ⊥) → EntriesBegin (value_in k s v) (take v.to s) Nowhere
   unfolding value_in read_as lists_of ◌>>=◌
   no_entries k o vs = by k o
     where
@@ -102,7 +99,7 @@ module _ (s : List ℕ) (v : Span) where
       resetting whole = refl
       resetting (part is) = refl
 
-      by : (k : Kind) → OneOf (0 ∷ 1 ∷ 2 ∷ 3 ∷ 4 ∷ 5 ∷ 6 ∷ 7 ∷ 8 ∷ 9 ∷ 10 ∷ []) (tag_of kinds.the_type k) → (lists_of (value_in k s v ∷ vs)).entries ≡ (lists_of vs).entries
+      by : (k : Kind) → ((t : Triggers) → k ≡ kind.Diagnostics t → ⊥) → (lists_of (value_in k s v ∷ vs)).entries ≡ (lists_of vs).entries
       by kind.Carried o = on_value (λ g. (lists_of (g ∷ vs)).entries ≡ (lists_of vs).entries) (present v) (got v) carried refl (λ a. refl)
       by kind.Mme o = on_value (λ g. (lists_of (g ∷ vs)).entries ≡ (lists_of vs).entries) (present v) (mme_at (take v.to s) v.from) mme refl (λ a. refl)
       by kind.Mce o = on_value (λ g. (lists_of (g ∷ vs)).entries ≡ (lists_of vs).entries) (present v) (mce_at (take v.to s) v.from) mce refl (λ a. refl)
@@ -114,7 +111,7 @@ module _ (s : List ℕ) (v : Span) where
       by kind.Name o = on_value (λ g. (lists_of (g ∷ vs)).entries ≡ (lists_of vs).entries) (present v) (name_at (take v.to s) v.from) name refl (λ a. refl)
       by kind.ResetType o = on_value (λ g. (lists_of (g ∷ vs)).entries ≡ (lists_of vs).entries) (present v) (reset_at (take v.to s) v.from) reset refl resetting
       by kind.Acknowledged o = on_value (λ g. (lists_of (g ∷ vs)).entries ≡ (lists_of vs).entries) (present v) (items_at (take v.to s) v.from) list refl (λ a. refl)
-      by (kind.Diagnostics t) o = absurd (miss (0 ∷ 1 ∷ 2 ∷ 3 ∷ 4 ∷ 5 ∷ 6 ∷ 7 ∷ 8 ∷ 9 ∷ 10 ∷ []) 11 tt o)
+      by (kind.Diagnostics t) o = absurd (o t refl)
 
 -- Criticality Diagnostics, by their fields
 module _ (t : Triggers) (s : List ℕ) (from : ℕ) {h : Head} {es : List Entry} (n : ℕ) (d : diagnostics_at (meanings t) s from ≡ got (record { head = h; entries = es })) (q : got es ≡ maybe_list_at h.listed s n) where

@@ -11,8 +11,6 @@ use mathlib.Core.Logic.{◌⊎◌, inl, inr}
 use native.Mathlib.Omega.{arith}
 use native.Mathlib.Numerals.{add-one}
 use borrow.Author.Tests.{lt-ltb}
-use denote.Enum.Declared.{tag_of}
-use types.Run.{OneOf, miss}
 use lib.ListN.{length, take, drop, get_or, length-take}
 use lib.Seq.{drop-cons, drop-length, get_or-take}
 use Rattle.lists.specs.Lists.{pick}
@@ -26,7 +24,6 @@ use Rattle.items.specs.Items.{items_at, reset_at}
 use Rattle.diagnostics.specs.Diagnostics.{diagnostics_at}
 use Rattle.rows.specs.declared.Kind.{Kind}
 use Rattle.rows.specs.declared.Kind.TheVariants as kind
-use Rattle.rows.specs.contracts.Kind as kinds
 use Rattle.rows.specs.declared.Row.{Row}
 use Rattle.rows.specs.declared.Rows.{Rows}
 use Rattle.rows.specs.Table.{no_row, rows_in, meanings}
@@ -85,7 +82,7 @@ module _ (s : List ℕ) (v : Span) (x : Found) where
       (q ∙ (ap (λ l. or_else (name_at l v.from) x) (ap (λ n. take n s) m ∙ take_within s v.to (length s) refl refl) ∙ sym (name_read_lem s v x)))
 
   -- of any other kind
-  pub other_there : (k : Kind) → OneOf (0 ∷ 1 ∷ 2 ∷ 3 ∷ 4 ∷ 5 ∷ 6 ∷ 7 ∷ 9 ∷ 10 ∷ 11 ∷ []) (tag_of kinds.the_type k) → x ≡ found_with (value_in k s v) x
+  pub other_there : (k : Kind) → (k ≡ kind.Name → ⊥) → x ≡ found_with (value_in k s v) x
   unfolding value_in
   other_there k o = by (name_or_not k)
     where
@@ -94,7 +91,7 @@ module _ (s : List ℕ) (v : Span) (x : Found) where
       on false f = refl
 
       by : (k ≡ kind.Name) ⊎ Unnamed k → x ≡ found_with (pick (present v) (or_absent (read_as k s v)) absent) x
-      by (inl e) = absurd (miss (0 ∷ 1 ∷ 2 ∷ 3 ∷ 4 ∷ 5 ∷ 6 ∷ 7 ∷ 9 ∷ 10 ∷ 11 ∷ []) 8 tt (subst (λ (i : Kind). OneOf (0 ∷ 1 ∷ 2 ∷ 3 ∷ 4 ∷ 5 ∷ 6 ∷ 7 ∷ 9 ∷ 10 ∷ 11 ∷ []) (tag_of kinds.the_type i)) e o))
+      by (inl e) = absurd (o e)
       by (inr f) = on (present v) f
 
 -- ---- all rows

@@ -9,7 +9,7 @@ use Rattle.reader.proofs.diagnostics_slot.Goals as goal
 
 pub returns-in-Is : goal.returns-in-Is
 unfolding slot_of ◌>>=◌
-returns-in-Is c = let x = head_is _ _ _ _ _ (told found_head c.in-Is.is (rw c.meanings.ensures at c.head_at.ensures)) c.requires.1 in rw x.2 c.put_head.ensures
+returns-in-Is c = let x = head_is _ _ _ _ _ (told found_head c.in-Is.is (rw c.meanings.ensures at c.head_at.ensures)) c.requires.value in rw x.2 c.put_head.ensures
 
 pub returns-in-Stop : goal.returns-in-Stop
-returns-in-Stop c = head_none _ _ _ (told found_head c.in-Stop.is (rw c.meanings.ensures at c.head_at.ensures)) c.requires.1
+returns-in-Stop c = head_none _ _ _ (told found_head c.in-Stop.is (rw c.meanings.ensures at c.head_at.ensures)) c.requires.value

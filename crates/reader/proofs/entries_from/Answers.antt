@@ -24,4 +24,4 @@ pub returns-in-Diagnostics : goal.returns-in-Diagnostics
 returns-in-Diagnostics c = rw c.in-Diagnostics.is (diagnostics_entries c.args.s.now c.args.v c.in-Diagnostics.t c.list_from.result (lt-ltb 0 c.args.v.to (omega arith)) c.list_from.ensures)
 
 pub returns-in_default : goal.returns-in_default
-returns-in_default c = no_entries _ _ _ c.in_default.in_default-own.keys2
+returns-in_default c = no_entries _ _ _ c.in_default.not-Diagnostics

@@ -46,4 +46,4 @@ returns-in-Acknowledged c = let p : ltb 0 c.args.v.to ≡ true = lt-ltb 0 c.args
     rw c.in-Acknowledged.is (list_items _ _ x.0 p (sym x.1))
 
 pub returns-in_default : goal.returns-in_default
-returns-in_default c = no_items _ _ _ c.in_default.in_default-own.keys3
+returns-in_default c = no_items _ _ _ (c.in_default.not-ResetType, c.in_default.not-Acknowledged)

@@ -20,7 +20,7 @@ use Rattle.reader.proofs.Walk.{rest_more, rest_found, rest_none, ends_inside, no
 use Rattle.reader.proofs.put_entries.Given as goal
 
 abbrev pub invariant-loop-k : goal.invariant-loop-k
-invariant-loop-k l = (l.k ≤ length (rows_in l.t)) × (l.room ≡ l.initial.room) × (of (lists_of (values_in (drop l.k (rows_in l.t)) l.s (drop l.k (spans_in l.places)))) ≡ of (lists_of (values_in (rows_in l.t) l.s (spans_in l.places))))
+invariant-loop-k l = (l.k ≤ length (rows_in l.t)) × (l.room ≡ l.initial.room) × ((lists_of (values_in (drop l.k (rows_in l.t)) l.s (drop l.k (spans_in l.places)))).entries ≡ (lists_of (values_in (rows_in l.t) l.s (spans_in l.places))).entries)
 
 abbrev pub decreases-loop-k : goal.decreases-loop-k
 decreases-loop-k l = length (rows_in l.t) - l.k

@@ -6,7 +6,7 @@ use borrow.Author.Rules.{rules}
 use Rattle.reader.proofs.put_slot.Goals as goal
 
 pub put_value-requires : goal.put_value-requires
-put_value-requires c = (omega arith, c.requires.1 (lt-ltb 0 _ c.if-v-gt0.true))
+put_value-requires c = record { room = omega arith; value = c.requires.value (lt-ltb 0 _ c.if-v-gt0.true) }
 
 pub returns-then-v-gt0 : goal.returns-then-v-gt0
 unfolding value_in

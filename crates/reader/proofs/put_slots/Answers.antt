@@ -23,7 +23,7 @@ pub put_slot-next-requires : goal.put_slot-next-requires
 put_slot-next-requires c =
     let rows_in_lem : (c.loop-k.k < length (rows_in c.args.t)) × (length (rows_in c.args.t) ≤ length (spans_in c.args.places.now)) = let z = pairs_length 12 c.args.places.now in (omega arith, omega arith) in
     let g = rows_in_lem in
-    (omega (arith, wrote_length c.loop-k.invariant.2), rw (c.span_in-v.ensures, row_at c.args.t c.loop-k.k g.0) (c.requires.1 c.loop-k.k g.0))
+    record { room = omega (arith, wrote_length c.loop-k.invariant.2); value = rw (c.span_in-v.ensures, row_at c.args.t c.loop-k.k g.0) (c.requires.values c.loop-k.k g.0) }
 
 pub loop-k-preserved : goal.loop-k-preserved
 loop-k-preserved c =

@@ -11,42 +11,42 @@ use borrow.Author.Rules.{rules}
 use Rattle.reader.proofs.put_value.Goals as goal
 
 pub slice_bounds-mme_slot-end : goal.slice_bounds-mme_slot-end
-slice_bounds-mme_slot-end c = sym (length-take-le _ _ c.requires.1.within)
+slice_bounds-mme_slot-end c = sym (length-take-le _ _ c.requires.value.within)
 
 pub slice_bounds-mce_slot-end : goal.slice_bounds-mce_slot-end
-slice_bounds-mce_slot-end c = sym (length-take-le _ _ c.requires.1.within)
+slice_bounds-mce_slot-end c = sym (length-take-le _ _ c.requires.value.within)
 
 pub slice_bounds-tmgi_slot-end : goal.slice_bounds-tmgi_slot-end
-slice_bounds-tmgi_slot-end c = sym (length-take-le _ _ c.requires.1.within)
+slice_bounds-tmgi_slot-end c = sym (length-take-le _ _ c.requires.value.within)
 
 pub slice_bounds-one_slot-end : goal.slice_bounds-one_slot-end
-slice_bounds-one_slot-end c = sym (length-take-le _ _ c.requires.1.within)
+slice_bounds-one_slot-end c = sym (length-take-le _ _ c.requires.value.within)
 
 pub slice_bounds-two_slot-end : goal.slice_bounds-two_slot-end
-slice_bounds-two_slot-end c = sym (length-take-le _ _ c.requires.1.within)
+slice_bounds-two_slot-end c = sym (length-take-le _ _ c.requires.value.within)
 
 pub slice_bounds-cause_slot-end : goal.slice_bounds-cause_slot-end
-slice_bounds-cause_slot-end c = sym (length-take-le _ _ c.requires.1.within)
+slice_bounds-cause_slot-end c = sym (length-take-le _ _ c.requires.value.within)
 
 pub slice_bounds-wait_slot-end : goal.slice_bounds-wait_slot-end
-slice_bounds-wait_slot-end c = sym (length-take-le _ _ c.requires.1.within)
+slice_bounds-wait_slot-end c = sym (length-take-le _ _ c.requires.value.within)
 
 pub slice_bounds-name_slot-end : goal.slice_bounds-name_slot-end
-slice_bounds-name_slot-end c = sym (length-take-le _ _ c.requires.1.within)
+slice_bounds-name_slot-end c = sym (length-take-le _ _ c.requires.value.within)
 
 pub slice_bounds-reset_slot-end : goal.slice_bounds-reset_slot-end
-slice_bounds-reset_slot-end c = sym (length-take-le _ _ c.requires.1.within)
+slice_bounds-reset_slot-end c = sym (length-take-le _ _ c.requires.value.within)
 
 pub reset_slot-requires : goal.reset_slot-requires
 unfolding read_as
-reset_slot-requires c = (omega arith, got_of (reset_at _ _) _ (rw c.in-ResetType.is at c.requires.1.value))
+reset_slot-requires c = record { room = omega arith; value = got_of (reset_at _ _) _ (rw c.in-ResetType.is at c.requires.value.value) }
 
 pub slice_bounds-diagnostics_slot-end : goal.slice_bounds-diagnostics_slot-end
-slice_bounds-diagnostics_slot-end c = sym (length-take-le _ _ c.requires.1.within)
+slice_bounds-diagnostics_slot-end c = sym (length-take-le _ _ c.requires.value.within)
 
 pub diagnostics_slot-requires : goal.diagnostics_slot-requires
 unfolding read_as
-diagnostics_slot-requires c = (omega arith, got_of (diagnostics_at _ _ _) _ (rw c.in-Diagnostics.is at c.requires.1.value))
+diagnostics_slot-requires c = record { room = omega arith; value = got_of (diagnostics_at _ _ _) _ (rw c.in-Diagnostics.is at c.requires.value.value) }
 
 pub returns-in-Carried : goal.returns-in-Carried
 unfolding read_as slot_of
@@ -90,7 +90,7 @@ returns-in-ResetType c = rw c.in-ResetType.is c.reset_slot.ensures
 
 pub returns-in-Acknowledged : goal.returns-in-Acknowledged
 unfolding read_as
-returns-in-Acknowledged c = rw (c.in-Acknowledged.is, list_slot (items_at _ _) (got_of (items_at _ _) _ (rw c.in-Acknowledged.is at c.requires.1.value))) c.put_first.ensures
+returns-in-Acknowledged c = rw (c.in-Acknowledged.is, list_slot (items_at _ _) (got_of (items_at _ _) _ (rw c.in-Acknowledged.is at c.requires.value.value))) c.put_first.ensures
 
 pub returns-in-Diagnostics : goal.returns-in-Diagnostics
 unfolding read_as

@@ -12,7 +12,7 @@ pub returns-then-s-gt8192 : goal.returns-then-s-gt8192
 returns-then-s-gt8192 c = answers_refused c.args.e c.args.room.now (too_long c.args.e every c.args.s.now c.if-s-gt8192.true)
 
 pub read_inside-requires : goal.read_inside-requires
-read_inside-requires c = (c.if-s-gt8192.false, sym c.message_of.ensures ∙ c.in-Is-message_of.is)
+read_inside-requires c = record { length = c.if-s-gt8192.false; named = sym c.message_of.ensures ∙ c.in-Is-message_of.is }
 
 pub returns-in-Is-message_of : goal.returns-in-Is-message_of
 returns-in-Is-message_of c = answers_as c.args.e c.args.room.now (judged_inside c.args.e every c.args.s.now c.if-s-gt8192.false c.in-Is.ensures (sym c.message_of.ensures ∙ c.in-Is-message_of.is) refl) c.read_inside.ensures

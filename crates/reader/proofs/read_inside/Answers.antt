@@ -12,7 +12,7 @@ pub returns-then-room-lt2662 : goal.returns-then-room-lt2662
 returns-then-room-lt2662 c = let a = c.args in too_small a.e a.m a.f a.s.now c.rows_of-t.ensures c.has_container-c.ensures c.opened_at-o.ensures c.in-Pass.is c.if-room-lt2662.true
 
 pub put_record-requires : goal.put_record-requires
-put_record-requires c = let a = c.args in (omega arith, all_legible a.e a.m a.f a.s.now c.rows_of-t.ensures c.has_container-c.ensures c.opened_at-o.ensures c.in-Pass.is)
+put_record-requires c = let a = c.args in record { room = omega arith; values = all_legible a.e a.m a.f a.s.now c.rows_of-t.ensures c.has_container-c.ensures c.opened_at-o.ensures c.in-Pass.is }
 
 pub returns : goal.returns
-returns c = let a = c.args in is_put a.e a.m a.f a.s.now c.rows_of-t.ensures c.has_container-c.ensures c.opened_at-o.ensures c.in-Pass.is (λ i. omega (arith, c.shared_slice_known-1.given i)) c.requires.0 c.requires.1 a.room.now c.if-room-lt2662.false c.put_record.ensures
+returns c = let a = c.args in is_put a.e a.m a.f a.s.now c.rows_of-t.ensures c.has_container-c.ensures c.opened_at-o.ensures c.in-Pass.is (λ i. omega (arith, c.shared_slice_known-1.given i)) c.requires.length c.requires.named a.room.now c.if-room-lt2662.false c.put_record.ensures

@@ -16,4 +16,4 @@ pub returns-in-Name : goal.returns-in-Name
 returns-in-Name c = let a = c.args in rw c.in-Name.is (name_there a.s.now a.v a.x (omega (arith, c.if-v-eq0.false)) c.lesser-to.ensures c.or_else.ensures)
 
 pub returns-in_default : goal.returns-in_default
-returns-in_default c = let a = c.args in other_there a.s.now a.v a.x a.kind c.in_default.in_default-own.keys2
+returns-in_default c = let a = c.args in other_there a.s.now a.v a.x a.kind c.in_default.not-Name
