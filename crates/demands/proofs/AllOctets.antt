@@ -84,6 +84,7 @@ all_rows (a ∷ l) h = all_join {vs = row_octets a} (record { octets = h a (Mem�
 
 all_row : (l : State) → All (rows_octets l) → (a : Association) → Memᴰ a l → Octets (row_octets a)
 unfolding rows_octets
+all_row [] o a m = elim m [ ]
 all_row (b ∷ l) o a (Memᴰ.head e) = subst (λ (x : Association). Octets (row_octets x)) (sym e) (all_split (row_octets b) (rows_octets l) o).0.octets
 all_row (b ∷ l) o a (Memᴰ.tail m) = all_row l (all_split (row_octets b) (rows_octets l) o).1 a m
 

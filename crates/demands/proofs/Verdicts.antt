@@ -121,6 +121,7 @@ none_asks : (m : Message) → Memᴰ m (messages_of Warnings) → asks m ≡ tru
 none_asks m (Memᴰ.head h) a = not_asked (rw h at a)
 none_asks m (Memᴰ.tail (Memᴰ.head h)) a = not_asked (rw h at a)
 none_asks m (Memᴰ.tail (Memᴰ.tail (Memᴰ.head h))) a = not_asked (rw h at a)
+none_asks m (Memᴰ.tail (Memᴰ.tail (Memᴰ.tail x))) a = elim x [ ]
 
 asks_m3ap : (e : Edition) (m : Message) → Memᴰ m (messages_of e) → asks m ≡ true → of_m3ap e ≡ true
 asks_m3ap Release18 m d a = refl

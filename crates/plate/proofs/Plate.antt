@@ -170,9 +170,9 @@ module _ (e : Edition) (t : List ℕ) (c : Setup) (q : List ℕ) (s : Sent e t c
   labelled label h = shown_label q label (name_in e q) (name_is ∙ h)
 
 -- a name that is not allowed is refused
-name_refused : (e : Edition) (c : Setup) (os : List ℕ) → name_handed e c ≡ called os → name_allowed os ≡ false → name_refused e c.said c.values ≡ true
+name_refused_lem : (e : Edition) (c : Setup) (os : List ℕ) → name_handed e c ≡ called os → name_allowed os ≡ false → name_refused e c.said c.values ≡ true
 unfolding name_refused
-name_refused e c os h n = by (read_record e c.said) h
+name_refused_lem e c os h n = by (read_record e c.said) h
   where
     by : (x : LentRecord) → name_on e c.values x ≡ called os → name_refused_by c.values x ≡ true
     by (is_record r) h = (tested (said_by c.values r).values os h).refused n
@@ -184,7 +184,7 @@ plate e = record {
   different = λ t z c d q r s p n k. n (sym (back e t c q s) ∙ (ap (name_read e) k ∙ back e z d r p));
   back = back e;
   allowed = λ t c q os s h. allowed e t c q s os h;
-  refused = λ t c u os i h n. ap (λ (x : MaybeUnit). (setup_on e t c x).answer) i ∙ rw (name_refused e c os h n);
+  refused = λ t c u os i h n. ap (λ (x : MaybeUnit). (setup_on e t c x).answer) i ∙ rw (name_refused_lem e c os h n);
   shows = λ t c q os label s h. shows e t c q s os label h;
   label = λ t c q l s h. labelled e t c q s l h;
 }

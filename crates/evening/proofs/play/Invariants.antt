@@ -1,0 +1,13 @@
+use Rattle.lent.proofs.Reading.{tail_part}
+use Prim.Native.Nat.{◌-◌}
+use native.Mathlib.Omega.{arith}
+use borrow.Author.Rules.{rules}
+use Rattle.evening.specs.Capture.{played_in}
+use Rattle.evening.proofs.Playing.{Going, going_none, going_length, going_full, going_stop, going_on, going_more, size_none, size_some}
+use Rattle.evening.proofs.play.Given as goal
+
+abbrev pub invariant-loop-i : goal.invariant-loop-i
+invariant-loop-i l = Going (played_in l.most l.s l.initial.unit l.initial.room) l.most l.s l.initial.unit l.initial.room l.initial.out l.unit l.room l.out l.at l.i
+
+abbrev pub decreases-loop-i : goal.decreases-loop-i
+decreases-loop-i l = l.most - l.i
