@@ -51,7 +51,7 @@ overflow_add-at c = let h = size_some _ (rw tail_part at c.size-n.ensures) c.if-
 
 pub loop-i-preserved : goal.loop-i-preserved
 loop-i-preserved c = let h = size_some _ (rw tail_part at c.size-n.ensures) c.if-n-eq0.false in
-    going_more c.loop-i.invariant c.loop-i-test.true h.0 h.1 (rw tail_part at c.take_turn-x.ensures) c.take_turn-x.auto.1.1.0 c.take_turn-x.auto.1.1.1.0 c.store.ensures
+    going_more c.loop-i.invariant c.loop-i-test.true h.0 h.1 (rw tail_part at c.take_turn-x.ensures) c.take_turn-x.auto.unit c.take_turn-x.auto.room c.store.ensures
 
 pub shape_of-unit : goal.shape_of-unit
 shape_of-unit c = c.loop-i.invariant.unit
