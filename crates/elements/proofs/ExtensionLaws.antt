@@ -1,6 +1,7 @@
 -- An extension is looked for among no rows, so each that is not to be ignored is listed as not understood, and no value is read from it.
---     extensions_unknown   what the judging makes of them
---     each_extension       they are elements of the message too: what holds of each element that octets can have holds of each of them
+--     no_row_is_theirs    which are listed
+--     extensions_judged   what the judging makes of them
+--     each_extension      they are elements of the message too: what holds of each element that octets can have holds of each of them
 -- Assumes nothing.
 use Prim.Native.Nat.{ℕ, ◌+◌}
 use mathlib.Core.Path.{◌≡◌, refl, sym, ap, subst}
@@ -19,9 +20,9 @@ use Rattle.rows.specs.Table.{find}
 use Rattle.envelopes.specs.declared.Head.{Head}
 use Rattle.envelopes.specs.Envelope.{scan_at, heads_at}
 use Rattle.elements.specs.Judge.{front, read_of, ignored, unknown_of, missing_of, judged_of, extensions_at}
-use Rattle.elements.specs.Extensions.{not_understood, ExtensionsUnknown}
+use Rattle.elements.specs.Extensions.{not_understood, ExtensionsJudged}
 
-no_row_is_theirs : (xs : List Head) → unknown_of [] xs ≡ not_understood xs
+pub no_row_is_theirs : (xs : List Head) → unknown_of [] xs ≡ not_understood xs
 unfolding unknown_of find
 no_row_is_theirs [] = refl
 no_row_is_theirs (h ∷ xs) = by (ignored h.crit) (no_row_is_theirs xs)
@@ -36,9 +37,9 @@ no_row_is_theirs (h ∷ xs) = by (ignored h.crit) (no_row_is_theirs xs)
     by true e = e
     by false e = ap (λ (es : List Entry). entry h ∷ es) e
 
-pub extensions_unknown : (t : List Row) (n : ℕ) (hs xs : List Head) → ExtensionsUnknown t n hs xs
+pub extensions_judged : (t : List Row) (n : ℕ) (hs xs : List Head) → ExtensionsJudged t n hs xs
 unfolding judged_of
-extensions_unknown t n hs xs =
+extensions_judged t n hs xs =
     let f : List Head = front t 0 hs in
     record {
       listed = λ q. rw (eq-eqb (length f) n q) (ap (λ (es : List Entry). unknown_of t f ++ (es ++ missing_of t (read_of t f))) (no_row_is_theirs xs));

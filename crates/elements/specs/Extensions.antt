@@ -10,7 +10,7 @@ use Rattle.elements.specs.Judge.{front, read_of, ignored, unknown_of, missing_of
 abbrev pub not_understood : List Head → List Entry
 not_understood xs = map (λ (h : Head). record { crit = h.crit; id = h.id; error = 0 }) (keep (λ (h : Head). not (ignored h.crit)) xs)
 
-pub record ExtensionsUnknown (t : List Row) (n : ℕ) (hs xs : List Head) : Type 0 where
+pub record ExtensionsJudged (t : List Row) (n : ℕ) (hs xs : List Head) : Type 0 where
   -- where all elements count: behind the unknown ones, before what is missing
   pub listed : length (front t 0 hs) ≡ n → (judged_of t n hs xs).listed ≡ unknown_of t (front t 0 hs) ++ (not_understood xs ++ missing_of t (read_of t (front t 0 hs)))
   -- where not all do, no extension counts

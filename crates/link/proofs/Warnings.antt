@@ -15,7 +15,7 @@ use Rattle.rows.specs.declared.Kind.{Kind}
 use Rattle.rows.specs.declared.Kind.TheVariants as kind
 use Rattle.rows.specs.declared.Row.{Row}
 use Rattle.rows.specs.Table.{find}
-use Rattle.elements.proofs.ExtensionLaws.{extensions_unknown}
+use Rattle.elements.proofs.ExtensionLaws.{no_row_is_theirs, extensions_judged}
 use Rattle.editions.specs.declared.Edition.{Edition}
 use Rattle.editions.specs.declared.Edition.TheVariants.{Warnings, WarningsLab}
 use Rattle.editions.specs.declared.Message.{Message}
@@ -115,4 +115,4 @@ only_two = record { request = λ id. by (eqb 5 id) (eqb 11 id); response = refl;
 
 pub over_sbcap : OverSbcap
 unfolding printed
-over_sbcap = record { ordinary = profile Warnings refl; lab = profile WarningsLab refl; extensions = extensions_unknown; only_two = only_two }
+over_sbcap = record { ordinary = profile Warnings refl; lab = profile WarningsLab refl; extensions = no_row_is_theirs; judged = extensions_judged; only_two = only_two }
