@@ -18,14 +18,13 @@ use Rattle.identity.specs.declared.Item.{Item}
 use Rattle.editions.specs.declared.Message.{Message}
 use Rattle.editions.specs.declared.Message.TheVariants as message
 use Rattle.editions.specs.declared.Edition.{Edition}
-use Rattle.verdicts.specs.Verdict.{Understood, Verdict, refused, understood}
+use Rattle.verdicts.specs.Verdict.{Understood, Verdict, understood}
 use Rattle.units.specs.Unit.{Unit, MaybeUnit, is_unit, no_unit, read_unit}
 use Rattle.requests.specs.declared.MaybeTmgi.{MaybeTmgi}
 use Rattle.requests.specs.declared.MaybeTmgi.TheVariants as tmgi
 use Rattle.requests.specs.declared.MaybeReset.TheVariants as reset
 use Rattle.requests.specs.declared.Request.{Request}
 use Rattle.requests.specs.declared.Request.TheVariants as request
-use Rattle.requests.specs.declared.Wanted.{Wanted}
 use Rattle.requests.specs.declared.Wanted.TheVariants as wanted
 use Rattle.requests.specs.declared.Seen.{Seen}
 use Rattle.replies.specs.Replies.{silent}
@@ -35,13 +34,13 @@ use Rattle.carry.specs.declared.Ruling.TheVariants.{Granted, Refused}
 use Rattle.carry.specs.declared.Answer.TheVariants as answer
 use Rattle.carry.specs.Carry.{ruling}
 use Rattle.answers.specs.Answers.{numbered}
-use Rattle.calls.specs.Judged.{Accepted, Judged, refuses, accepts, ruled, judged_by, judged, verdict, setup_answer}
+use Rattle.calls.specs.Judged.{Accepted, accepts, ruled, judged_by, judged, verdict, setup_answer}
 use Rattle.calls.specs.Decided.{keeps, decided}
 use Rattle.calls.specs.Call.{Call, decided_on, on_unit, call}
 use Rattle.demands.specs.Answered.{number_of}
 use Rattle.demands.specs.Words.{Asks, PartialReset}
 use Rattle.demands.specs.Resets.{NoneLeftOut}
-use Rattle.demands.proofs.JudgedSound.{Of, accepted_of}
+use Rattle.demands.proofs.JudgedSound.{accepted_of}
 use Rattle.demands.proofs.Done.{number, done}
 
 -- ---- answer 0 comes of a unit, and of a message that was accepted

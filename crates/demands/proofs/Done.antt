@@ -17,7 +17,7 @@ use Rattle.identity.specs.declared.Mce.TheVariants as mce
 use Rattle.identity.specs.declared.Item.{Item}
 use Rattle.editions.specs.declared.Edition.{Edition}
 use Rattle.table.specs.declared.Association.{Association}
-use Rattle.table.specs.Table.{State, without, full, starting, stopping, holds_mme, holds_mce, holds_pair, standing}
+use Rattle.table.specs.Table.{State, full, starting, stopping, holds_mme, holds_mce, holds_pair, standing}
 use Rattle.units.specs.Unit.{Unit, is_unit, read_unit, with_held}
 use Rattle.requests.specs.declared.Request.TheVariants as request
 use Rattle.replies.specs.declared.Reply.{Reply}

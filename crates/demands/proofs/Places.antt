@@ -6,13 +6,11 @@ use mathlib.Core.Bool.{false, not, ◌&&◌}
 use mathlib.Core.List.{List, ◌++◌}
 use Rattle.lists.specs.Lists.{pick}
 use Rattle.lists.proofs.Tests.{or_left}
-use Rattle.identity.specs.declared.MceId.{MceId}
 use Rattle.identity.specs.declared.Item.{Item}
 use Rattle.editions.specs.declared.Edition.{Edition}
 use Rattle.table.specs.declared.Association.{Association}
 use Rattle.table.specs.Table.{State, named, without, starting, stopping}
 use Rattle.table.proofs.Rules.{changing_places}
-use Rattle.lent.specs.Lent.{Good}
 use Rattle.units.specs.Unit.{Unit, is_unit, read_unit, unit_octets, with_held, GoodUnit}
 use Rattle.units.proofs.OneForm.{one_unit}
 use Rattle.requests.specs.declared.Request.{Request}

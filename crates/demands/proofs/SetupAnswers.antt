@@ -1,7 +1,7 @@
 -- A message that is accepted answers a setup request exactly if its request does; so 14 comes of no other, and what asks for something else is decided as it is judged.
 -- Assumes nothing.
 use Prim.Native.Nat.{ℕ}
-use mathlib.Core.Path.{◌≡◌, refl, ap, sym, subst, ◌∙◌}
+use mathlib.Core.Path.{◌≡◌, refl, ap, sym, ◌∙◌}
 use mathlib.Core.Bool.{Bool, true, false, not, ◌&&◌}
 use mathlib.Core.List.{List}
 use native.Mathlib.Omega.{arith}
@@ -30,8 +30,8 @@ use Rattle.requests.specs.declared.Wanted.TheVariants as wanted
 use Rattle.requests.specs.Requests.{ask_of, asks, answers_setup, start_of, stop_of, reset_of, request_of, seen}
 use Rattle.replies.specs.Replies.{silent}
 use Rattle.carry.specs.declared.Answer.TheVariants as answer
-use Rattle.calls.specs.Judged.{Accepted, accepts, judged, verdict, setup_answer, framed_answer, is_answer}
-use Rattle.calls.specs.Decided.{Decided, keeps, decided}
+use Rattle.calls.specs.Judged.{judged, verdict, setup_answer, framed_answer, is_answer}
+use Rattle.calls.specs.Decided.{keeps, decided}
 use Rattle.calls.specs.Call.{Call, decided_on}
 use Rattle.demands.specs.Words.{Asks}
 use Rattle.round_trips.proofs.Accepted.{opened}

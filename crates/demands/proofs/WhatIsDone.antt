@@ -1,11 +1,10 @@
 -- What a call that is answered 0 leaves in the unit is what was decided, request by request.
 -- Assumes nothing.
 use Prim.Native.Nat.{ℕ}
-use mathlib.Core.Path.{◌≡◌, refl, ap, sym, subst, ◌∙◌}
-use mathlib.Core.Bool.{Bool, true, false, not}
+use mathlib.Core.Path.{◌≡◌, refl, ap, sym, ◌∙◌}
+use mathlib.Core.Bool.{Bool, true, false}
 use mathlib.Core.List.{List, [], ◌∷◌, ◌++◌}
 use native.Mathlib.Omega.{arith}
-use Rattle.lists.specs.Lists.{keep}
 use Rattle.identity.specs.declared.MmeId.{MmeId}
 use Rattle.identity.specs.declared.MceId.{MceId}
 use Rattle.identity.specs.declared.Tmgi.{Tmgi}
@@ -24,11 +23,11 @@ use Rattle.carry.specs.declared.Answer.{Answer}
 use Rattle.carry.specs.declared.Answer.TheVariants as answer
 use Rattle.answers.specs.Answers.{numbered, wait_of}
 use Rattle.calls.specs.Judged.{judged}
-use Rattle.calls.specs.Decided.{Decided, keeps, changes, fails, decided}
-use Rattle.calls.specs.Call.{Call, Back, call, settled, settled_if, fits, answer_of, unit_after, decided_on}
+use Rattle.calls.specs.Decided.{keeps, changes, fails, decided}
+use Rattle.calls.specs.Call.{Call, call, settled, settled_if, fits, answer_of, unit_after, decided_on}
 use Rattle.demands.specs.Answered.{number_of}
 use Rattle.demands.specs.Words.{Asks, PartialReset}
-use Rattle.demands.specs.WhatIsDone.{Leaves, WhatIsDone}
+use Rattle.demands.specs.WhatIsDone.{WhatIsDone}
 use Rattle.demands.proofs.UnitOut.{call_on}
 use Rattle.demands.proofs.SetupAnswers.{of_setup, as_judged, open_judged, none_open}
 use Rattle.demands.proofs.Waits.{call_waits}

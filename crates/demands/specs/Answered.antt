@@ -1,5 +1,5 @@
 -- Demand 1: any octets, any unit, any room, any offer get exactly one answer of 01's list, and what is lent is left as 01 says.
-use Rattle.std.specs.Prelude.{ℕ, ◌≤◌, ◌<◌, ◌≡◌, Bool, true, false, ◌||◌, List, [], ◌∷◌, ◌++◌, eqb, length, drop, get_or}
+use Rattle.std.specs.Prelude.{ℕ, ◌≤◌, ◌<◌, ◌≡◌, Bool, true, List, [], ◌∷◌, ◌++◌, eqb, length, drop}
 use Rattle.lists.specs.Lists.{some}
 use Rattle.octets.specs.Stands.{Octets}
 use Rattle.octets.specs.Field.{value_at}

@@ -10,7 +10,7 @@ use lib.Dec.{ltb, eqb}
 use lib.ListN.{length, take, get_or, length-take}
 use Rattle.lists.specs.Lists.{pick}
 use Rattle.lists.proofs.Tests.{on-pick}
-use Rattle.octets.specs.Read.{Read, got, stop, cut_short, no_meaning, left_over, extended, ◌>>=◌, ◌>>◌}
+use Rattle.octets.specs.Read.{Read, got, stop, cut_short, no_meaning, left_over, extended, ◌>>=◌}
 use Rattle.octets.specs.declared.Stop.TheVariants.{Fault, Extension}
 use Rattle.octets.specs.Field.{bits_at, there, flag_at, plain_at, choice_at, pad_at, number_at, string_at, same_at, below_at, long_at, long_length_at, length_at, open_at, ends_at}
 use Rattle.octets.specs.Many.{Part, many}

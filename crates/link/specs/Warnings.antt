@@ -1,7 +1,6 @@
 -- What a process in C may rely on of warnings over SBc-AP, in the ordinary profile and in the lab's: the statements of M3AP's reader and writer, over other tables.
 use Rattle.std.specs.Prelude.{ℕ, ◌≡◌, not, ◌||◌, List, [], map, eqb}
 use Rattle.lists.specs.Lists.{keep}
-use Rattle.entries.specs.declared.Entry.{Entry}
 use Rattle.rows.specs.declared.Row.{Row}
 use Rattle.rows.specs.Table.{known}
 use Rattle.envelopes.specs.declared.Head.{Head}

@@ -1,5 +1,7 @@
 // The reader, the writer, the table call, the setup call and the shown name for a link process in C, which hands over octets and numbers; and the reader and
 // the writer of warnings over SBc-AP. include/m3ap.h and include/sbcap.h are the headers.
+#![tactic(auto)]
+
 ghost use Rattle.std.specs.Prelude.{◌≡◌, ◌≤◌};
 ghost use Rattle.lists.specs.Lists.{pick};
 ghost use Rattle.calls.specs.Call.{call};

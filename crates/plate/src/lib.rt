@@ -1,1 +1,3 @@
+#![tactic(auto)]
+
 // The name on the plate: what is promised of it. No code.

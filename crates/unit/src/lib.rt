@@ -1,4 +1,6 @@
 // The table call: a unit, a message, an offered identity and room for a reply in; one numbered answer out.
+#![tactic(auto)]
+
 ghost use Rattle.std.specs.Prelude.{◌≡◌, map, not, ◌&&◌, leb, length, take};
 ghost use Rattle.lent.specs.Lent.{first_rows};
 ghost use Rattle.reset.specs.Slots.{names_none};

@@ -1,7 +1,6 @@
 -- `evening::held` meets its contract. There are two octets, or not. Assumes nothing.
 use mathlib.Core.Path.{◌∙◌}
 use Rattle.evening.proofs.Playing.{held_short, held_is}
-use borrow.Author.Rules.{rules}
 use Rattle.evening.proofs.held.Goals as goal
 
 pub returns-then-unit-lt2 : goal.returns-then-unit-lt2

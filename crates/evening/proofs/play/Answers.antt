@@ -1,10 +1,7 @@
 -- `evening::play` meets its contract. The loop's invariant: what is passed, with the play of the rest behind it, is the play whole. Assumes nothing.
 use Rattle.lent.proofs.Reading.{tail_part}
-use Prim.Native.Nat.{◌-◌}
 use native.Mathlib.Omega.{arith}
-use borrow.Author.Rules.{rules}
-use Rattle.evening.specs.Capture.{played_in}
-use Rattle.evening.proofs.Playing.{Going, going_none, going_length, going_full, going_stop, going_on, going_more, size_none, size_some}
+use Rattle.evening.proofs.Playing.{going_none, going_length, going_full, going_stop, going_on, going_more, size_none, size_some}
 use Rattle.evening.proofs.play.Goals as goal
 
 pub loop-i-init : goal.loop-i-init

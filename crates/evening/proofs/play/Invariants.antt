@@ -1,9 +1,6 @@
-use Rattle.lent.proofs.Reading.{tail_part}
 use Prim.Native.Nat.{◌-◌}
-use native.Mathlib.Omega.{arith}
-use borrow.Author.Rules.{rules}
 use Rattle.evening.specs.Capture.{played_in}
-use Rattle.evening.proofs.Playing.{Going, going_none, going_length, going_full, going_stop, going_on, going_more, size_none, size_some}
+use Rattle.evening.proofs.Playing.{Going}
 use Rattle.evening.proofs.play.Given as goal
 
 abbrev pub invariant-loop-i : goal.invariant-loop-i

@@ -1,7 +1,6 @@
 -- `evening::size` meets its contract. The first four octets are missing, or the message is, or the entry is whole. Assumes nothing.
 use mathlib.Core.Path.{◌∙◌}
 use Rattle.evening.proofs.Playing.{size_short, size_over, size_is}
-use borrow.Author.Rules.{rules}
 use Rattle.evening.proofs.size.Goals as goal
 
 pub returns-then-s-lt4 : goal.returns-then-s-lt4

@@ -1,7 +1,6 @@
 -- `evening::take_turn` meets its contract. The entry is whole, so what the call is handed is the entry's; the call says the rest. Assumes nothing.
 use native.Mathlib.Omega.{arith}
 use Rattle.evening.proofs.Playing.{within, four, turned}
-use borrow.Author.Rules.{rules}
 use Rattle.evening.proofs.take_turn.Goals as goal
 
 pub two-offered-requires : goal.two-offered-requires

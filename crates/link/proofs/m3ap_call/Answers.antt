@@ -1,7 +1,6 @@
 -- `link::m3ap_call` meets its contract. The call's answer as numbers, which are small. Assumes nothing.
 use Rattle.editions.specs.declared.Edition.TheVariants.{Release18}
 use Rattle.link.proofs.Sizes.{place_fits, octets_fit, handed}
-use borrow.Author.Rules.{rules}
 use Rattle.link.proofs.m3ap_call.Goals as goal
 
 pub overflow_cast-result : goal.overflow_cast-result

@@ -1,8 +1,6 @@
 -- `link::m3ap_setup` meets its contract. The setup's answer as numbers, which are small. Assumes nothing.
 use mathlib.Core.Path.{◌≡◌, ap, ◌∙◌}
-use Prim.Native.Nat.{ℕ}
 use native.Mathlib.Omega.{arith}
-use borrow.Author.Rules.{rules}
 use Rattle.editions.specs.declared.Edition.TheVariants.{Release18}
 use Rattle.setup.specs.Setup.{setup_number, setup}
 use Rattle.link.proofs.SetsUpAs.{request_small}

@@ -4,7 +4,6 @@ use mathlib.Core.Path.{◌≡◌, ap, ◌∙◌}
 use mathlib.Core.List.{List}
 use Prim.Native.Nat.{ℕ, ◌-◌, ◌≤◌}
 use native.Mathlib.Omega.{arith}
-use borrow.Author.Rules.{rules}
 use Rattle.editions.specs.declared.Edition.TheVariants.{Release18}
 use Rattle.shown.specs.declared.Part.{Part}
 use Rattle.shown.specs.Shown.{shown_part}

@@ -2,7 +2,6 @@
 use mathlib.Core.Path.{ap, ◌∙◌}
 use Rattle.reader.specs.declared.Reading.TheVariants as reading
 use Rattle.link.proofs.Reading.{put_read, refusal_small}
-use borrow.Author.Rules.{rules}
 use Rattle.link.proofs.read_in.Goals as goal
 
 pub refused-requires : goal.refused-requires

@@ -1,5 +1,4 @@
 -- `link::refused` meets its contract. By the case; the place is small. Assumes nothing.
-use borrow.Author.Rules.{rules}
 use Rattle.link.proofs.refused.Goals as goal
 
 pub plain-requires-in-Fault : goal.plain-requires-in-Fault

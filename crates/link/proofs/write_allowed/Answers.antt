@@ -1,7 +1,6 @@
 -- `link::write_allowed` meets its contract. By what the writer answered, whose number of octets is small. Assumes nothing.
 use mathlib.Core.Path.{refl}
 use Rattle.link.proofs.Reading.{octets_small, put_written}
-use borrow.Author.Rules.{rules}
 use Rattle.link.proofs.write_allowed.Goals as goal
 
 pub overflow_cast-result : goal.overflow_cast-result

@@ -1,6 +1,5 @@
 -- `link::write_in` meets its contract: 12 for a name that is refused, else what becomes of the record. Assumes nothing.
 use mathlib.Core.Path.{refl, sym, ◌∙◌}
-use borrow.Author.Rules.{rules}
 use Rattle.link.specs.Link.{write_for}
 use Rattle.link.proofs.write_in.Goals as goal
 

@@ -6,7 +6,6 @@ use Rattle.verdicts.specs.declared.Refusal.TheVariants as refusal
 use Rattle.judging.proofs.Steps.{verdict_stops}
 use Rattle.unit.proofs.Reading.{numbers_fit, noted_count, decided_by}
 use Rattle.unit.proofs.Laws.{none_listed, on_same, bare_called}
-use borrow.Author.Rules.{rules}
 use Rattle.unit.proofs.asked.Goals as goal
 
 pub carried_out-requires : goal.carried_out-requires

@@ -4,7 +4,6 @@ use Rattle.identity.specs.Items.{empty_item}
 use Rattle.units.specs.Unit.{MaybeUnit}
 use Rattle.unit.specs.Unit.{bare_on}
 use Rattle.unit.proofs.Laws.{found, has_no_unit}
-use borrow.Author.Rules.{rules}
 use Rattle.unit.proofs.bare.Goals as goal
 
 pub returns-in-NoTable : goal.returns-in-NoTable

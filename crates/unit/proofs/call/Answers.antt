@@ -1,10 +1,7 @@
 -- `unit::call` meets its contract. By the steps of reading: a refusal has its answer, and what asks for something is carried out. Assumes nothing.
 use mathlib.Core.Path.{refl, sym, ap, ◌∙◌}
 use mathlib.Core.Bool.{Bool, not, ◌&&◌}
-use borrow.Author.Rules.{rules}
 use Rattle.calls.specs.Call.{Call}
-use Rattle.octets.proofs.Chain.{told}
-use Rattle.frames.specs.Frame.{found_frame}
 use Rattle.units.specs.Unit.{open_in}
 use Rattle.verdicts.specs.declared.Refusal.TheVariants as refusal
 use Rattle.requests.specs.Requests.{asks}

@@ -1,6 +1,5 @@
 -- `unit::carried_out` meets its contract. No unit; or what is decided on what it holds is settled. Assumes nothing.
 use mathlib.Core.Path.{sym, ◌∙◌}
-use borrow.Author.Rules.{rules}
 use Rattle.places.specs.Places.{spans_in}
 use Rattle.rows.specs.Table.{rows_in}
 use Rattle.meaning.specs.Reading.{values_in}

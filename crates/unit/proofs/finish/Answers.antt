@@ -3,7 +3,6 @@ use mathlib.Core.Path.{refl}
 use mathlib.Core.List.{[]}
 use Rattle.table.specs.Table.{without}
 use Rattle.unit.proofs.Laws.{put_out, put_start, put_stop, reset_rows, not_touched, put_set_up, put_closed}
-use borrow.Author.Rules.{rules}
 use Rattle.unit.proofs.finish.Goals as goal
 
 pub returns-then-names_none : goal.returns-then-names_none

@@ -1,7 +1,6 @@
 -- By the message, and by the mark. Assumes nothing.
 use mathlib.Core.Path.{ap, sym, ◌∙◌}
-use mathlib.Core.Bool.{Bool, not}
-use borrow.Author.Rules.{rules}
+use mathlib.Core.Bool.{not}
 use Rattle.unit.proofs.is_unasked.Goals as goal
 
 pub returns-then-answers_setup : goal.returns-then-answers_setup

@@ -8,7 +8,6 @@ use Rattle.unit.specs.Unit.{unit_in}
 use Rattle.replies.specs.Replies.{Replied, replied}
 use Rattle.calls.specs.Decided.{Decided, changed}
 use Rattle.unit.proofs.Laws.{sent_put, no_room_lem, done}
-use borrow.Author.Rules.{rules}
 use Rattle.unit.proofs.settle.Goals as goal
 
 pub returns-in-Done : goal.returns-in-Done

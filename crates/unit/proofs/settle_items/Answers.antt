@@ -15,7 +15,6 @@ use Rattle.layout.specs.Record.{lists_of}
 use Rattle.calls.specs.Decided.{Decided, applied}
 use Rattle.unit.proofs.Items.{items_fit, Kept, kept_from}
 use Rattle.unit.proofs.Laws.{applied_kept, applied_any, settled_as}
-use borrow.Author.Rules.{rules}
 use Rattle.unit.proofs.settle_items.Goals as goal
 
 pub slice_bounds-words-end : goal.slice_bounds-words-end

@@ -8,7 +8,6 @@ use Rattle.rows.specs.Table.{rows_in}
 use Rattle.verdicts.specs.Verdict.{opened_at}
 use Rattle.judging.specs.Judging.{noted_of}
 use Rattle.unit.proofs.Noted.{none_noted, noted_within, noted_back}
-use borrow.Author.Rules.{rules}
 use Rattle.unit.proofs.settle_noted.Goals as goal
 
 pub settle_items-requires : goal.settle_items-requires
