@@ -148,8 +148,7 @@ fn judged(g: Numbers, n: usize, tmgi: TmgiOctets) -> Counted
 }
 
 // How many associations of the run have the TMGI; answer 21 where the run is no table.
-#[unsafe(no_mangle)]
-pub extern "C" fn m3ap_count(run: &[Record], tmgi: TmgiOctets) -> Counted
+pub fn m3ap_count(run: &[Record], tmgi: TmgiOctets) -> Counted
     ensures { result ≡ counted_run (tmgi_of tmgi) run.now }
 {
     let n = looked_at(run.len());

@@ -39,13 +39,7 @@ pub struct Part {
 }
 
 // What one message does.
-#[unsafe(no_mangle)]
-pub extern "C" fn m3ap_call(
-    unit: &mut [u8],
-    message: &[u8],
-    offered: u16,
-    room: &mut [u8],
-) -> Answer
+pub fn m3ap_call(unit: &mut [u8], message: &[u8], offered: u16, room: &mut [u8]) -> Answer
     ensures { CallHanded (call Release18 unit.old (record { message = message.entry.now; offered = record { 0 = offered }; room = room.old })) result unit.new room.new }
 {
     let b = unit::call(Edition::Release18, unit, message, MceId(offered), room);
@@ -146,23 +140,20 @@ fn write_in(e: Edition, said: &[u8], values: &[u8], room: &mut [u8]) -> Answer
     write_allowed(e, said, values, room)
 }
 
-#[unsafe(no_mangle)]
-pub extern "C" fn m3ap_read(message: &[u8], room: &mut [u8]) -> Answer
+pub fn m3ap_read(message: &[u8], room: &mut [u8]) -> Answer
     ensures { Put (read_for Release18 message.now room.old) result room.new }
 {
     read_in(Edition::Release18, message, room)
 }
 
-#[unsafe(no_mangle)]
-pub extern "C" fn m3ap_write(said: &[u8], values: &[u8], room: &mut [u8]) -> Answer
+pub fn m3ap_write(said: &[u8], values: &[u8], room: &mut [u8]) -> Answer
     ensures { Put (write_for Release18 said.now values.now room.old) result room.new }
 {
     write_in(Edition::Release18, said, values, room)
 }
 
 // Writes the request that the record says, and marks it open.
-#[unsafe(no_mangle)]
-pub extern "C" fn m3ap_setup(unit: &mut [u8], said: &[u8], values: &[u8], room: &mut [u8]) -> Answer
+pub fn m3ap_setup(unit: &mut [u8], said: &[u8], values: &[u8], room: &mut [u8]) -> Answer
     ensures { SetupHanded (setup Release18 unit.old (record { said = said.entry.now; values = values.now; room = room.old })) result unit.new room.new }
 {
     let b = setup::set_up(Edition::Release18, unit, said, values, room);
@@ -184,8 +175,7 @@ fn flag(b: bool) -> u32
 }
 
 // Which part of the request is its name, or else which part of the label is shown.
-#[unsafe(no_mangle)]
-pub extern "C" fn m3ap_shown(request: &[u8], label: &[u8]) -> Part
+pub fn m3ap_shown(request: &[u8], label: &[u8]) -> Part
     ensures { result ≡ part_for (shown_part Release18 request.now label.now) }
 {
     let p = shown::part_of(Edition::Release18, request, label);
@@ -200,29 +190,25 @@ pub extern "C" fn m3ap_shown(request: &[u8], label: &[u8]) -> Part
 
 // ---- warnings over SBc-AP, in the ordinary profile and in the lab's
 
-#[unsafe(no_mangle)]
-pub extern "C" fn sbcap_read(message: &[u8], room: &mut [u8]) -> Answer
+pub fn sbcap_read(message: &[u8], room: &mut [u8]) -> Answer
     ensures { Put (read_for Warnings message.now room.old) result room.new }
 {
     read_in(Edition::Warnings, message, room)
 }
 
-#[unsafe(no_mangle)]
-pub extern "C" fn sbcap_read_lab(message: &[u8], room: &mut [u8]) -> Answer
+pub fn sbcap_read_lab(message: &[u8], room: &mut [u8]) -> Answer
     ensures { Put (read_for WarningsLab message.now room.old) result room.new }
 {
     read_in(Edition::WarningsLab, message, room)
 }
 
-#[unsafe(no_mangle)]
-pub extern "C" fn sbcap_write(said: &[u8], values: &[u8], room: &mut [u8]) -> Answer
+pub fn sbcap_write(said: &[u8], values: &[u8], room: &mut [u8]) -> Answer
     ensures { Put (write_for Warnings said.now values.now room.old) result room.new }
 {
     write_in(Edition::Warnings, said, values, room)
 }
 
-#[unsafe(no_mangle)]
-pub extern "C" fn sbcap_write_lab(said: &[u8], values: &[u8], room: &mut [u8]) -> Answer
+pub fn sbcap_write_lab(said: &[u8], values: &[u8], room: &mut [u8]) -> Answer
     ensures { Put (write_for WarningsLab said.now values.now room.old) result room.new }
 {
     write_in(Edition::WarningsLab, said, values, room)

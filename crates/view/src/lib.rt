@@ -143,8 +143,7 @@ fn row_at(unit: &[u8], n: usize, k: usize) -> Association
 }
 
 // Row k of what a unit holds, and how many it holds; 21 where octets are no unit.
-#[unsafe(no_mangle)]
-pub extern "C" fn m3ap_row(unit: &[u8], k: u32) -> Row
+pub fn m3ap_row(unit: &[u8], k: u32) -> Row
     ensures { result ≡ row_for (read_unit unit.now) k }
 {
     match units::look_up(unit, NOBODY) {
@@ -162,8 +161,7 @@ pub extern "C" fn m3ap_row(unit: &[u8], k: u32) -> Row
 }
 
 // How many of what a unit holds have the TMGI; 21 where octets are no unit.
-#[unsafe(no_mangle)]
-pub extern "C" fn m3ap_count_in(unit: &[u8], tmgi: TmgiOctets) -> Counted
+pub fn m3ap_count_in(unit: &[u8], tmgi: TmgiOctets) -> Counted
     ensures { result ≡ count_for (read_unit unit.now) (tmgi_of tmgi) }
 {
     match units::look_up(unit, NOBODY) {
@@ -201,8 +199,7 @@ fn marks_with(answer: u32, held: u32, is: u32, edition: u32, rooms: u32) -> Mark
 }
 
 // What a unit remembers beside its rows; 21 where octets are no unit.
-#[unsafe(no_mangle)]
-pub extern "C" fn m3ap_marks(unit: &[u8]) -> Marks
+pub fn m3ap_marks(unit: &[u8]) -> Marks
     ensures { result ≡ marks_for (read_unit unit.now) }
 {
     match units::look_up(unit, NOBODY) {
@@ -212,8 +209,7 @@ pub extern "C" fn m3ap_marks(unit: &[u8]) -> Marks
 }
 
 // The version of the calls.
-#[unsafe(no_mangle)]
-pub extern "C" fn m3ap_version() -> u32
+pub fn m3ap_version() -> u32
     ensures { result ≡ 3 }
 {
     3
