@@ -40,7 +40,7 @@ pub struct Part {
 
 // What one message does.
 pub fn m3ap_call(unit: &mut [u8], message: &[u8], offered: u16, room: &mut [u8]) -> Answer
-    ensures { CallHanded (call Release18 unit.old (record { message = message.entry.now; offered = record { 0 = offered }; room = room.old })) result unit.new room.new }
+    ensures { CallHanded (call Release18 unit.old (record { message = message.now; offered = record { 0 = offered }; room = room.old })) result unit.new room.new }
 {
     let b = unit::call(Edition::Release18, unit, message, MceId(offered), room);
     let a = b.answer;
@@ -154,7 +154,7 @@ pub fn m3ap_write(said: &[u8], values: &[u8], room: &mut [u8]) -> Answer
 
 // Writes the request that the record says, and marks it open.
 pub fn m3ap_setup(unit: &mut [u8], said: &[u8], values: &[u8], room: &mut [u8]) -> Answer
-    ensures { SetupHanded (setup Release18 unit.old (record { said = said.entry.now; values = values.now; room = room.old })) result unit.new room.new }
+    ensures { SetupHanded (setup Release18 unit.old (record { said = said.now; values = values.now; room = room.old })) result unit.new room.new }
 {
     let b = setup::set_up(Edition::Release18, unit, said, values, room);
     let a = b.answer;

@@ -70,7 +70,7 @@ fn is_request(e: Edition, said: &[u8]) -> bool
 
 // Writes the request, and marks it open. Whatever is refused leaves unit and room.
 pub fn set_up(e: Edition, unit: &mut [u8], said: &[u8], values: &[u8], room: &mut [u8]) -> SetupBack
-    ensures { SetupCalled (setup e unit.old (record { said = said.entry.now; values = values.now; room = room.old })) result unit.new room.new }
+    ensures { SetupCalled (setup e unit.old (record { said = said.now; values = values.now; room = room.old })) result unit.new room.new }
 {
     match units::look_up(unit, NOBODY) {
         Looked::NoTable => {

@@ -249,7 +249,7 @@ fn asked(
     offered: MceId,
     room: &mut [u8],
 ) -> Back
-    ensures { Called (settled_on e unit.old (record { message = message.entry.now; offered = offered; room = room.old }) (verdict_of (table_of e m) m f message.entry.now (opened_at (table_of e m) (container_of e m) message.entry.now f.from)) (read_unit unit.old)) result unit.new room.new }
+    ensures { Called (settled_on e unit.old (record { message = message.now; offered = offered; room = room.old }) (verdict_of (table_of e m) m f message.now (opened_at (table_of e m) (container_of e m) message.now f.from)) (read_unit unit.old)) result unit.new room.new }
 {
     let c = editions::has_container(e, m);
     let t = editions::rows_of(e, m);
@@ -279,7 +279,7 @@ fn is_unasked(m: Message, unit: &[u8]) -> bool
 
 // What one message does: over 8,192 octets; the frame; a request, or the answer to one that is open; what is inside, the unit.
 pub fn call(e: Edition, unit: &mut [u8], message: &[u8], offered: MceId, room: &mut [u8]) -> Back
-    ensures { Called (call e unit.old (record { message = message.entry.now; offered = offered; room = room.old })) result unit.new room.new }
+    ensures { Called (call e unit.old (record { message = message.now; offered = offered; room = room.old })) result unit.new room.new }
 {
     if 8192 < message.len() {
         return bare(unit, Answer::TooLong);
