@@ -1,7 +1,6 @@
 -- 01's and 02's number of each answer of the table call, with its place, the octet at fault for 2 and 3, 0 otherwise,
 -- and how many seconds to wait: those of a setup that failed with a Time to Wait, 0 otherwise.
 use Rattle.std.specs.Prelude.{ℕ}
-use Rattle.octets.specs.declared.Stop.{Stop}
 use Rattle.octets.specs.declared.Stop.TheVariants.{Fault, Extension}
 use Rattle.values.specs.Values.{seconds}
 use Rattle.requests.specs.declared.MaybeWait.{MaybeWait}

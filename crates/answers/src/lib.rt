@@ -1,4 +1,6 @@
 // 01's and 02's number of each answer, its place, and how long to wait.
+#![tactic(auto)]
+
 ghost use Rattle.std.specs.Prelude.{◌≡◌};
 ghost use Rattle.answers.specs.Answers.{numbered};
 

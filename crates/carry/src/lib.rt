@@ -1,4 +1,6 @@
 // 01's rules: the judging ends in a refusal with its reply or in a request, and a request is carried out by what is held.
+#![tactic(auto)]
+
 ghost use Rattle.std.specs.Prelude.{◌≡◌};
 ghost use Rattle.carry.specs.Carry.{start_rejected, rejection, ruling, stays, started, stopped, asked, carried_out, asked_by, decision};
 

@@ -1,4 +1,6 @@
 // How many associations of a run that the host lends have a TMGI: over plain numbers, then over the run.
+#![tactic(auto)]
+
 ghost use Rattle.std.specs.Prelude.{◌≡◌, [], ℕ, min, ◌<◌, eqb, length};
 ghost use Rattle.lists.specs.Lists.{keep};
 ghost use Rattle.console.specs.Console.{tmgi_of, counted_run};

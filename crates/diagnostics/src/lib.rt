@@ -1,4 +1,6 @@
 // Criticality Diagnostics: what is listed of elements that were not understood or are missing, and about which message.
+#![tactic(auto)]
+
 ghost use Rattle.std.specs.Prelude.{◌≡◌, ◌+◌, ◌<◌, length};
 ghost use Rattle.diagnostics.specs.Diagnostics.{after, maybe_at, code_at, marks_at, head_at};
 ghost use Rattle.diagnostics.specs.Found.{found_marks, found_number, found_head};

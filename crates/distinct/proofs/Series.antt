@@ -1,13 +1,13 @@
 -- What holds of numbers holds of identities and of words that have them: each law once, over the number that is had.
 use mathlib.Core.Path.{◌≡◌, refl, ap, sym, ◌∙◌}
 use mathlib.Core.Bool.{Bool}
-use mathlib.Core.List.{List, [], ◌∷◌, ◌++◌, map, append-nil}
+use mathlib.Core.List.{List, [], ◌∷◌, map, append-nil}
 use Prim.Native.Nat.{ℕ, zero, suc, ◌-◌, ◌/◌, ◌%◌, ◌≤◌}
 use native.Mathlib.Omega.{arith}
 use lib.Dec.{eqb}
 use lib.ListN.{length, length-map, take, get_or, set, replicate, get_or-map}
 use lib.Seq.{take_all}
-use Rattle.lists.specs.Lists.{apart, fill}
+use Rattle.lists.specs.Lists.{apart}
 use Rattle.lists.proofs.Apart.{apart_map}
 use Rattle.lists.proofs.Copy.{Copied, copied_all}
 use Rattle.identity.specs.declared.MmeId.{MmeId}

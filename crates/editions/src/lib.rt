@@ -1,4 +1,6 @@
 // The messages of an edition, with the number, the frame and the table of elements of each.
+#![tactic(auto)]
+
 ghost use Rattle.std.specs.Prelude.{◌≡◌, ◌&&◌, ◌∷◌, [], ◌<◌, eqb, length, get_or};
 ghost use Rattle.lists.specs.Lists.{fill};
 ghost use Rattle.rows.specs.Table.{no_row};

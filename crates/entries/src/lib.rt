@@ -1,4 +1,6 @@
 // The entries of Criticality Diagnostics: criticality, id and type of error.
+#![tactic(auto)]
+
 ghost use Rattle.std.specs.Prelude.{◌≡◌, ◌≤◌};
 ghost use Rattle.octets.specs.Found.{found_octet};
 ghost use Rattle.entries.specs.Entries.{begins, crit_at, entry_at};

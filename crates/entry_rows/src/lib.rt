@@ -1,4 +1,6 @@
 // The entries of a record for C, 1,026 octets from 1,636 on: how many there are, and 256 rows of 4 (criticality, id, type of error), zeros behind the last.
+#![tactic(auto)]
+
 ghost use Rattle.std.specs.Prelude.{◌≡◌, ◌&&◌, [], map, ◌<◌, ◌≤◌, length, get_or, drop};
 ghost use Rattle.std.proofs.lemmas.List.Edits.{sets};
 ghost use Rattle.octets.specs.Field.{value_at};

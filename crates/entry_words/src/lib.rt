@@ -1,4 +1,6 @@
 // The list of Criticality Diagnostics as words in lent numbers. A word is an entry's id, 65536 times its criticality, and 16777216 times its type of error.
+#![tactic(auto)]
+
 ghost use Rattle.std.specs.Prelude.{◌≡◌, [], ◌∷◌, map};
 ghost use Rattle.octets.specs.Many.{many};
 ghost use Rattle.octets.specs.Found.{found_gate};

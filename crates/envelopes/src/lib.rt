@@ -1,4 +1,6 @@
 // Elements in their envelopes, and the faults in a run of elements.
+#![tactic(auto)]
+
 ghost use Rattle.std.specs.Prelude.{◌≡◌};
 ghost use Rattle.octets.specs.Found.{found_octet};
 ghost use Rattle.rows.specs.Table.{rows_in};

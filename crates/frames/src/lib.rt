@@ -1,4 +1,6 @@
 // The frame around a message, and how a message opens.
+#![tactic(auto)]
+
 ghost use Rattle.std.specs.Prelude.{◌≡◌};
 ghost use Rattle.lists.specs.Lists.{pick};
 ghost use Rattle.octets.specs.Found.{found_flag, found_octet};

@@ -1,4 +1,5 @@
 // What must stay apart: identities, TMGI, Session Identity; and the items of a reset, which name associations by identities.
+#![tactic(auto)]
 
 // The MME's numbers and the MCE's numbers are separate series: a value of one is never a value of the other. Laid out as C does, for the console's records.
 #[repr(C)]

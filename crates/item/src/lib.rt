@@ -1,4 +1,6 @@
 // A reset item, in its envelope.
+#![tactic(auto)]
+
 ghost use Rattle.std.specs.Prelude.{◌≡◌, ◌+◌, ◌^◌, ◌<◌};
 ghost use Rattle.item.specs.Item.{maybe_mme_at, maybe_mce_at, behind, item_marks_at, item_at, item_element_at};
 ghost use Rattle.item.specs.Found.{found_item_marks, found_maybe_mme, found_maybe_mce, found_item, found_element};

@@ -1,5 +1,7 @@
 // The items of a record for C: two octets that say how many, a row of six octets for each, and zeros. They are put from where the items stand in a message,
 // and taken from where they stand in the record, row by row through a word.
+#![tactic(auto)]
+
 ghost use Rattle.std.specs.Prelude.{◌≡◌, ◌&&◌, [], ℕ, ◌+◌, ◌*◌, ◌≤◌, length, get_or, drop};
 ghost use Rattle.std.proofs.Math.Seq.{slice};
 ghost use Rattle.octets.specs.Write.{Wrote};

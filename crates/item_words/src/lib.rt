@@ -1,5 +1,7 @@
 // Reset items as words: a word is the MME identity's number and 1, and 2^32 times the MCE identity's number and 1; 0 stands for one that is not there.
 // So a list of items is a row of words that a caller lends.
+#![tactic(auto)]
+
 ghost use Rattle.std.specs.Prelude.{◌≡◌, true, false, List, [], ◌∷◌, map, ℕ, ◌+◌, ◌-◌, ◌%◌, ◌≤◌, length, take};
 ghost use Rattle.std.proofs.lemmas.List.Edits.{sets};
 ghost use Rattle.packed.specs.Packed.{◌bits◌, packed};

@@ -1,5 +1,7 @@
 // The elements of a message, judged over any table of rows: faults anywhere first, then the judging. What is noted is counted; where it is asked for, the elements are
 // gone over again for it.
+#![tactic(auto)]
+
 ghost use Rattle.std.specs.Prelude.{◌≡◌, [], length, take};
 ghost use Rattle.octets.specs.Read.{stop};
 ghost use Rattle.places.specs.Places.{spans_in};

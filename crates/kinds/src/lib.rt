@@ -1,4 +1,6 @@
 // How the value of an element is read, by what 9.3.4 says that it is.
+#![tactic(auto)]
+
 ghost use Rattle.std.specs.Prelude.{◌≡◌};
 ghost use Rattle.octets.specs.Found.{found_gate};
 ghost use Rattle.rows.specs.declared.Kind.TheVariants.{Wait, Name};

@@ -14,7 +14,6 @@ use Rattle.lists.specs.Lists.{pick, fill}
 use Rattle.octets.specs.Field.{value_at}
 use Rattle.octets.specs.Many.{Each, each_octets}
 use Rattle.octets.specs.Write.{number_octets}
-use Rattle.octets.specs.declared.Span.{Span}
 use Rattle.octets.specs.Stands.{StaysDifferent}
 use Rattle.lent.specs.Lent.{same}
 use Rattle.lent.proofs.Reading.{same_self, same_is}
@@ -30,11 +29,11 @@ use Rattle.editions.specs.declared.Named.{Named}
 use Rattle.editions.specs.declared.Named.TheVariants as named
 use Rattle.editions.specs.Editions.{table_of, number_of, numbered_by}
 use Rattle.editions.proofs.Tables.{lawful_count}
-use Rattle.meaning.specs.Value.{Given, Record}
+use Rattle.meaning.specs.Value.{Record}
 use Rattle.layout.specs.Rows.{mme_row, mce_row, item_row, entry_row, list_octets, row_mme, row_mce, row_item, row_entry, each_row}
 use Rattle.layout.specs.Record.{Lists, lists_of, slot_octets, record_octets, lists_in, slots_say, said_record, is_record, no_record, lent_as, read_record}
-use Rattle.layout.specs.Held.{ItemsFit, EntriesFit, Held}
-use Rattle.layout.proofs.Sizes.{item_size, entry_size, items_size, entries_size, rows_size, record_size}
+use Rattle.layout.specs.Held.{Held}
+use Rattle.layout.proofs.Sizes.{item_size, entry_size, items_size, rows_size, record_size}
 use Rattle.layout.proofs.SlotBack.{two_back, slots_back}
 use Rattle.layout.proofs.Announced.{announced_agree, ListsFit, lists_fit, rows_count}
 

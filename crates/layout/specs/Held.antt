@@ -1,5 +1,5 @@
 -- Scaffolding: no demand speaks of it. What a record for C can hold, so that nothing of it is cut: places and numbers of two octets, lists of at most 256.
-use Rattle.std.specs.Prelude.{ℕ, ◌-◌, ◌<◌, ◌≤◌, ◌≡◌, true, false, List, [], ◌∷◌, length}
+use Rattle.std.specs.Prelude.{◌-◌, ◌<◌, ◌≤◌, ◌≡◌, true, false, List, [], ◌∷◌, length}
 use Rattle.octets.specs.declared.Span.{Span}
 use Rattle.octets.specs.Many.{Each}
 use Rattle.identity.specs.declared.Item.{Item}

@@ -1,6 +1,8 @@
 // The table as 3,074 octets that the link process lends: a count of two octets, the high one first, then 256 rows of 12.
 // A row: MME identity (2), MCE identity (2), PLMN (3), service (3), 1 for a Session Identity or 0, and the Session Identity or 0.
 // Rows past the count are zero, so a table has one form.
+#![tactic(auto)]
+
 ghost use Rattle.std.specs.Prelude.{◌≡◌, ◌&&◌, min, ◌+◌, ◌*◌, ◌≤◌, length, get_or, drop};
 ghost use Rattle.lists.specs.Lists.{pick, some, apart};
 ghost use Rattle.identity.specs.declared.Mme.TheVariants as mme;

@@ -1,1 +1,3 @@
+#![tactic(auto)]
+
 // Laws over lists of anything: no code.

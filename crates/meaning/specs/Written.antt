@@ -17,7 +17,6 @@ use Rattle.diagnostics.specs.Diagnostics.{Diagnostics}
 use Rattle.diagnostics.specs.Written.{diagnostics_octets}
 use Rattle.rows.specs.declared.Row.{Row}
 use Rattle.rows.specs.Table.{meanings}
-use Rattle.editions.specs.declared.Message.{Message}
 use Rattle.editions.specs.declared.Code.{Code}
 use Rattle.editions.specs.declared.Edition.{Edition}
 use Rattle.editions.specs.Editions.{table_of, code_of}

@@ -1,4 +1,6 @@
 // The MCE Name: 1 to 150 characters of PrintableString, read from the begin of its octets to the end of what encloses it, and written.
+#![tactic(auto)]
+
 ghost use Rattle.std.specs.Prelude.{◌≡◌, ◌-◌, ◌<◌, ◌≤◌, eqb, length};
 ghost use Rattle.lists.specs.Lists.{some};
 ghost use Rattle.octets.specs.Found.{found_gate, found_octet};

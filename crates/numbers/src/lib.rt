@@ -1,4 +1,6 @@
 // Plain numbers: the lesser of two, one less, and octets as wider numbers.
+#![tactic(auto)]
+
 ghost use Rattle.std.specs.Prelude.{◌≡◌, min, ◌+◌, ◌*◌, ◌-◌};
 
 pub fn lesser(a: usize, b: usize) -> usize

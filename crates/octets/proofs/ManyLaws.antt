@@ -10,7 +10,7 @@ use Prim.Native.Nat.{ℕ, zero, suc, ◌+◌, ◌-◌, ◌≤◌}
 use native.Mathlib.Omega.{arith}
 use native.Mathlib.Nat.{add-zero}
 use lib.ListN.{length, length-append}
-use Rattle.octets.specs.Read.{Read, got, stop, ◌>>=◌, ◌>>◌}
+use Rattle.octets.specs.Read.{Read, got, stop, ◌>>=◌}
 use Rattle.octets.specs.Many.{Part, many, each_octets, Each}
 use Rattle.octets.specs.Stands.{Stands}
 use Rattle.octets.specs.declared.Stop.{Stop}

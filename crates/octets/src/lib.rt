@@ -1,6 +1,8 @@
 // The fields of aligned PER, read and written. Knows nothing of M3AP.
 // A reader takes the octets of what encloses it, from the front of the message, and a place; so places are absolute.
 // A packed field begins b bits behind the first bit of the octet at a place; b counts within that octet, so 8 is 0 again.
+#![tactic(auto)]
+
 ghost use Rattle.std.specs.Prelude.{◌≡◌, ◌∷◌, [], min, ◌+◌, ◌<◌, ◌%◌, length, replicate};
 ghost use Rattle.std.proofs.Math.Seq.{slice};
 ghost use Rattle.octets.specs.Read.{cut_short, no_meaning, left_over, extended};

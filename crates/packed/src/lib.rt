@@ -1,4 +1,6 @@
 // Packed fields of an octet, taken apart and put together. A field begins b bits behind the octet's first; b counts within it, so 8 is 0 again.
+#![tactic(auto)]
+
 ghost use Rattle.std.specs.Prelude.{◌≡◌, ◌<◌, ◌%◌, ◌^◌};
 ghost use Rattle.std.specs.Int.Bits.{bit_or};
 ghost use Rattle.packed.specs.Packed.{bits_of, placed};

@@ -1,4 +1,6 @@
 // Where the values of a message stand: for each of 12 rows two numbers, in an array that is lent.
+#![tactic(auto)]
+
 ghost use Rattle.std.specs.Prelude.{◌≡◌, get_or};
 ghost use Rattle.octets.specs.Span.{no_span};
 ghost use Rattle.places.specs.Places.{spans_in, with_span};

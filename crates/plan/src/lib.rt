@@ -1,4 +1,6 @@
 // Writing a message, whatever its values come from: sizes are known before the first octet is put, by them the plan, by it the answer and the frame.
+#![tactic(auto)]
+
 ghost use Rattle.std.specs.Prelude.{◌≡◌, ◌≤◌, length};
 ghost use Rattle.octets.specs.Write.{length_octets, Wrote};
 ghost use Rattle.rows.specs.Table.{rows_in};

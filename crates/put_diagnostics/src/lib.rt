@@ -1,4 +1,6 @@
 // Criticality Diagnostics, written. A writer puts octets into lent room from a place on, as far as it goes, and hands back the place behind them.
+#![tactic(auto)]
+
 ghost use Rattle.std.specs.Prelude.{◌≡◌, true, [], ◌∷◌, ◌++◌, map, min, ◌-◌, ◌≤◌, length};
 ghost use Rattle.packed.specs.Packed.{bit, packed};
 ghost use Rattle.octets.specs.Write.{Wrote, number_octets};

@@ -1,4 +1,6 @@
 // A message, written from the octets of a record that are lent, row by row of its table, by the row's kind: nothing is made of them first.
+#![tactic(auto)]
+
 ghost use Rattle.std.specs.Prelude.{◌≡◌, true, ℕ, ◌+◌, ◌*◌, ◌<◌, ◌≤◌, length, drop, get_or};
 ghost use Rattle.lists.specs.Lists.{pick};
 ghost use Rattle.octets.specs.Write.{Wrote};

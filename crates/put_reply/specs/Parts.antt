@@ -1,5 +1,5 @@
 -- Scaffolding: no demand speaks of it. What a reply gives for each row of its message's table, by the row's kind; and what sending it leaves.
-use Rattle.std.specs.Prelude.{ℕ, ◌<◌, ◌≤◌, ◌≡◌, Bool, true, false, List, [], ◌∷◌, ◌++◌, map, leb, ltb, length, drop, get_or}
+use Rattle.std.specs.Prelude.{ℕ, ◌<◌, ◌≤◌, ◌≡◌, true, List, [], ◌++◌, map, leb, ltb, length, drop, get_or}
 use Rattle.lists.specs.Lists.{pick}
 use Rattle.rows.specs.declared.Kind.{Kind}
 use Rattle.rows.specs.declared.Kind.TheVariants as kind

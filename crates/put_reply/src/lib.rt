@@ -1,4 +1,6 @@
 // A reply, put into the front of the lent room: the rows of its message's table, one after another. Its size is known before the first octet is put.
+#![tactic(auto)]
+
 ghost use Rattle.std.specs.Prelude.{◌≡◌, map, true, ℕ, ◌≤◌, ◌<◌, length};
 ghost use Rattle.lists.specs.Lists.{pick};
 ghost use Rattle.rows.specs.declared.Triggers.TheVariants.{Three};

@@ -1,4 +1,6 @@
 // The table put into the octets that the link process lends.
+#![tactic(auto)]
+
 ghost use Rattle.std.specs.Prelude.{◌≡◌, ◌/◌, ◌%◌, length};
 ghost use Rattle.table.specs.Table.{held};
 ghost use Rattle.lent.specs.Lent.{flag_of, session_octet, row_octets};

@@ -1,4 +1,6 @@
 // The values, written. A writer puts its octets into lent room from a place on, as far as it goes, and hands back the place behind them.
+#![tactic(auto)]
+
 ghost use Rattle.std.specs.Prelude.{◌≡◌, ◌<◌};
 ghost use Rattle.octets.specs.Write.{Wrote};
 ghost use Rattle.values.specs.Values.{root_of};

@@ -32,7 +32,7 @@ use Rattle.rows.specs.declared.Kind.{Kind}
 use Rattle.rows.specs.declared.Kind.TheVariants as kind
 use Rattle.rows.specs.declared.Row.{Row}
 use Rattle.rows.specs.Table.{no_row, meanings}
-use Rattle.meaning.specs.Value.{Value, Given, given, absent, carried, mme, mce, tmgi, one, two, cause, wait, name, reset, list, diagnostics}
+use Rattle.meaning.specs.Value.{Value, Given, given, absent, mme, mce, tmgi, one, two, cause, wait, name, reset, list, diagnostics}
 use Rattle.meaning.specs.Ranges.{value_kind}
 use Rattle.meaning.specs.Reading.{or_absent, read_as, value_in, values_in}
 use Rattle.layout.specs.Held.{PlaceFits, ItemsFit, DiagnosticsFit, Fits, RowFits, RowsFit}

@@ -15,7 +15,7 @@ use Rattle.items.specs.Items.{items_at, chosen_reset_at, reset_at}
 use Rattle.entries.specs.declared.Entry.{Entry}
 use Rattle.entries.specs.Entries.{maybe_list_at}
 use Rattle.diagnostics.specs.declared.Head.{Head}
-use Rattle.diagnostics.specs.Diagnostics.{Diagnostics, head_at, diagnostics_at}
+use Rattle.diagnostics.specs.Diagnostics.{head_at, diagnostics_at}
 use Rattle.identity.specs.declared.Item.{Item}
 use Rattle.lists.specs.Lists.{fill}
 use Rattle.meaning.specs.Value.{list}

@@ -17,7 +17,7 @@ use Rattle.octets.specs.Read.{Read, got}
 use Rattle.octets.specs.Write.{number_octets, Wrote}
 use Rattle.octets.specs.declared.Span.{Span}
 use Rattle.octets.specs.Span.{no_span, present}
-use Rattle.octets.proofs.Writing.{wrote_length, wrote_then}
+use Rattle.octets.proofs.Writing.{wrote_then}
 use Rattle.octets.proofs.EachWritten.{wrote_more}
 use Rattle.rows.specs.declared.Kind.{Kind}
 use Rattle.rows.specs.declared.Row.{Row}

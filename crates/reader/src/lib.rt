@@ -1,5 +1,7 @@
 // Octets read as a message, and its record put straight into the room that is lent: row by row, from where each value stands, by the row's kind.
 // A slot is put only behind the judging, which has seen that the value can be read.
+#![tactic(auto)]
+
 ghost use Rattle.std.specs.Prelude.{◌≡◌, ◌∷◌, [], ◌+◌, ◌-◌, ◌≤◌, length, take};
 ghost use Rattle.lists.specs.Lists.{fill};
 ghost use Rattle.octets.specs.Many.{each_octets};

@@ -1,4 +1,6 @@
 // Octets are a record's if they are those of what they say: each slot by its row's kind, zeros behind the last, and lists only where a slot announces them.
+#![tactic(auto)]
+
 ghost use Rattle.std.specs.Prelude.{◌≡◌, false, ◌||◌, ◌+◌, ◌≤◌, length, take, drop, replicate};
 ghost use Rattle.lent.specs.Lent.{same};
 ghost use Rattle.rows.specs.Table.{rows_in};

@@ -1,4 +1,6 @@
 // The replies, by what each says of its own. No code: their octets are put by `put_reply`.
+#![tactic(auto)]
+
 use identity::{Mce, MceId, Mme, MmeId};
 use values::Cause;
 

@@ -12,7 +12,6 @@ use Rattle.editions.specs.declared.Message.{Message}
 use Rattle.editions.specs.declared.Message.TheVariants as message
 use Rattle.requests.specs.declared.MaybeTmgi.{MaybeTmgi}
 use Rattle.requests.specs.declared.MaybeTmgi.TheVariants as tmgi
-use Rattle.requests.specs.declared.MaybeWait.{MaybeWait}
 use Rattle.requests.specs.declared.MaybeWait.TheVariants as wait
 use Rattle.requests.specs.declared.MaybeReset.{MaybeReset}
 use Rattle.requests.specs.declared.MaybeReset.TheVariants as reset

@@ -1,4 +1,6 @@
 // What a message asks for. Of its values only those are read that say so.
+#![tactic(auto)]
+
 ghost use Rattle.std.specs.Prelude.{◌≡◌};
 ghost use Rattle.places.specs.Places.{spans_in};
 ghost use Rattle.rows.specs.Table.{rows_in};

@@ -1,6 +1,6 @@
 -- No item names an association: what the loop over the items finds, and that a reset by them changes nothing.
 use mathlib.Core.Path.{◌≡◌, refl, ap, sym, ◌∙◌}
-use mathlib.Core.Bool.{Bool, true, false, not, ◌||◌, or-false, or-true}
+use mathlib.Core.Bool.{Bool, true, false, or-false, or-true}
 use mathlib.Core.List.{List, [], ◌∷◌, ◌++◌, map}
 use Prim.Native.Nat.{ℕ, ◌+◌, ◌≤◌, ◌<◌}
 use native.Mathlib.Omega.{arith}
@@ -14,7 +14,6 @@ use Rattle.lists.proofs.Some.{some_append}
 use Rattle.identity.specs.declared.Item.{Item}
 use Rattle.item_words.specs.Words.{item_of}
 use Rattle.table.specs.Table.{State, names, named, without}
-use Rattle.table.specs.declared.Association.{Association}
 use Rattle.lent.proofs.ByRows.{none_less}
 use Rattle.reset.specs.Slots.{names_none}
 

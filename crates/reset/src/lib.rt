@@ -1,4 +1,6 @@
 // The partial reset in about linear work: the items are chained by identity, and each association looks in two chains.
+#![tactic(auto)]
+
 ghost use Rattle.std.specs.Prelude.{◌&&◌, ◌≡◌, ◌<◌, map, leb, length, replicate, take};
 ghost use Rattle.lists.specs.Lists.{some};
 ghost use Rattle.lent.specs.Lent.{first_rows};

@@ -18,7 +18,7 @@ use Rattle.lists.specs.Lists.{pick}
 use Rattle.lists.proofs.Slices.{take_within}
 use Rattle.octets.specs.Read.{Read, got, stop, ◌>>=◌, or_none}
 use Rattle.octets.specs.Field.{flag_at, plain_at, pad_at, number_at, ends_at}
-use Rattle.octets.specs.Many.{Part, many}
+use Rattle.octets.specs.Many.{many}
 use Rattle.octets.specs.Span.{no_span, present}
 use Rattle.octets.specs.declared.Span.{Span}
 use Rattle.octets.proofs.Chain.{then_got, same_got}

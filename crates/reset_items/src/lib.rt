@@ -1,4 +1,6 @@
 // The items that a message announces, as words: from where the value of each row of its table stands.
+#![tactic(auto)]
+
 ghost use Rattle.items.specs.Items.{items_at, reset_at};
 ghost use Rattle.std.specs.Prelude.{◌∷◌, []};
 ghost use Rattle.places.specs.Places.{spans_in};

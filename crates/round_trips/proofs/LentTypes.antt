@@ -18,7 +18,6 @@ use Rattle.octets.proofs.Again.{value_below}
 use Rattle.octets.proofs.Stood.{octets_front}
 use Rattle.identity.specs.declared.Mme.{Mme}
 use Rattle.identity.specs.declared.Mce.{Mce}
-use Rattle.items.specs.Items.{ResetType}
 use Rattle.items.specs.Written.{mme_in, mce_in, GoodMaybe, GoodItem}
 use Rattle.entries.specs.declared.Entry.{Entry}
 use Rattle.diagnostics.specs.Written.{Under}

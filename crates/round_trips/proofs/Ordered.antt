@@ -18,7 +18,7 @@ use Rattle.octets.specs.Many.{Each}
 use Rattle.kinds.specs.Kinds.{legible_at}
 use Rattle.rows.specs.declared.Row.{Row}
 use Rattle.envelopes.specs.declared.Head.{Head}
-use Rattle.rows.specs.Table.{find, known, kind_of}
+use Rattle.rows.specs.Table.{find, kind_of}
 use Rattle.envelopes.specs.Envelope.{envelope_at, scan_at, on_head, heads_at}
 use Rattle.elements.specs.Judge.{front, read_into}
 use Rattle.round_trips.specs.Ties.{Regular}

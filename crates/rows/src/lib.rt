@@ -1,4 +1,6 @@
 // What a table of elements is made of: its rows, and how the value of a row's element is read.
+#![tactic(auto)]
+
 ghost use Rattle.std.specs.Prelude.{◌≡◌, ◌≤◌, length};
 ghost use Rattle.rows.specs.Table.{rows_in, kind_of, meanings};
 

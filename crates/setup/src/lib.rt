@@ -1,4 +1,6 @@
 // The setup call: the request that a lent record says, written and marked open.
+#![tactic(auto)]
+
 ghost use Rattle.std.specs.Prelude.{◌≡◌};
 ghost use Rattle.setup.specs.Setup.{setup_number, is_request, setup, SetupCalled};
 

@@ -4,9 +4,9 @@
 --     found_row_at   one row more
 -- Assumes nothing.
 use Prim.Native.Nat.{ℕ, suc, min, ◌+◌, ◌-◌, ◌<◌, ◌≤◌}
-use mathlib.Core.Path.{◌≡◌, ◌∙◌, refl, sym, ap, subst}
+use mathlib.Core.Path.{◌≡◌, ◌∙◌, refl, sym, ap}
 use mathlib.Core.Bool.{Bool, true, false}
-use mathlib.Core.List.{List, [], ◌∷◌}
+use mathlib.Core.List.{List}
 use mathlib.Core.Logic.{◌⊎◌, inl, inr}
 use native.Mathlib.Omega.{arith}
 use native.Mathlib.Numerals.{add-one}
@@ -31,7 +31,7 @@ use Rattle.meaning.specs.Value as value
 use Rattle.meaning.specs.Value.{Value, absent}
 use Rattle.meaning.specs.Reading.{or_absent, read_as, value_in, values_in}
 use Rattle.shown.specs.declared.Found.{Found}
-use Rattle.shown.specs.declared.Found.TheVariants.{Name, Nothing}
+use Rattle.shown.specs.declared.Found.TheVariants.{Nothing}
 use Rattle.shown.specs.Shown.{found_by, found_with, found_among, or_else}
 
 -- ---- one value

@@ -1,4 +1,6 @@
 // What is shown of an M3 SETUP REQUEST: the characters of its name, a part of the request's octets; where it has none, the front of a label that is lent beside it.
+#![tactic(auto)]
+
 ghost use Rattle.std.specs.Prelude.{◌≡◌};
 ghost use Rattle.places.specs.Places.{spans_in};
 ghost use Rattle.rows.specs.Table.{rows_in};

@@ -1,4 +1,6 @@
 // The table by value: what a start, a stop and a reset change. What is held is looked up in the lent octets (crate lent).
+#![tactic(auto)]
+
 ghost use Rattle.std.specs.Prelude.{◌≡◌, [], eqb};
 ghost use Rattle.table.specs.Table.{empty_association, held, table_holding, has_pair, names, starting, stopping, holding};
 

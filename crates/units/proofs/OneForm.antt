@@ -7,13 +7,12 @@ use native.Mathlib.Omega.{arith}
 use lib.ListN.{length, take, drop, replicate, length-append}
 use lib.Seq.{set_at}
 use Rattle.octets.specs.Stands.{StaysDifferent}
-use Rattle.table.specs.Table.{State}
-use Rattle.lent.specs.Lent.{table_octets, rows_octets, said, Held, read_table, first_rows}
+use Rattle.lent.specs.Lent.{table_octets, rows_octets, said, Held, read_table}
 use Rattle.lent.proofs.OneForm.{one_form}
 use Rattle.lent.proofs.Reading.{is_table_lem, held_table, length_table}
 use Rattle.octets.specs.Write.{number_octets}
 use Rattle.units.specs.Unit.{Unit, fresh, with_open, open_octet, open_out, mark_octets, open_in, unit_octets, said_unit, is_unit, no_unit, read_unit, GoodUnit}
-use Rattle.units.proofs.Parts.{Formed, front_part, mark_part_said, unit_size, is_unit_lem, read_unit_lem, table_in_lem, marks_are}
+use Rattle.units.proofs.Parts.{front_part, mark_part_said, unit_size, is_unit_lem, read_unit_lem, table_in_lem, marks_are}
 
 pub record OneUnit : Type 0 where
   pub size : (u : Unit) → GoodUnit u → length (unit_octets u) ≡ 3088

@@ -15,7 +15,7 @@ use Rattle.lists.proofs.Slices.{take_within}
 use Rattle.table.specs.Table.{State, distinct_held}
 use Rattle.lent.specs.Lent.{table_octets, said, same, Held, NoTable, Lent, read_table}
 use Rattle.lent.specs.Tests.{zeros}
-use Rattle.lent.proofs.Zeros.{zeros_are, are_zeros}
+use Rattle.lent.proofs.Zeros.{zeros_are}
 use Rattle.lent.proofs.Reading as table
 use Rattle.lent.proofs.Reading.{same_self, same_is, length_table, held_table, is_table_lem}
 use Rattle.units.specs.Unit.{Unit, unit_octets, open_octet, mark_octets, open_in, said_unit, good_unit, MaybeUnit, is_unit, no_unit, read_unit, on_front}

@@ -1,4 +1,6 @@
 // The unit as 3,088 octets that the host lends: the table in front, the marks behind it. The mark of an open setup request is the one that may be set.
+#![tactic(auto)]
+
 ghost use Rattle.std.specs.Prelude.{◌≡◌, take};
 ghost use Rattle.table.specs.Table.{held, table_holding};
 ghost use Rattle.lent.specs.Lent.{first_rows};

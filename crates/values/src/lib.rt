@@ -1,5 +1,7 @@
 // The values that are read in full, each from the begin of its octets to the end of what encloses it:
 // identities, TMGI, numbers of one octet and of two, Cause, Time to Wait.
+#![tactic(auto)]
+
 ghost use Rattle.std.specs.Prelude.{◌≡◌};
 ghost use Rattle.values.specs.Found.{found_mme, found_mce, found_one_octet, found_two_octets, found_tmgi, found_cause, found_wait};
 ghost use Rattle.values.specs.Values.{mme_at, mce_at, one_at, two_at, tmgi_at, root_of, bits_of_root, cause_at, wait_at, seconds};

@@ -1,4 +1,6 @@
 // What becomes of octets that are read as a message: refused, or understood with an outcome. No code.
+#![tactic(auto)]
+
 use octets::Stop;
 
 // Answers 1 to 4: nothing is read.

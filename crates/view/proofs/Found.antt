@@ -8,7 +8,7 @@ use native.Mathlib.Omega.{arith}
 use lib.ListN.{length, take, drop}
 use Rattle.identity.specs.declared.Item.{Item}
 use Rattle.table.specs.declared.Standing.{Standing}
-use Rattle.table.specs.Table.{State, standing}
+use Rattle.table.specs.Table.{State}
 use Rattle.octets.specs.Field.{value_at}
 use Rattle.lent.specs.declared.Looked.{Looked}
 use Rattle.lent.specs.declared.Looked.TheVariants as looked

@@ -1,6 +1,6 @@
 -- What is shown of a unit is what it holds: `Shows`.
 -- Assumes nothing.
-use Prim.Native.Nat.{ℕ, ◌≤◌, ◌<◌}
+use Prim.Native.Nat.{ℕ}
 use mathlib.Core.Path.{◌≡◌, refl, ap, sym, ◌∙◌}
 use mathlib.Core.Bool.{false}
 use mathlib.Core.List.{List, [], ◌∷◌, map}
@@ -13,13 +13,11 @@ use Rattle.identity.specs.declared.Session.TheVariants as session
 use Rattle.table.specs.declared.Association.{Association}
 use Rattle.lists.specs.Lists.{some}
 use Rattle.table.specs.Table.{State, empty_association}
-use Rattle.lent.specs.Lent.{session_octet}
 use Rattle.units.specs.Unit.{Unit, is_unit, read_unit}
 use Rattle.units.proofs.OneForm.{one_unit}
-use Rattle.console.specs.declared.Record.{Record}
 use Rattle.console.specs.Console.{stands_for, is_table, counted, elsewhere, counted_run}
 use Rattle.view.specs.declared.Row.{Row}
-use Rattle.view.specs.View.{has_session, record_of, row_for, count_for}
+use Rattle.view.specs.View.{record_of, row_for, count_for}
 use Rattle.view.specs.Shows.{Shows}
 
 -- a record stands for what it was made of

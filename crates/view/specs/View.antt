@@ -7,7 +7,7 @@ use Rattle.identity.specs.declared.Session.TheVariants as session
 use Rattle.table.specs.declared.Association.{Association}
 use Rattle.table.specs.Table.{empty_association}
 use Rattle.lent.specs.Lent.{session_octet}
-use Rattle.units.specs.Unit.{Unit, MaybeUnit, is_unit, no_unit, open_octet}
+use Rattle.units.specs.Unit.{MaybeUnit, is_unit, no_unit, open_octet}
 use Rattle.console.specs.declared.TmgiOctets.{TmgiOctets}
 use Rattle.console.specs.declared.Record.{Record}
 use Rattle.console.specs.declared.Counted.{Counted}

@@ -1,4 +1,6 @@
 // What a lent unit holds, for those who look: its rows one by one, how many of them have a TMGI, and its marks. Nothing is changed.
+#![tactic(auto)]
+
 ghost use Rattle.std.specs.Prelude.{◌≡◌, ◌+◌, ◌*◌, ◌≤◌, ◌<◌, length, get_or, drop, take};
 ghost use Rattle.lists.specs.Lists.{keep};
 ghost use Rattle.table.specs.Table.{empty_association};

@@ -1,5 +1,4 @@
 -- `carry::asked` meets its contract, by the case. Assumes nothing.
-use borrow.Author.Rules.{rules}
 use Rattle.carry.proofs.asked.Goals as goal
 
 pub returns-in-Granted : goal.returns-in-Granted

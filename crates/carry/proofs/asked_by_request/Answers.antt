@@ -1,5 +1,4 @@
 -- `carry::asked_by_request` meets its contract, by the case. Assumes nothing.
-use borrow.Author.Rules.{rules}
 use Rattle.carry.proofs.asked_by_request.Goals as goal
 
 pub returns-in-Start : goal.returns-in-Start

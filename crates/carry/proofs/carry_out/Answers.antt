@@ -1,5 +1,4 @@
 -- `carry::carry_out` meets its contract. By the case, what was called says it. Assumes nothing.
-use borrow.Author.Rules.{rules}
 use Rattle.carry.proofs.carry_out.Goals as goal
 
 pub returns-in-Start : goal.returns-in-Start

@@ -1,5 +1,4 @@
 -- `carry::decide` meets its contract. By the case, what was called says it. Assumes nothing.
-use borrow.Author.Rules.{rules}
 use Rattle.carry.proofs.decide.Goals as goal
 
 pub returns-in-Granted : goal.returns-in-Granted

@@ -2,7 +2,6 @@
 use mathlib.Core.Path.{ap, sym, ◌∙◌}
 use Rattle.replies.specs.Replies.{abstract_syntax}
 use Rattle.carry.specs.Carry.{rejection, ruled_by}
-use borrow.Author.Rules.{rules}
 use Rattle.carry.proofs.granted.Goals as goal
 
 pub returns-in-Is : goal.returns-in-Is

@@ -1,6 +1,5 @@
 -- `carry::rejection` meets its contract, by the case. Assumes nothing.
 use Rattle.carry.specs.Carry.{rejection}
-use borrow.Author.Rules.{rules}
 use Rattle.carry.proofs.rejection.Goals as goal
 
 pub returns-in-Start : goal.returns-in-Start

@@ -1,5 +1,4 @@
 -- `carry::rule` meets its contract, by the outcome. Assumes nothing.
-use borrow.Author.Rules.{rules}
 use Rattle.carry.proofs.rule.Goals as goal
 
 pub returns-in-Accepted : goal.returns-in-Accepted

@@ -1,6 +1,5 @@
 -- `carry::start` meets its contract. Each return is the case of the definition that the tests on the way single out. Assumes nothing.
 use Rattle.carry.specs.Carry.{started}
-use borrow.Author.Rules.{rules}
 use Rattle.carry.proofs.start.Goals as goal
 
 pub returns-then-k : goal.returns-then-k

@@ -1,5 +1,4 @@
 -- `carry::start_rejected` meets its contract, by the case. Assumes nothing.
-use borrow.Author.Rules.{rules}
 use Rattle.carry.proofs.start_rejected.Goals as goal
 
 pub returns-in-Is : goal.returns-in-Is

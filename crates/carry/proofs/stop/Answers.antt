@@ -1,6 +1,5 @@
 -- `carry::stop` meets its contract. Each return is the case of the definition that the test singles out. Assumes nothing.
 use Rattle.carry.specs.Carry.{stopped}
-use borrow.Author.Rules.{rules}
 use Rattle.carry.proofs.stop.Goals as goal
 
 pub returns-then-k : goal.returns-then-k

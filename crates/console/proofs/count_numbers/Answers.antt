@@ -1,7 +1,7 @@
 -- Each way out is one of the definition's four tests, or past them all.
 use mathlib.Core.Path.{◌≡◌, sym, ◌∙◌}
 use lib.Seq.{length-take-le}
-use borrow.Author.Tests.{le-leb, lt-leb, not-true, not-false}
+use borrow.Author.Tests.{le-leb, lt-leb}
 use lib.ListN.{length}
 use Rattle.lists.proofs.Slices.{length_of}
 use Rattle.console.specs.Numbers.{counted_in}
@@ -19,19 +19,19 @@ returns-then-g c = rw (le-leb _ 256 c.if-n-gt256.false, c.if-g.true)
 pub returns-then-not-unequal_mmes : goal.returns-then-not-unequal_mmes
 unfolding counted_in
 returns-then-not-unequal_mmes c = rw (
-      le-leb _ 256 c.if-n-gt256.false,
-      c.if-g.false,
-      sym c.unequal_mmes.ensures ∙ c.if-not-unequal_mmes.true,
-    )
+  le-leb _ 256 c.if-n-gt256.false,
+  c.if-g.false,
+  sym c.unequal_mmes.ensures ∙ c.if-not-unequal_mmes.true,
+)
 
 pub returns-then-not-unequal_mces : goal.returns-then-not-unequal_mces
 unfolding counted_in
 returns-then-not-unequal_mces c = rw (
-      le-leb _ 256 c.if-n-gt256.false,
-      c.if-g.false,
-      sym c.unequal_mmes.ensures ∙ c.if-not-unequal_mmes.false,
-      sym c.unequal_mces.ensures ∙ c.if-not-unequal_mces.true,
-    )
+  le-leb _ 256 c.if-n-gt256.false,
+  c.if-g.false,
+  sym c.unequal_mmes.ensures ∙ c.if-not-unequal_mmes.false,
+  sym c.unequal_mces.ensures ∙ c.if-not-unequal_mces.true,
+)
 
 pub slice_bounds-tmgis-end : goal.slice_bounds-tmgis-end
 slice_bounds-tmgis-end c = let b : length c.args.g.tmgis ≡ 256 = search (rules, length_of) in
@@ -44,9 +44,9 @@ slice_bounds-count-end c = let b : length c.args.g.tmgis ≡ 256 = search (rules
 pub returns : goal.returns
 unfolding counted_in
 returns c = rw (
-      le-leb _ 256 c.if-n-gt256.false,
-      c.if-g.false,
-      sym c.unequal_mmes.ensures ∙ c.if-not-unequal_mmes.false,
-      sym c.unequal_mces.ensures ∙ c.if-not-unequal_mces.false,
-      c.count-count.ensures,
-    )
+  le-leb _ 256 c.if-n-gt256.false,
+  c.if-g.false,
+  sym c.unequal_mmes.ensures ∙ c.if-not-unequal_mmes.false,
+  sym c.unequal_mces.ensures ∙ c.if-not-unequal_mces.false,
+  c.count-count.ensures,
+)

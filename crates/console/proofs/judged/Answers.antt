@@ -1,7 +1,6 @@
 -- The answer over the numbers, at the number that the octets make.
 use mathlib.Core.Path.{ap, ◌∙◌}
 use Rattle.console.specs.Numbers.{counted_in}
-use borrow.Author.Rules.{rules}
 use Rattle.console.proofs.judged.Goals as goal
 
 pub returns : goal.returns

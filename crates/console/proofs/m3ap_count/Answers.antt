@@ -1,6 +1,5 @@
 -- One record more is gathered in a turn; behind the last, the answer over the numbers is the answer for the associations.
-use Rattle.std.proofs.Common.{◌+◌, ◌∙◌, ◌≡◌, ◌<◌, length, take, arith, sym}
-use Rattle.console.specs.Numbers.{gathered, put_in}
+use Rattle.std.proofs.Common.{◌∙◌, ◌<◌, length, arith}
 use Rattle.console.proofs.Gathered.{gathered_more, each_more, answered}
 use Rattle.console.proofs.m3ap_count.Goals as goal
 

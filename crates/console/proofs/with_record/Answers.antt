@@ -1,6 +1,5 @@
 -- Three stores, of which the TMGI's is the number that its octets make; and what was known of links, with this one's.
 use mathlib.Core.Bool.{or-true, or-false}
-use borrow.Author.Rules.{rules}
 use borrow.Author.Tests.{eq-eqb, ne_eqb}
 use Rattle.console.specs.Numbers.{put_in}
 use Rattle.console.proofs.with_record.Goals as goal

@@ -1,6 +1,5 @@
 -- `diagnostics::after_bits` meets its contract: the definition goes by the same test.
 -- Assumes nothing.
-use borrow.Author.Rules.{rules}
 use Rattle.diagnostics.proofs.after_bits.Goals as goal
 
 pub returns-then-there : goal.returns-then-there

@@ -1,10 +1,7 @@
 -- `diagnostics::code_at` meets its contract: each return is the chain of the fields read up to it.
 -- Assumes nothing.
 use mathlib.Core.Path.{refl}
-use borrow.Author.Tests.{not-true, not-false}
-use borrow.Author.Rules.{rules}
-use Rattle.octets.proofs.Chain.{past, halt, told}
-use Rattle.octets.specs.Found.{found_gate, found_octet}
+use Rattle.octets.proofs.Chain.{past, halt}
 use Rattle.diagnostics.specs.Diagnostics.{code_at}
 use Rattle.diagnostics.proofs.code_at.Goals as goal
 

@@ -2,7 +2,6 @@
 -- Assumes nothing.
 -- what was read, place by place
 use mathlib.Core.Path.{◌≡◌, refl}
-use borrow.Author.Rules.{rules}
 use Rattle.octets.specs.Read.{got}
 use Rattle.octets.specs.Found.{found_gate, found_flag}
 use Rattle.octets.specs.Field.{plain_at, flag_at}

@@ -1,8 +1,6 @@
 -- `diagnostics::maybe_at` meets its contract: each return is the chain of the fields read up to it.
 -- Assumes nothing.
 use mathlib.Core.Path.{refl}
-use borrow.Author.Tests.{not-true, not-false}
-use borrow.Author.Rules.{rules}
 use Rattle.octets.proofs.Chain.{past, halt, told}
 use Rattle.octets.specs.Found.{found_octet}
 use Rattle.diagnostics.specs.Diagnostics.{maybe_at}

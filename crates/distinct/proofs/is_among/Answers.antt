@@ -1,10 +1,8 @@
 -- Those passed are not the number.
 use mathlib.Core.Path.{sym}
-use Prim.Native.Nat.{◌-◌}
 use native.Mathlib.Omega.{arith}
 use borrow.Author.Rules.{rules}
-use lib.ListN.{length}
-use Rattle.distinct.proofs.Sets.{Sought, sought_none, sought_found, sought_more, sought_all}
+use Rattle.distinct.proofs.Sets.{sought_none, sought_found, sought_more, sought_all}
 use Rattle.distinct.proofs.is_among.Goals as goal
 
 pub loop-i-init : goal.loop-i-init

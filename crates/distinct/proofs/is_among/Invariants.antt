@@ -1,9 +1,6 @@
-use mathlib.Core.Path.{sym}
 use Prim.Native.Nat.{◌-◌}
-use native.Mathlib.Omega.{arith}
-use borrow.Author.Rules.{rules}
 use lib.ListN.{length}
-use Rattle.distinct.proofs.Sets.{Sought, sought_none, sought_found, sought_more, sought_all}
+use Rattle.distinct.proofs.Sets.{Sought}
 use Rattle.distinct.proofs.is_among.Given as goal
 
 abbrev pub invariant-loop-i : goal.invariant-loop-i

@@ -4,7 +4,6 @@ use Prim.Native.Nat.{◌*◌, ◌%◌, ◌^◌}
 use native.Mathlib.Omega.{arith}
 use lib.Pow.{shl_exact}
 use lib.Bits.{and_mask}
-use borrow.Author.Rules.{rules}
 use Rattle.distinct.proofs.meet.Goals as goal
 
 pub returns : goal.returns

@@ -1,5 +1,4 @@
 -- The identity's bit of the word.
-use borrow.Author.Rules.{rules}
 use Rattle.distinct.proofs.meet_low_mce.Goals as goal
 
 pub returns : goal.returns

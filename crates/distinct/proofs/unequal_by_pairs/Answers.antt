@@ -1,10 +1,9 @@
 -- Those passed are all different, and the next is not among them.
 use mathlib.Core.Path.{sym}
-use Prim.Native.Nat.{◌-◌}
 use native.Mathlib.Omega.{arith}
 use borrow.Author.Rules.{rules}
 use lib.Seq.{length-take-le}
-use Rattle.distinct.proofs.Sets.{Apart, apart_none, apart_again, apart_next, apart_all}
+use Rattle.distinct.proofs.Sets.{apart_none, apart_again, apart_next, apart_all}
 use Rattle.distinct.proofs.unequal_by_pairs.Goals as goal
 
 pub loop-i-init : goal.loop-i-init

@@ -1,11 +1,10 @@
 -- The numbers passed are all different and make up the set, so the next is among them exactly if it is in the set.
 use mathlib.Core.Path.{ap, sym, ◌∙◌}
-use Prim.Native.Nat.{◌-◌}
 use native.Mathlib.Omega.{arith}
 use borrow.Author.Rules.{rules}
 use Rattle.distinct.specs.Bits.{in_set, with_in}
 use Rattle.distinct.specs.declared.NumberMet.{NumberMet}
-use Rattle.distinct.proofs.Sets.{Met, met_none, met_again, met_more, met_all, met_end}
+use Rattle.distinct.proofs.Sets.{met_none, met_again, met_more, met_all, met_end}
 use Rattle.distinct.proofs.unequal_by_set.Goals as goal
 
 pub loop-i-init : goal.loop-i-init

@@ -1,9 +1,7 @@
 -- The numbers of the identities, in their order.
 use mathlib.Core.Path.{◌∙◌}
-use Prim.Native.Nat.{◌-◌}
 use native.Mathlib.Omega.{arith}
-use borrow.Author.Rules.{rules}
-use Rattle.lists.proofs.Copy.{Copied, copied_none, copied_more}
+use Rattle.lists.proofs.Copy.{copied_none, copied_more}
 use Rattle.distinct.proofs.Series.{mce_number, apart_by}
 use Rattle.distinct.proofs.unequal_mces.Goals as goal
 

@@ -1,9 +1,6 @@
-use mathlib.Core.Path.{◌∙◌}
 use Prim.Native.Nat.{◌-◌}
-use native.Mathlib.Omega.{arith}
-use borrow.Author.Rules.{rules}
-use Rattle.lists.proofs.Copy.{Copied, copied_none, copied_more}
-use Rattle.distinct.proofs.Series.{mme_number, apart_by}
+use Rattle.lists.proofs.Copy.{Copied}
+use Rattle.distinct.proofs.Series.{mme_number}
 use Rattle.distinct.proofs.unequal_mmes.Given as goal
 
 abbrev pub invariant-loop-i : goal.invariant-loop-i

@@ -1,5 +1,4 @@
 -- `editions::code_of` meets its contract: the three parts of the head. Assumes nothing.
-use borrow.Author.Rules.{rules}
 use Rattle.editions.proofs.code_of.Goals as goal
 
 pub returns : goal.returns

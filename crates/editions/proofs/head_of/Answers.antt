@@ -1,5 +1,4 @@
 -- `editions::head_of` meets its contract. Assumes nothing.
-use borrow.Author.Rules.{rules}
 use Rattle.editions.proofs.Forms.{heads_of_lem}
 use Rattle.editions.proofs.head_of.Goals as goal
 

@@ -1,5 +1,4 @@
 -- `editions::lab_rows` meets its contract. Assumes nothing.
-use borrow.Author.Rules.{rules}
 use mathlib.Core.Path.{refl, ◌∙◌}
 use Rattle.editions.proofs.Forms.{lab_others}
 use Rattle.editions.proofs.lab_rows.Goals as goal

@@ -1,5 +1,4 @@
 -- `editions::message_at` meets its contract. Assumes nothing.
-use borrow.Author.Rules.{rules}
 use mathlib.Core.Path.{refl}
 use Rattle.editions.proofs.message_at.Goals as goal
 

@@ -1,12 +1,10 @@
 -- `editions::message_of` meets its contract. Invariant: what is left to search gives what all messages give. Assumes nothing.
-use Prim.Native.Nat.{◌-◌}
 use mathlib.Core.Path.{◌≡◌, refl, sym, ◌∙◌}
 use native.Mathlib.Omega.{arith}
-use borrow.Author.Rules.{rules}
 use lib.ListN.{get_or}
 use Rattle.editions.specs.declared.Message.TheVariants.{StartRequest}
 use Rattle.editions.specs.Editions.{messages_of, named_by}
-use Rattle.editions.proofs.Search.{framed, Left, left_found, left_more, left_none}
+use Rattle.editions.proofs.Search.{framed, left_found, left_more, left_none}
 use Rattle.editions.proofs.message_of.Goals as goal
 
 pub loop-i-init : goal.loop-i-init

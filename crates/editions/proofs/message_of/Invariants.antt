@@ -1,11 +1,6 @@
 use Prim.Native.Nat.{◌-◌}
-use mathlib.Core.Path.{◌≡◌, refl, sym, ◌∙◌}
-use native.Mathlib.Omega.{arith}
-use borrow.Author.Rules.{rules}
-use lib.ListN.{get_or}
-use Rattle.editions.specs.declared.Message.TheVariants.{StartRequest}
-use Rattle.editions.specs.Editions.{messages_of, named_by}
-use Rattle.editions.proofs.Search.{framed, Left, left_found, left_more, left_none}
+use Rattle.editions.specs.Editions.{messages_of}
+use Rattle.editions.proofs.Search.{framed, Left}
 use Rattle.editions.proofs.message_of.Given as goal
 
 abbrev pub invariant-loop-i : goal.invariant-loop-i

@@ -1,11 +1,9 @@
 -- `editions::numbered` meets its contract. Invariant: what is left to search gives what all messages give. Assumes nothing.
-use Prim.Native.Nat.{◌-◌}
-use mathlib.Core.Path.{◌≡◌, refl, sym, ◌∙◌}
+use mathlib.Core.Path.{refl, sym, ◌∙◌}
 use native.Mathlib.Omega.{arith}
-use borrow.Author.Rules.{rules}
 use borrow.Author.Tests.{eq-eqb, ne_eqb}
-use Rattle.editions.specs.Editions.{messages_of, numbered_by}
-use Rattle.editions.proofs.Search.{counted, Left, left_found, left_more, left_none}
+use Rattle.editions.specs.Editions.{numbered_by}
+use Rattle.editions.proofs.Search.{left_found, left_more, left_none}
 use Rattle.editions.proofs.numbered.Goals as goal
 
 pub loop-i-init : goal.loop-i-init

@@ -1,10 +1,6 @@
 use Prim.Native.Nat.{◌-◌}
-use mathlib.Core.Path.{◌≡◌, refl, sym, ◌∙◌}
-use native.Mathlib.Omega.{arith}
-use borrow.Author.Rules.{rules}
-use borrow.Author.Tests.{eq-eqb, ne_eqb}
-use Rattle.editions.specs.Editions.{messages_of, numbered_by}
-use Rattle.editions.proofs.Search.{counted, Left, left_found, left_more, left_none}
+use Rattle.editions.specs.Editions.{messages_of}
+use Rattle.editions.proofs.Search.{counted, Left}
 use Rattle.editions.proofs.numbered.Given as goal
 
 abbrev pub invariant-loop-i : goal.invariant-loop-i

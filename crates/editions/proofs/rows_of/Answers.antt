@@ -1,5 +1,4 @@
 -- `editions::rows_of` meets its contract. By the edition, what was called says it. Assumes nothing.
-use borrow.Author.Rules.{rules}
 use Rattle.editions.specs.Editions.{printed}
 use Rattle.editions.proofs.rows_of.Goals as goal
 

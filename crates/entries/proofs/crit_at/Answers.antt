@@ -1,9 +1,7 @@
 -- `entries::crit_at` meets its contract: each return is the chain of the fields read up to it.
 -- Assumes nothing.
 use mathlib.Core.Path.{refl}
-use borrow.Author.Rules.{rules}
-use Rattle.octets.proofs.Chain.{past, halt, told}
-use Rattle.octets.specs.Found.{found_gate, found_octet}
+use Rattle.octets.proofs.Chain.{past, halt}
 use Rattle.entries.specs.Entries.{crit_at}
 use Rattle.entries.proofs.crit_at.Goals as goal
 

@@ -4,10 +4,9 @@
 use mathlib.Core.Path.{refl}
 use Prim.Native.Nat.{◌<◌}
 use native.Mathlib.Omega.{arith}
-use borrow.Author.Rules.{rules}
 use lib.ListN.{length}
 use Rattle.octets.proofs.Chain.{past, halt, told}
-use Rattle.octets.specs.Found.{found_gate, found_octet, found_two}
+use Rattle.octets.specs.Found.{found_octet}
 use Rattle.entries.specs.Entries.{entry_at}
 use Rattle.entries.proofs.Bounds.{begins_le, crit_in}
 use Rattle.entries.proofs.entry_at.Goals as goal

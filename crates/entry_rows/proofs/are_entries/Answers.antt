@@ -2,7 +2,6 @@
 -- Assumes nothing.
 use mathlib.Core.Path.{◌∙◌}
 use native.Mathlib.Omega.{arith}
-use borrow.Author.Rules.{rules}
 use Rattle.entry_rows.proofs.OneForm.{form, not_few, not_long}
 use Rattle.entry_rows.proofs.Saying.{said_few}
 use Rattle.layout.specs.Record.{lists_in}

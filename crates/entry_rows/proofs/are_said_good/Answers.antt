@@ -1,18 +1,12 @@
 -- `entry_rows::are_said_good` meets its contract: the loop knows whether all rows passed are good.
 -- Assumes nothing.
-use mathlib.Core.Bool.{not}
-use mathlib.Core.List.{List}
-use mathlib.Core.Path.{◌∙◌, ◌≡◌, refl}
-use Prim.Native.Nat.{◌*◌, ◌+◌, ◌-◌}
+use mathlib.Core.Path.{◌∙◌, refl}
+use Prim.Native.Nat.{◌*◌, ◌+◌}
 use native.Mathlib.Omega.{arith}
-use borrow.Author.Rules.{rules}
 use lib.ListN.{drop}
-use Rattle.entries.specs.declared.Entry.{Entry}
-use Rattle.entry_rows.proofs.Saying.{Passed, all_good, good_more, passed_all, passed_more, passed_none, said_all, said_few}
+use Rattle.entry_rows.proofs.Saying.{all_good, good_more, passed_all, passed_more, passed_none, said_all, said_few}
 use Rattle.layout.specs.Record.{lists_in}
 use Rattle.layout.specs.Rows.{row_entry}
-use Rattle.lists.specs.Lists.{some}
-use Rattle.meaning.specs.Written.{entry_good}
 use Rattle.entry_rows.proofs.are_said_good.Goals as goal
 
 pub loop-i-init : goal.loop-i-init

@@ -1,13 +1,9 @@
 use mathlib.Core.Bool.{not}
 use mathlib.Core.List.{List}
-use mathlib.Core.Path.{◌∙◌, ◌≡◌, refl}
-use Prim.Native.Nat.{◌*◌, ◌+◌, ◌-◌}
-use native.Mathlib.Omega.{arith}
-use borrow.Author.Rules.{rules}
-use lib.ListN.{drop}
+use mathlib.Core.Path.{◌≡◌}
+use Prim.Native.Nat.{◌-◌}
 use Rattle.entries.specs.declared.Entry.{Entry}
-use Rattle.entry_rows.proofs.Saying.{Passed, all_good, good_more, passed_all, passed_more, passed_none, said_all, said_few}
-use Rattle.layout.specs.Record.{lists_in}
+use Rattle.entry_rows.proofs.Saying.{Passed}
 use Rattle.layout.specs.Rows.{row_entry}
 use Rattle.lists.specs.Lists.{some}
 use Rattle.meaning.specs.Written.{entry_good}

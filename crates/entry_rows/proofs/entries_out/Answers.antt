@@ -4,17 +4,14 @@ use mathlib.Core.List.{[]}
 use mathlib.Core.Path.{◌≡◌, sym}
 use Prim.Native.Nat.{◌+◌}
 use native.Mathlib.Omega.{arith}
-use borrow.Author.Rules.{rules}
-use borrow.Author.Tests.{not-false, not-true}
 use lib.ListN.{length}
 use Rattle.entries.specs.Entries.{list_at, maybe_list_at}
 use Rattle.entry_rows.proofs.OneForm.{row_size}
 use Rattle.entry_rows.proofs.Putting.{no_rows, wrote_list, wrote_rows, wrote_stop}
 use Rattle.entry_words.proofs.Laws.{gate_stop, in_list, in_none, wrote_known}
 use Rattle.layout.specs.Rows.{entry_row}
-use Rattle.octets.proofs.Chain.{halt, told}
+use Rattle.octets.proofs.Chain.{halt}
 use Rattle.octets.proofs.Got.{number_got}
-use Rattle.octets.specs.Found.{found_gate, found_octet}
 use Rattle.octets.specs.Many.{each_octets}
 use Rattle.entry_rows.proofs.entries_out.Goals as goal
 

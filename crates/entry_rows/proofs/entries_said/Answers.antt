@@ -2,16 +2,12 @@
 -- Assumes nothing.
 use mathlib.Core.List.{List, map, map-append}
 use mathlib.Core.Path.{◌∙◌, ap}
-use Prim.Native.Nat.{◌-◌}
 use native.Mathlib.Omega.{arith}
-use borrow.Author.Rules.{rules}
 use lib.Seq.{sets}
 use Rattle.entries.specs.declared.Entry.{Entry}
-use Rattle.entry_rows.proofs.Saying.{Passed, passed_all, passed_more, passed_none, said_all, said_few}
+use Rattle.entry_rows.proofs.Saying.{passed_all, passed_more, passed_none, said_all, said_few}
 use Rattle.entry_words.specs.EntryWords.{entry_word}
-use Rattle.layout.specs.Rows.{row_entry}
 use Rattle.octets.proofs.Writing.{wrote_length, wrote_none, wrote_then}
-use Rattle.octets.specs.Write.{Wrote}
 use Rattle.entry_rows.proofs.entries_said.Goals as goal
 
 pub loop-i-init : goal.loop-i-init

@@ -3,7 +3,6 @@
 use mathlib.Core.List.{[]}
 use mathlib.Core.Path.{◌∙◌}
 use native.Mathlib.Omega.{arith}
-use borrow.Author.Rules.{rules}
 use Rattle.entry_rows.proofs.OneForm.{no_form, not_long}
 use Rattle.entry_rows.proofs.no_entries_said.Goals as goal
 

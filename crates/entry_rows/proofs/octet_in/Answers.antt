@@ -1,7 +1,6 @@
 -- `entry_rows::octet_in` meets its contract: behind the end stands the default.
 -- Assumes nothing.
 use mathlib.Core.Path.{sym}
-use borrow.Author.Rules.{rules}
 use lib.ListN.{get_or-eq_default}
 use Rattle.entry_rows.proofs.octet_in.Goals as goal
 

@@ -1,6 +1,5 @@
 -- `entry_rows::put_row` meets its contract: three writers, one after another.
 -- Assumes nothing.
-use borrow.Author.Rules.{rules}
 use Rattle.octets.proofs.Writing.{wrote_then}
 use Rattle.entry_rows.proofs.put_row.Goals as goal
 

@@ -1,6 +1,5 @@
 -- `entry_rows::row_at` meets its contract: the octets of a row, in their places.
 -- Assumes nothing.
-use borrow.Author.Rules.{rules}
 use Rattle.entry_rows.proofs.Saying.{row_is}
 use Rattle.entry_rows.proofs.row_at.Goals as goal
 

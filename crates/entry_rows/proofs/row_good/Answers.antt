@@ -1,7 +1,6 @@
 -- `entry_rows::row_good` meets its contract: two octets of a row, in their places.
 -- Assumes nothing.
 use mathlib.Core.Path.{◌∙◌}
-use borrow.Author.Rules.{rules}
 use Rattle.entry_rows.proofs.Saying.{good_is}
 use Rattle.entry_rows.proofs.row_good.Goals as goal
 

@@ -1,7 +1,6 @@
 -- `entry_rows::said_entries` meets its contract: as many are said as the count says, up to 256.
 -- Assumes nothing.
 use native.Mathlib.Omega.{arith}
-use borrow.Author.Rules.{rules}
 use Rattle.entry_rows.proofs.Saying.{said_count}
 use Rattle.entry_rows.proofs.said_entries.Goals as goal
 

@@ -1,9 +1,6 @@
 -- `entry_rows::zeros_behind` meets its contract: the octets passed, or'ed, and the rest say what all say.
 -- Assumes nothing.
-use Prim.Native.Nat.{◌-◌}
-use borrow.Author.Rules.{rules}
-use lib.ListN.{length}
-use Rattle.lent.proofs.Zeros.{Zeroed, zeroed_all, zeroed_more, zeroed_none}
+use Rattle.lent.proofs.Zeros.{zeroed_all, zeroed_more, zeroed_none}
 use Rattle.entry_rows.proofs.zeros_behind.Goals as goal
 
 pub loop-i-init : goal.loop-i-init

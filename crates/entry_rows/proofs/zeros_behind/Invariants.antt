@@ -1,7 +1,6 @@
 use Prim.Native.Nat.{◌-◌}
-use borrow.Author.Rules.{rules}
 use lib.ListN.{length}
-use Rattle.lent.proofs.Zeros.{Zeroed, zeroed_all, zeroed_more, zeroed_none}
+use Rattle.lent.proofs.Zeros.{Zeroed}
 use Rattle.entry_rows.proofs.zeros_behind.Given as goal
 
 abbrev pub invariant-loop-i : goal.invariant-loop-i

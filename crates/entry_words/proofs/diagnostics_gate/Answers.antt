@@ -1,11 +1,9 @@
 -- `entry_words::diagnostics_gate` meets its contract: the fields before the list are read, and whether the list can be.
 -- Assumes nothing.
 use mathlib.Core.Path.{◌∙◌, ap, refl}
-use borrow.Author.Rules.{rules}
 use Rattle.diagnostics.specs.Diagnostics.{diagnostics_at}
-use Rattle.diagnostics.specs.Found.{found_head}
 use Rattle.entry_words.proofs.Laws.{same_gate}
-use Rattle.octets.proofs.Chain.{halt, past, told}
+use Rattle.octets.proofs.Chain.{halt, past}
 use Rattle.octets.specs.Read.{checked}
 use Rattle.entry_words.proofs.diagnostics_gate.Goals as goal
 

@@ -1,18 +1,12 @@
 -- `entry_words::entries_gate` meets its contract: the loop has read the entries up to the next, and these before what the rest gives are what all give.
 -- Assumes nothing.
-use mathlib.Core.List.{List}
 use mathlib.Core.Path.{◌∙◌, ap, refl}
-use Prim.Native.Nat.{◌-◌}
 use native.Mathlib.Omega.{arith}
-use borrow.Author.Rules.{rules}
-use Rattle.entries.specs.Entries.{entries_at, entry_at}
-use Rattle.entries.specs.Found.{found_entry}
-use Rattle.entries.specs.declared.Entry.{Entry}
+use Rattle.entries.specs.Entries.{entries_at}
 use Rattle.entry_words.proofs.Laws.{gate_then}
-use Rattle.entry_words.proofs.Reading.{Reading, reading_all, reading_more, reading_none, reading_stop}
-use Rattle.octets.proofs.Chain.{halt, past, told}
+use Rattle.entry_words.proofs.Reading.{reading_all, reading_more, reading_none, reading_stop}
+use Rattle.octets.proofs.Chain.{halt, past}
 use Rattle.octets.proofs.Got.{pad_got}
-use Rattle.octets.specs.Found.{found_gate}
 use Rattle.octets.specs.Read.{checked}
 use Rattle.entry_words.proofs.entries_gate.Goals as goal
 

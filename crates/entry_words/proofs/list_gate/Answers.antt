@@ -2,13 +2,10 @@
 -- Assumes nothing.
 use mathlib.Core.Path.{◌∙◌, ap, refl}
 use native.Mathlib.Omega.{arith}
-use borrow.Author.Rules.{rules}
-use borrow.Author.Tests.{not-false, not-true}
 use Rattle.entries.specs.Entries.{list_at}
 use Rattle.entry_words.proofs.Laws.{gate_then}
-use Rattle.octets.proofs.Chain.{halt, past, told}
+use Rattle.octets.proofs.Chain.{halt, past}
 use Rattle.octets.proofs.Got.{number_got}
-use Rattle.octets.specs.Found.{found_octet}
 use Rattle.octets.specs.Read.{checked}
 use Rattle.entry_words.proofs.list_gate.Goals as goal
 

@@ -3,15 +3,12 @@
 use mathlib.Core.List.{[], map}
 use mathlib.Core.Path.{refl}
 use native.Mathlib.Omega.{arith}
-use borrow.Author.Rules.{rules}
-use borrow.Author.Tests.{not-false, not-true}
 use Rattle.entries.specs.Entries.{list_at, maybe_list_at}
 use Rattle.entry_words.proofs.Laws.{gate_stop, in_list, in_none, taken_all, taken_stop, wrote_known}
 use Rattle.entry_words.specs.EntryWords.{entry_word}
-use Rattle.octets.proofs.Chain.{halt, told}
+use Rattle.octets.proofs.Chain.{halt}
 use Rattle.octets.proofs.Got.{number_got}
 use Rattle.octets.proofs.Writing.{wrote_none}
-use Rattle.octets.specs.Found.{found_gate, found_octet}
 use Rattle.entry_words.proofs.list_into.Goals as goal
 
 pub returns-in-Stop : goal.returns-in-Stop

@@ -1,6 +1,5 @@
 -- `entry_words::put_word` meets its contract: within the words one is set, behind their end none.
 -- Assumes nothing.
-use borrow.Author.Rules.{rules}
 use Rattle.octets.proofs.Writing.{wrote_one, wrote_past}
 use Rattle.entry_words.proofs.put_word.Goals as goal
 

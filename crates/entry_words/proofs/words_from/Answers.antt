@@ -1,18 +1,11 @@
 -- `entry_words::words_from` meets its contract: the loop has read the entries up to the next, and their words stand in front.
 -- Assumes nothing.
-use mathlib.Core.List.{List, map, map-append}
-use Prim.Native.Nat.{◌-◌}
+use mathlib.Core.List.{map, map-append}
 use native.Mathlib.Omega.{arith}
-use borrow.Author.Rules.{rules}
-use Rattle.entries.specs.Entries.{entry_at}
-use Rattle.entries.specs.Found.{found_entry}
-use Rattle.entries.specs.declared.Entry.{Entry}
 use Rattle.entry_words.proofs.Laws.{wrote_nothing, wrote_some}
-use Rattle.entry_words.proofs.Reading.{Reading, reading_all, reading_more, reading_none, reading_stop}
+use Rattle.entry_words.proofs.Reading.{reading_all, reading_more, reading_none, reading_stop}
 use Rattle.entry_words.specs.EntryWords.{entry_word}
-use Rattle.octets.proofs.Chain.{told}
 use Rattle.octets.proofs.Writing.{wrote_length, wrote_none, wrote_then}
-use Rattle.octets.specs.Write.{Wrote}
 use Rattle.entry_words.proofs.words_from.Goals as goal
 
 pub loop-i-init : goal.loop-i-init

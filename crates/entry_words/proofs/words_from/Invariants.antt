@@ -1,15 +1,9 @@
-use mathlib.Core.List.{List, map, map-append}
+use mathlib.Core.List.{List, map}
 use Prim.Native.Nat.{◌-◌}
-use native.Mathlib.Omega.{arith}
-use borrow.Author.Rules.{rules}
 use Rattle.entries.specs.Entries.{entry_at}
-use Rattle.entries.specs.Found.{found_entry}
 use Rattle.entries.specs.declared.Entry.{Entry}
-use Rattle.entry_words.proofs.Laws.{wrote_nothing, wrote_some}
-use Rattle.entry_words.proofs.Reading.{Reading, reading_all, reading_more, reading_none, reading_stop}
+use Rattle.entry_words.proofs.Reading.{Reading}
 use Rattle.entry_words.specs.EntryWords.{entry_word}
-use Rattle.octets.proofs.Chain.{told}
-use Rattle.octets.proofs.Writing.{wrote_length, wrote_none, wrote_then}
 use Rattle.octets.specs.Write.{Wrote}
 use Rattle.entry_words.proofs.words_from.Given as goal
 

@@ -1,9 +1,7 @@
 -- `envelopes::criticality_at` meets its contract. Each return is the chain of the readings on the way to it. Assumes nothing.
 use mathlib.Core.Path.{refl}
-use Rattle.octets.specs.Found.{found_octet, found_gate}
-use Rattle.octets.proofs.Chain.{past, halt, told}
+use Rattle.octets.proofs.Chain.{past, halt}
 use Rattle.envelopes.specs.Envelope.{criticality_at}
-use borrow.Author.Rules.{rules}
 use Rattle.envelopes.proofs.criticality_at.Goals as goal
 
 pub returns-in-Stop : goal.returns-in-Stop

@@ -1,11 +1,9 @@
 -- `envelopes::envelope_at` meets its contract. Each return is the chain of the readings on the way to it. Assumes nothing.
 use mathlib.Core.Path.{refl}
 use native.Mathlib.Omega.{arith}
-use Rattle.octets.specs.Found.{found_two, found_octet, found_open}
-use Rattle.octets.proofs.Chain.{past, halt, told}
+use Rattle.octets.proofs.Chain.{past, halt}
 use Rattle.octets.proofs.Got.{number_got}
 use Rattle.envelopes.specs.Envelope.{envelope_at}
-use borrow.Author.Rules.{rules}
 use Rattle.envelopes.proofs.envelope_at.Goals as goal
 
 pub returns-in-Stop : goal.returns-in-Stop

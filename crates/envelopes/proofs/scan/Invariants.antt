@@ -1,12 +1,6 @@
-use borrow.Author.Rules.{rules}
-use mathlib.Core.Path.{◌≡◌, sym, ◌∙◌, refl}
-use native.Mathlib.Omega.{arith}
-use lib.Seq.{length-take-le}
-use Rattle.octets.specs.Found.{found_gate}
-use Rattle.octets.proofs.Chain.{told}
+use mathlib.Core.Path.{◌≡◌}
 use Rattle.rows.specs.Table.{rows_in}
-use Rattle.envelopes.specs.Envelope.{scan_at, found_envelope}
-use Rattle.envelopes.proofs.ScanLaws.{envelope_in, scan_none, scan_cut, scan_bad, scan_more}
+use Rattle.envelopes.specs.Envelope.{scan_at}
 use Rattle.envelopes.proofs.scan.Given as goal
 
 abbrev pub invariant-loop-left : goal.invariant-loop-left

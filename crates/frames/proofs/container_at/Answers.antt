@@ -1,6 +1,5 @@
 -- `frames::container_at` meets its contract. Assumes nothing.
 use Rattle.frames.specs.Frame.{container_at}
-use borrow.Author.Rules.{rules}
 use Rattle.frames.proofs.container_at.Goals as goal
 
 pub returns-then-c : goal.returns-then-c

@@ -1,11 +1,10 @@
 -- `frames::count_at` meets its contract. Each return is the chain of the readings on the way to it. Assumes nothing.
-use Rattle.octets.specs.Found.{found_gate, found_flag, found_two}
+use Rattle.octets.specs.Found.{found_gate}
 use Rattle.octets.proofs.Chain.{past, halt, told}
 use Rattle.octets.proofs.Got.{plain_got}
 use Rattle.frames.specs.Frame.{count_at}
 use mathlib.Core.Path.{refl}
 use native.Mathlib.Omega.{arith}
-use borrow.Author.Rules.{rules}
 use Rattle.frames.proofs.count_at.Goals as goal
 
 pub returns-in-Stop : goal.returns-in-Stop

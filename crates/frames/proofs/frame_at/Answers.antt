@@ -1,9 +1,7 @@
 -- `frames::frame_at` meets its contract. Each return is the chain of the readings on the way to it. Assumes nothing.
 use mathlib.Core.Path.{refl}
-use Rattle.octets.specs.Found.{found_gate, found_octet, found_open}
-use Rattle.octets.proofs.Chain.{past, halt, told}
+use Rattle.octets.proofs.Chain.{past, halt}
 use Rattle.frames.specs.Frame.{frame_at}
-use borrow.Author.Rules.{rules}
 use Rattle.frames.proofs.frame_at.Goals as goal
 
 pub returns-in-Stop : goal.returns-in-Stop

@@ -5,9 +5,8 @@ use native.Mathlib.Omega.{arith}
 use Rattle.octets.specs.Found.{found_gate}
 use Rattle.octets.proofs.Chain.{past, halt, told}
 use Rattle.item.specs.Item.{item_at}
-use Rattle.item.specs.Found.{found_item_marks, found_maybe_mme, found_maybe_mce}
+use Rattle.item.specs.Found.{found_maybe_mce}
 use Rattle.item.proofs.Inside.{marks_in_lem, behind_le}
-use borrow.Author.Rules.{rules}
 use Rattle.item.proofs.item_at.Goals as goal
 
 pub returns-in-Stop : goal.returns-in-Stop

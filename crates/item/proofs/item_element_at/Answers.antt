@@ -1,13 +1,10 @@
 -- `item::item_element_at` meets its contract: each return is the chain of what was read on the way there; the item is lent the front of the octets that ends with its open value. Assumes nothing.
-use Rattle.octets.proofs.Chain.{past, halt, told}
+use Rattle.octets.proofs.Chain.{past, halt}
 use mathlib.Core.Path.{refl, sym}
 use native.Mathlib.Omega.{arith}
 use lib.Seq.{length-take-le}
-use Rattle.octets.specs.Found.{found_gate, found_octet, found_open}
 use Rattle.octets.proofs.Got.{wanted_got, open_in}
 use Rattle.item.specs.Item.{item_element_at}
-use Rattle.item.specs.Found.{found_item}
-use borrow.Author.Rules.{rules}
 use Rattle.item.proofs.item_element_at.Goals as goal
 
 pub returns-in-Stop : goal.returns-in-Stop

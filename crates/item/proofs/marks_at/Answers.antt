@@ -1,9 +1,7 @@
 -- `item::marks_at` meets its contract: each return is the chain of what was read on the way there. Assumes nothing.
-use Rattle.octets.proofs.Chain.{past, halt, told}
+use Rattle.octets.proofs.Chain.{past, halt}
 use mathlib.Core.Path.{refl}
-use Rattle.octets.specs.Found.{found_gate, found_flag}
 use Rattle.item.specs.Item.{item_marks_at}
-use borrow.Author.Rules.{rules}
 use Rattle.item.proofs.marks_at.Goals as goal
 
 pub returns-in-Stop : goal.returns-in-Stop

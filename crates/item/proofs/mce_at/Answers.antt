@@ -1,8 +1,6 @@
 -- `item::mce_at` meets its contract: by what the mark says: the identity that was read, or none. Assumes nothing.
-use Rattle.octets.proofs.Chain.{past, halt, told}
+use Rattle.octets.proofs.Chain.{past, halt}
 use mathlib.Core.Path.{refl}
-use Rattle.octets.specs.Found.{found_two}
-use borrow.Author.Rules.{rules}
 use Rattle.item.proofs.mce_at.Goals as goal
 
 pub returns-in-Is : goal.returns-in-Is

@@ -1,5 +1,4 @@
 -- `item::place_behind` meets its contract: by cases. Assumes nothing.
-use borrow.Author.Rules.{rules}
 use Rattle.item.proofs.place_behind.Goals as goal
 
 pub returns-then-there : goal.returns-then-there

@@ -5,7 +5,6 @@ use native.Mathlib.Omega.{arith}
 use Rattle.layout.specs.Record.{lists_in}
 use Rattle.item_rows.proofs.Said.{said_small}
 use Rattle.item_rows.proofs.Judged.{items_short, items_many, items_same}
-use borrow.Author.Rules.{rules}
 use Rattle.item_rows.proofs.are_items.Goals as goal
 
 pub returns-then-s-lt1636 : goal.returns-then-s-lt1636

@@ -1,5 +1,4 @@
 -- `item_rows::are_rows` meets its contract: by its test. Assumes nothing.
-use borrow.Author.Rules.{rules}
 use Rattle.item_rows.proofs.are_rows.Goals as goal
 
 pub returns-then-rows_good : goal.returns-then-rows_good

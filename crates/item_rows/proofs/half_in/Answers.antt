@@ -1,7 +1,6 @@
 -- `item_rows::half_in` meets its contract: an octet that is missing is taken for 0. Assumes nothing.
 use Rattle.item_rows.proofs.Said.{half_said}
 use mathlib.Core.Path.{◌∙◌, refl}
-use borrow.Author.Rules.{rules}
 use Rattle.item_rows.proofs.half_in.Goals as goal
 
 pub returns : goal.returns

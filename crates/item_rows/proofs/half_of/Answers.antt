@@ -1,7 +1,6 @@
 -- `item_rows::half_of` meets its contract, by its test. Assumes nothing.
 use borrow.Author.Tests.{eq-eqb, ne_eqb}
 use native.Mathlib.Omega.{arith}
-use borrow.Author.Rules.{rules}
 use Rattle.item_rows.proofs.half_of.Goals as goal
 
 pub returns-then-flag-eq0 : goal.returns-then-flag-eq0

@@ -1,7 +1,6 @@
 -- `item_rows::half_out` meets its contract: three octets, by the test. Assumes nothing.
 use Rattle.octets.proofs.Writing.{wrote_length}
 use Rattle.item_rows.proofs.Out.{half_zeros, half_octets_lem}
-use borrow.Author.Rules.{rules}
 use Rattle.item_rows.proofs.half_out.Goals as goal
 
 pub shape_of-room-then-n-eq0 : goal.shape_of-room-then-n-eq0

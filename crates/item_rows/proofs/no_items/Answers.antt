@@ -4,7 +4,6 @@ use mathlib.Core.Path.{◌∙◌, sym}
 use mathlib.Core.List.{[]}
 use native.Mathlib.Omega.{arith}
 use Rattle.item_rows.proofs.Judged.{items_short, none_same}
-use borrow.Author.Rules.{rules}
 use Rattle.item_rows.proofs.no_items.Goals as goal
 
 pub returns-then-s-lt1636 : goal.returns-then-s-lt1636

@@ -1,7 +1,6 @@
 -- `item_rows::octet_in` meets its contract: by its test. Assumes nothing.
 use mathlib.Core.Path.{sym}
 use lib.ListN.{get_or-eq_default}
-use borrow.Author.Rules.{rules}
 use Rattle.item_rows.proofs.octet_in.Goals as goal
 
 pub returns : goal.returns

@@ -1,16 +1,13 @@
 -- `item_rows::put_said` meets its contract: the invariant is the octets of the rows passed. Assumes nothing.
 use mathlib.Core.Path.{◌≡◌, ◌∙◌, ap}
-use Prim.Native.Nat.{ℕ, min, ◌-◌, ◌≤◌}
+use Prim.Native.Nat.{ℕ, min, ◌-◌}
 use native.Mathlib.Omega.{arith}
-use borrow.Author.Rules.{rules}
 use lib.ListN.{take}
 use lib.Seq.{take_all}
 use Rattle.identity.specs.Items.{empty_item}
 use Rattle.items.specs.Written.{item_element_octets}
 use Rattle.put_values.specs.Put.{crit_of}
 use Rattle.layout.specs.Record.{lists_in}
-use Rattle.octets.specs.Write.{Wrote}
-use Rattle.octets.specs.Many.{each_octets}
 use Rattle.octets.proofs.Writing.{wrote_none, wrote_then, wrote_length}
 use Rattle.octets.proofs.EachWritten.{wrote_more}
 use Rattle.item_rows.proofs.Said.{said_small, row_word, said_octets}

@@ -2,7 +2,6 @@
 use mathlib.Core.Path.{◌∙◌}
 use Rattle.octets.proofs.Writing.{wrote_then, wrote_length}
 use Rattle.item_rows.proofs.Out.{row_octets_lem}
-use borrow.Author.Rules.{rules}
 use Rattle.item_rows.proofs.row_out.Goals as goal
 
 pub shape_of-room : goal.shape_of-room

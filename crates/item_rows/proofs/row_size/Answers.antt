@@ -2,7 +2,6 @@
 use Rattle.item_rows.proofs.Said.{row_sized}
 use native.Mathlib.Omega.{arith}
 use mathlib.Core.Path.{◌∙◌}
-use borrow.Author.Rules.{rules}
 use Rattle.item_rows.proofs.row_size.Goals as goal
 
 pub returns : goal.returns

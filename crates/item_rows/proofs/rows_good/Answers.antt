@@ -1,7 +1,5 @@
 -- `item_rows::rows_good` meets its contract: the invariant is whether the rows passed are good. Assumes nothing.
-use Prim.Native.Nat.{◌-◌}
-use borrow.Author.Rules.{rules}
-use Rattle.item_rows.proofs.Judged.{GoodTo, good_none, good_more, good_all}
+use Rattle.item_rows.proofs.Judged.{good_none, good_more, good_all}
 use Rattle.item_rows.proofs.rows_good.Goals as goal
 
 pub loop-i-init : goal.loop-i-init

@@ -1,6 +1,5 @@
 use Prim.Native.Nat.{◌-◌}
-use borrow.Author.Rules.{rules}
-use Rattle.item_rows.proofs.Judged.{GoodTo, good_none, good_more, good_all}
+use Rattle.item_rows.proofs.Judged.{GoodTo}
 use Rattle.item_rows.proofs.rows_good.Given as goal
 
 abbrev pub invariant-loop-i : goal.invariant-loop-i

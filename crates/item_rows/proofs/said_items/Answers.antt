@@ -1,6 +1,5 @@
 -- `item_rows::said_items` meets its contract: the count, at most 256. Assumes nothing.
 use Rattle.item_rows.proofs.Said.{count_by}
-use borrow.Author.Rules.{rules}
 use Rattle.item_rows.proofs.said_items.Goals as goal
 
 pub returns : goal.returns

@@ -1,13 +1,10 @@
 -- `item_rows::said_size` meets its contract: the invariant is the octets of the rows passed, at most nine of each. Assumes nothing.
-use borrow.Author.Rules.{rules}
 use Rattle.item_rows.proofs.Said.{said_small, row_item_lem, sized_row, sized_said}
-use Rattle.put_values.proofs.Put.{Sized}
 use Rattle.layout.specs.Record.{lists_in}
 use Rattle.items.specs.Written.{item_element_octets}
 use Rattle.identity.specs.declared.Item.{Item}
 use lib.ListN.{length}
 use native.Mathlib.Omega.{arith}
-use Prim.Native.Nat.{◌+◌, ◌*◌, ◌-◌, ◌≤◌}
 use mathlib.Core.Path.{◌∙◌, refl, sym, ap}
 use Rattle.item_rows.proofs.said_size.Goals as goal
 

@@ -3,7 +3,6 @@ use Rattle.item_rows.proofs.Said.{half_said, word_said}
 use native.Mathlib.Omega.{arith}
 use Prim.Native.Nat.{◌+◌}
 use mathlib.Core.Path.{◌∙◌, refl}
-use borrow.Author.Rules.{rules}
 use Rattle.item_rows.proofs.word_in.Goals as goal
 
 pub returns-then-at-s : goal.returns-then-at-s

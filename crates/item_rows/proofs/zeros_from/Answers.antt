@@ -1,8 +1,5 @@
 -- `item_rows::zeros_from` meets its contract: the octets passed, or'ed, are zero if each of them is. Assumes nothing.
-use Prim.Native.Nat.{◌-◌}
-use borrow.Author.Rules.{rules}
-use lib.ListN.{length}
-use Rattle.lent.proofs.Zeros.{Zeroed, zeroed_none, zeroed_more, zeroed_all}
+use Rattle.lent.proofs.Zeros.{zeroed_none, zeroed_more, zeroed_all}
 use Rattle.item_rows.proofs.zeros_from.Goals as goal
 
 pub loop-i-init : goal.loop-i-init

@@ -4,7 +4,6 @@ use mathlib.Core.List.{[], ◌∷◌}
 use Rattle.packed.specs.Packed.{◌bits◌, packed, packed_in}
 use Rattle.put_values.specs.declared.Criticality.{Criticality}
 use Rattle.put_values.specs.Put.{crit_of}
-use borrow.Author.Rules.{rules}
 use Rattle.item_words.proofs.crit_octet.Goals as goal
 
 pub returns-in-Reject : goal.returns-in-Reject

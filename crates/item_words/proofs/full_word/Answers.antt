@@ -1,6 +1,5 @@
 -- `item_words::full_word` meets its contract: the nine octets are read as they stand. Assumes nothing.
 use Rattle.item_words.proofs.Full.{word_here}
-use borrow.Author.Rules.{rules}
 use Rattle.item_words.proofs.full_word.Goals as goal
 
 pub returns : goal.returns

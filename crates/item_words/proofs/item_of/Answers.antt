@@ -1,5 +1,4 @@
 -- `item_words::item_of` meets its contract: by its halves. Assumes nothing.
-use borrow.Author.Rules.{rules}
 use Rattle.item_words.proofs.item_of.Goals as goal
 
 pub returns : goal.returns

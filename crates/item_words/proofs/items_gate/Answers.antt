@@ -1,19 +1,12 @@
 -- `item_words::items_gate` meets its contract: the invariant is the list read so far; each return is the chain of what was read on the way there. Assumes nothing.
-use Rattle.item_words.proofs.Reading.{Reading, reading_none, reading_more, reading_stop, reading_all, reading_word, then_tt}
+use Rattle.item_words.proofs.Reading.{reading_none, reading_more, reading_stop, reading_all, reading_word, then_tt}
 use Rattle.item_words.proofs.Full.{if_full, full_passes}
 use Rattle.items.specs.Items.{items_at}
-use Rattle.item.specs.Found.{found_element}
-use Rattle.item.specs.Item.{item_element_at}
-use Rattle.identity.specs.declared.Item.{Item}
 use Rattle.octets.proofs.Got.{number_got}
-use Rattle.octets.proofs.Chain.{past, halt, told}
-use Rattle.octets.specs.Found.{found_octet}
+use Rattle.octets.proofs.Chain.{past, halt}
 use Rattle.octets.specs.Read.{checked}
 use native.Mathlib.Omega.{arith}
-use Prim.Native.Nat.{◌+◌, ◌-◌}
-use mathlib.Core.List.{List}
 use mathlib.Core.Path.{◌∙◌, refl, ap}
-use borrow.Author.Rules.{rules}
 use Rattle.item_words.proofs.items_gate.Goals as goal
 use Rattle.item_words.proofs.items_gate.Goals.{then-is_full, else-is_full+in-Is-item_element_at}
 
@@ -37,8 +30,8 @@ returns-in-Stop-item_element_at c = halt _ (past _ _ c.in-Is.ensures (halt _ (re
 pub loop-i-preserved : goal.loop-i-preserved
 loop-i-preserved c =
     elim c.if-is_full.branch [
-      then-is_full w ↦ rw w.next-is (_, (reading_word c.loop-i.invariant.1 c.loop-i-test.true (full_passes c.args.s.now c.loop-i.next (if_full c.is_full.result w.if-is_full.true c.is_full.ensures)).1).2)
-    | else-is_full+in-Is-item_element_at w ↦ rw w.next-is (_, reading_more c.loop-i.invariant.1 _ c.loop-i-test.true w.in-Is-item_element_at.ensures)
+      | then-is_full w ↦ rw w.next-is (_, (reading_word c.loop-i.invariant.1 c.loop-i-test.true (full_passes c.args.s.now c.loop-i.next (if_full c.is_full.result w.if-is_full.true c.is_full.ensures)).1).2)
+      | else-is_full+in-Is-item_element_at w ↦ rw w.next-is (_, reading_more c.loop-i.invariant.1 _ c.loop-i-test.true w.in-Is-item_element_at.ensures)
     ]
 
 pub returns : goal.returns

@@ -1,12 +1,9 @@
 -- `item_words::items_into` meets its contract: a list that was checked is read, so that its words stand in front. Assumes nothing.
-use Prim.Native.Nat.{◌-◌}
 use native.Mathlib.Omega.{arith}
-use Rattle.octets.specs.Found.{found_gate, found_octet}
-use Rattle.octets.proofs.Chain.{halt, told}
+use Rattle.octets.proofs.Chain.{halt}
 use Rattle.octets.proofs.Got.{number_got}
 use Rattle.items.specs.Items.{items_at}
 use Rattle.item_words.proofs.Reading.{gate_stop, in_list, stopped_taking, all_taking}
-use borrow.Author.Rules.{rules}
 use Rattle.item_words.proofs.items_into.Goals as goal
 
 pub returns-in-Stop : goal.returns-in-Stop

@@ -1,12 +1,7 @@
 -- `item_words::keep_identified` meets its contract: the invariant is that the words kept of those passed stand in front, and the rest as it was. Assumes nothing.
 use mathlib.Core.Path.{refl}
-use Prim.Native.Nat.{◌-◌, ◌≤◌}
 use native.Mathlib.Omega.{arith}
-use borrow.Author.Rules.{rules}
-use lib.ListN.{take}
-use Rattle.octets.specs.Write.{Wrote}
 use Rattle.octets.proofs.Writing.{wrote_none, wrote_length}
-use Rattle.item_words.specs.Words.{identified}
 use Rattle.item_words.proofs.Written.{keep_more, kept_all}
 use Rattle.item_words.proofs.keep_identified.Goals as goal
 

@@ -1,12 +1,7 @@
-use mathlib.Core.Path.{refl}
 use Prim.Native.Nat.{◌-◌, ◌≤◌}
-use native.Mathlib.Omega.{arith}
-use borrow.Author.Rules.{rules}
 use lib.ListN.{take}
 use Rattle.octets.specs.Write.{Wrote}
-use Rattle.octets.proofs.Writing.{wrote_none, wrote_length}
 use Rattle.item_words.specs.Words.{identified}
-use Rattle.item_words.proofs.Written.{keep_more, kept_all}
 use Rattle.item_words.proofs.keep_identified.Given as goal
 
 abbrev pub invariant-loop-i : goal.invariant-loop-i

@@ -2,7 +2,6 @@
 use native.Mathlib.Omega.{arith}
 use borrow.Author.Tests.{eq-eqb, ne_eqb}
 use Rattle.octets.proofs.Writing.{wrote_none, wrote_length}
-use borrow.Author.Rules.{rules}
 use Rattle.item_words.proofs.keep_word.Goals as goal
 
 pub returns-then-w-eq0 : goal.returns-then-w-eq0

@@ -1,6 +1,5 @@
 -- `item_words::mce_by` meets its contract: by its test. Assumes nothing.
 use borrow.Author.Tests.{eq-eqb, ne_eqb}
-use borrow.Author.Rules.{rules}
 use Rattle.item_words.proofs.mce_by.Goals as goal
 
 pub returns-then-n-eq0 : goal.returns-then-n-eq0

@@ -2,7 +2,6 @@
 use mathlib.Core.Path.{ap, sym}
 use native.Mathlib.Omega.{arith}
 use Rattle.item_words.specs.Words.{mme_number}
-use borrow.Author.Rules.{rules}
 use Rattle.item_words.proofs.mme_number.Goals as goal
 
 pub returns-in-Is : goal.returns-in-Is

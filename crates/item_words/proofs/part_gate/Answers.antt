@@ -1,13 +1,10 @@
 -- `item_words::part_gate` meets its contract: each return is the chain of what was read on the way there; what is made of a list does not matter to its check. Assumes nothing.
 use mathlib.Core.Path.{◌∙◌, refl, ap}
-use Prim.Native.Nat.{◌-◌}
 use native.Mathlib.Omega.{arith}
-use Rattle.octets.specs.Found.{found_gate}
-use Rattle.octets.proofs.Chain.{past, halt, told}
+use Rattle.octets.proofs.Chain.{past, halt}
 use Rattle.octets.proofs.Got.{pad_got}
 use Rattle.octets.specs.Read.{checked}
 use Rattle.item_words.proofs.Reading.{checked_on}
-use borrow.Author.Rules.{rules}
 use Rattle.item_words.proofs.part_gate.Goals as goal
 
 pub overflow_add-at : goal.overflow_add-at

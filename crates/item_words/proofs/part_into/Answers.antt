@@ -1,13 +1,11 @@
 -- `item_words::part_into` meets its contract: what the list's answer tells of the words is told of a part. Assumes nothing.
 use mathlib.Core.Path.{refl}
-use Prim.Native.Nat.{◌+◌, ◌-◌}
+use Prim.Native.Nat.{◌+◌}
 use native.Mathlib.Omega.{arith}
-use Rattle.octets.specs.Found.{found_gate}
-use Rattle.octets.proofs.Chain.{past, halt, told}
+use Rattle.octets.proofs.Chain.{past, halt}
 use Rattle.octets.proofs.Got.{pad_got}
 use Rattle.items.specs.Items.{items_at}
 use Rattle.item_words.proofs.Reading.{stopped_reset, part_taking, part_stopped}
-use borrow.Author.Rules.{rules}
 use Rattle.item_words.proofs.part_into.Goals as goal
 
 pub returns-in-Stop : goal.returns-in-Stop

@@ -2,7 +2,6 @@
 use Rattle.put_values.specs.Put.{crit_of}
 use Rattle.octets.proofs.Writing.{wrote_then}
 use Rattle.item_words.proofs.Written.{word_octets}
-use borrow.Author.Rules.{rules}
 use Rattle.item_words.proofs.put_by_octets.Goals as goal
 
 pub returns : goal.returns

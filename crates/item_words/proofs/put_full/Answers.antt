@@ -2,7 +2,6 @@
 use native.Mathlib.Omega.{arith}
 use lib.ListN.{length-set}
 use Rattle.item_words.proofs.Written.{stored_nine}
-use borrow.Author.Rules.{rules}
 use Rattle.item_words.proofs.put_full.Goals as goal
 
 pub bounds-room-at-2 : goal.bounds-room-at-2

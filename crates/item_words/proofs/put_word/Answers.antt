@@ -1,6 +1,5 @@
 -- `item_words::put_word` meets its contract: a word within the room is stored, one past its end is not. Assumes nothing.
 use Rattle.octets.proofs.Writing.{wrote_one, wrote_past}
-use borrow.Author.Rules.{rules}
 use Rattle.item_words.proofs.put_word.Goals as goal
 
 pub returns-then-at-words : goal.returns-then-at-words

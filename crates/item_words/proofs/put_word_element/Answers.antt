@@ -2,7 +2,6 @@
 use Rattle.item_words.proofs.Written.{full_octets_lem, if_nine}
 use Rattle.put_values.specs.Put.{crit_of}
 use native.Mathlib.Omega.{arith}
-use borrow.Author.Rules.{rules}
 use Rattle.item_words.proofs.put_word_element.Goals as goal
 
 pub overflow_sub-mme : goal.overflow_sub-mme

@@ -1,14 +1,11 @@
 -- `item_words::put_words` meets its contract: the invariant is the octets of the words passed. Assumes nothing.
 use mathlib.Core.Path.{◌≡◌, ◌∙◌}
-use Prim.Native.Nat.{ℕ, ◌-◌, ◌≤◌}
+use Prim.Native.Nat.{ℕ}
 use native.Mathlib.Omega.{arith}
-use borrow.Author.Rules.{rules}
-use lib.ListN.{length, take}
+use lib.ListN.{take}
 use lib.Seq.{take_all}
 use Rattle.put_values.specs.Put.{crit_of}
 use Rattle.items.specs.Written.{item_element_octets}
-use Rattle.octets.specs.Write.{Wrote}
-use Rattle.octets.specs.Many.{each_octets}
 use Rattle.octets.proofs.Writing.{wrote_none, wrote_then, wrote_length}
 use Rattle.octets.proofs.EachWritten.{wrote_more}
 use Rattle.item_words.specs.Words.{item_of}

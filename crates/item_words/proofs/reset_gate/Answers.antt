@@ -1,12 +1,10 @@
 -- `item_words::reset_gate` meets its contract: each return is the chain of what was read on the way there. Assumes nothing.
 use mathlib.Core.Path.{◌∙◌, sym, ap}
-use Prim.Native.Nat.{◌-◌}
 use Rattle.octets.specs.Read.{got, checked}
-use Rattle.octets.specs.Found.{found_gate, found_flag}
+use Rattle.octets.specs.Found.{found_flag}
 use Rattle.octets.proofs.Chain.{past, halt, told}
 use Rattle.items.specs.Items.{reset_at}
 use Rattle.item_words.proofs.Reading.{reset_by_lem}
-use borrow.Author.Rules.{rules}
 use Rattle.item_words.proofs.reset_gate.Goals as goal
 
 pub returns-in-Stop : goal.returns-in-Stop

@@ -1,13 +1,11 @@
 -- `item_words::reset_into` meets its contract: the flag decides which of the two stands there. Assumes nothing.
 use mathlib.Core.Path.{◌∙◌, sym, ap, subst}
-use Prim.Native.Nat.{◌-◌}
 use Rattle.octets.specs.Read.{Read, got}
-use Rattle.octets.specs.Found.{found_gate, found_flag}
+use Rattle.octets.specs.Found.{found_flag}
 use Rattle.octets.proofs.Chain.{past, halt, told}
 use Rattle.items.specs.Items.{ResetType, reset_at}
 use Rattle.item_words.specs.Taken.{ResetTaking}
 use Rattle.item_words.proofs.Reading.{reset_by_lem, stopped_reset}
-use borrow.Author.Rules.{rules}
 use Rattle.item_words.proofs.reset_into.Goals as goal
 
 pub returns-in-Stop : goal.returns-in-Stop

@@ -1,13 +1,10 @@
 -- `item_words::whole_gate` meets its contract: each return is the chain of what was read on the way there. Assumes nothing.
 use mathlib.Core.Path.{◌∙◌, refl, ap}
-use Prim.Native.Nat.{◌-◌}
 use native.Mathlib.Omega.{arith}
-use Rattle.octets.specs.Found.{found_gate}
-use Rattle.octets.proofs.Chain.{past, halt, told}
+use Rattle.octets.proofs.Chain.{past, halt}
 use Rattle.octets.proofs.Got.{plain_got}
 use Rattle.octets.specs.Read.{checked}
 use Rattle.item_words.proofs.Reading.{then_tt}
-use borrow.Author.Rules.{rules}
 use Rattle.item_words.proofs.whole_gate.Goals as goal
 
 pub returns-in-Stop : goal.returns-in-Stop

@@ -1,15 +1,11 @@
 -- `item_words::whole_into` meets its contract: what passes the check is the whole interface. Assumes nothing.
 use mathlib.Core.Path.{refl, subst}
-use Prim.Native.Nat.{◌-◌}
 use Rattle.octets.specs.Read.{Read}
-use Rattle.octets.specs.Found.{found_gate}
-use Rattle.octets.proofs.Chain.{told}
 use Rattle.items.specs.Items.{ResetType, chosen_reset_at}
 use mathlib.Core.Bool.{false}
 use Rattle.item_words.specs.Taken.{ResetTaking}
 use Rattle.item_words.specs.declared.ResetTaken.TheVariants as reset_taken
 use Rattle.item_words.proofs.Reading.{gate_stop, stopped_reset, whole_read}
-use borrow.Author.Rules.{rules}
 use Rattle.item_words.proofs.whole_into.Goals as goal
 
 pub returns-in-Pass : goal.returns-in-Pass

@@ -1,11 +1,8 @@
 -- `item_words::word_element_at` meets its contract: a full item is read as it stands, any other by its reader. Assumes nothing.
 use Rattle.item_words.proofs.Full.{if_full}
 use Rattle.item_words.specs.Taken.{worded}
-use Rattle.item.specs.Found.{found_element}
-use Rattle.octets.proofs.Chain.{told}
 use native.Mathlib.Omega.{arith}
 use mathlib.Core.Path.{ap}
-use borrow.Author.Rules.{rules}
 use Rattle.item_words.proofs.word_element_at.Goals as goal
 
 pub full_word-requires : goal.full_word-requires

@@ -1,7 +1,6 @@
 -- `item_words::word_size` meets its contract: nine octets, less two for each identity that is not there. Assumes nothing.
 use mathlib.Core.Path.{◌∙◌}
 use Rattle.item_words.proofs.Written.{word_length}
-use borrow.Author.Rules.{rules}
 use Rattle.item_words.proofs.word_size.Goals as goal
 
 pub returns : goal.returns

@@ -1,19 +1,13 @@
 -- `item_words::words_from` meets its contract: the invariant is the list read so far, whose words stand in front. Assumes nothing.
 use mathlib.Core.Path.{subst}
-use mathlib.Core.List.{List, map}
-use Prim.Native.Nat.{◌-◌}
+use mathlib.Core.List.{List}
 use native.Mathlib.Omega.{arith}
-use borrow.Author.Rules.{rules}
 use Rattle.octets.specs.Read.{Read}
 use Rattle.octets.specs.Many.{Part}
-use Rattle.octets.proofs.Chain.{told}
 use Rattle.identity.specs.declared.Item.{Item}
-use Rattle.item.specs.Item.{item_element_at}
-use Rattle.octets.specs.Write.{Wrote}
 use Rattle.octets.proofs.Writing.{wrote_none, wrote_then, wrote_length}
-use Rattle.item_words.specs.Words.{word_of}
-use Rattle.item_words.specs.Taken.{found_word, Filling}
-use Rattle.item_words.proofs.Reading.{Reading, reading_none, reading_stop, reading_all, reading_word, worded_stop, words_more}
+use Rattle.item_words.specs.Taken.{Filling}
+use Rattle.item_words.proofs.Reading.{reading_none, reading_stop, reading_all, reading_word, worded_stop, words_more}
 use Rattle.item_words.proofs.words_from.Goals as goal
 
 pub loop-i-init : goal.loop-i-init

@@ -1,10 +1,8 @@
 -- `item_words::words_size` meets its contract: the invariant is the octets of the words passed, at most nine of each. Assumes nothing.
-use Prim.Native.Nat.{◌+◌, ◌*◌, ◌-◌, ◌≤◌}
 use native.Mathlib.Omega.{arith}
 use mathlib.Core.Path.{refl}
-use borrow.Author.Rules.{rules}
-use lib.ListN.{length, get_or}
-use Rattle.item_words.proofs.Written.{WordsSized, sized_word, sized_words, word_small}
+use lib.ListN.{get_or}
+use Rattle.item_words.proofs.Written.{sized_word, sized_words, word_small}
 use Rattle.item_words.proofs.words_size.Goals as goal
 
 pub loop-i-init : goal.loop-i-init

@@ -1,9 +1,6 @@
 use Prim.Native.Nat.{◌+◌, ◌*◌, ◌-◌, ◌≤◌}
-use native.Mathlib.Omega.{arith}
-use mathlib.Core.Path.{refl}
-use borrow.Author.Rules.{rules}
-use lib.ListN.{length, get_or}
-use Rattle.item_words.proofs.Written.{WordsSized, sized_word, sized_words, word_small}
+use lib.ListN.{length}
+use Rattle.item_words.proofs.Written.{WordsSized}
 use Rattle.item_words.proofs.words_size.Given as goal
 
 abbrev pub invariant-loop-i : goal.invariant-loop-i

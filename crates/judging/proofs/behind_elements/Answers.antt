@@ -1,13 +1,10 @@
 -- `judging::behind_elements` meets its contract. Assumes nothing.
-use borrow.Author.Tests.{not-true, not-false}
 use native.Mathlib.Omega.{arith}
 use mathlib.Core.Path.{refl}
-use Rattle.octets.specs.Found.{found_two}
-use Rattle.octets.proofs.Chain.{told, past, halt}
+use Rattle.octets.proofs.Chain.{past, halt}
 use Rattle.octets.proofs.Got.{below_got}
 use Rattle.elements.specs.Judge.{extensions_at}
 use Rattle.judging.proofs.BehindLaws.{follows_as, follows_stop, follows_none}
-use borrow.Author.Rules.{rules}
 use Rattle.judging.proofs.behind_elements.Goals as goal
 
 pub returns-then-not-container : goal.returns-then-not-container

@@ -1,9 +1,6 @@
 -- `judging::extensions` meets its contract. The loop's invariant: the extensions passed are counted. Assumes nothing.
-use borrow.Author.Rules.{rules}
 use native.Mathlib.Omega.{arith}
-use Rattle.octets.proofs.Chain.{told}
-use Rattle.envelopes.specs.Envelope.{found_envelope}
-use Rattle.judging.proofs.BehindLaws.{Passing, passing_start, passing_cut, passing_more, passing_all}
+use Rattle.judging.proofs.BehindLaws.{passing_start, passing_cut, passing_more, passing_all}
 use Rattle.judging.proofs.extensions.Goals as goal
 
 pub loop-left-init : goal.loop-left-init

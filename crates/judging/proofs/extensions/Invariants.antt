@@ -1,8 +1,4 @@
-use borrow.Author.Rules.{rules}
-use native.Mathlib.Omega.{arith}
-use Rattle.octets.proofs.Chain.{told}
-use Rattle.envelopes.specs.Envelope.{found_envelope}
-use Rattle.judging.proofs.BehindLaws.{Passing, passing_start, passing_cut, passing_more, passing_all}
+use Rattle.judging.proofs.BehindLaws.{Passing}
 use Rattle.judging.proofs.extensions.Given as goal
 
 abbrev pub invariant-loop-left : goal.invariant-loop-left

@@ -1,11 +1,9 @@
 -- `judging::is_known` meets its contract. The loop's invariant: the id is found among the rows left, counted from where the loop stands. Assumes nothing.
-use borrow.Author.Rules.{rules}
-use mathlib.Core.Path.{◌≡◌, sym}
-use Prim.Native.Nat.{◌+◌, ◌≤◌, ◌-◌}
+use mathlib.Core.Path.{sym}
 use native.Mathlib.Omega.{arith}
 use native.Mathlib.Nat.{zero-add}
 use borrow.Author.Tests.{lt-ltb, le-ltb}
-use lib.ListN.{drop, length}
+use lib.ListN.{length}
 use Rattle.rows.specs.Table.{rows_in, find}
 use Rattle.rows.proofs.TableLaws.{row_here, row_past, ended}
 use Rattle.judging.proofs.is_known.Goals as goal

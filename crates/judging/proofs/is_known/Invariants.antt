@@ -1,12 +1,7 @@
-use borrow.Author.Rules.{rules}
-use mathlib.Core.Path.{◌≡◌, sym}
+use mathlib.Core.Path.{◌≡◌}
 use Prim.Native.Nat.{◌+◌, ◌≤◌, ◌-◌}
-use native.Mathlib.Omega.{arith}
-use native.Mathlib.Nat.{zero-add}
-use borrow.Author.Tests.{lt-ltb, le-ltb}
 use lib.ListN.{drop, length}
 use Rattle.rows.specs.Table.{rows_in, find}
-use Rattle.rows.proofs.TableLaws.{row_here, row_past, ended}
 use Rattle.judging.proofs.is_known.Given as goal
 
 abbrev pub invariant-loop-k : goal.invariant-loop-k

@@ -2,7 +2,6 @@
 use Rattle.octets.specs.Found.{found_gate}
 use Rattle.octets.proofs.Chain.{told}
 use Rattle.kinds.proofs.Laws.{carried}
-use borrow.Author.Rules.{rules}
 use Rattle.judging.proofs.is_legible.Goals as goal
 
 pub returns-in-Carried : goal.returns-in-Carried

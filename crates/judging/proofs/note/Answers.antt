@@ -1,7 +1,6 @@
 -- `judging::note` meets its contract. The word is put where the entry is listed, and only below 256. Assumes nothing.
 use borrow.Author.Rules.{rules}
 use mathlib.Core.Path.{◌∙◌, sym}
-use borrow.Author.Tests.{not-true, not-false}
 use Rattle.judging.proofs.TallyLaws.{in_room}
 use Rattle.judging.proofs.note.Goals as goal
 

@@ -1,13 +1,9 @@
 -- `judging::note_extensions` meets its contract. An extension is an unknown element of no table. Assumes nothing.
-use borrow.Author.Tests.{not-true, not-false}
 use native.Mathlib.Omega.{arith}
-use Rattle.octets.specs.Found.{found_two}
-use Rattle.octets.proofs.Chain.{told, halt}
+use Rattle.octets.proofs.Chain.{halt}
 use Rattle.octets.proofs.Got.{below_got}
 use Rattle.rows.specs.Table.{rows_in}
-use Rattle.envelopes.specs.Envelope.{found_end}
 use Rattle.judging.proofs.NotedLaws.{extensions_none, extensions_stop, extensions_cut, extensions_some}
-use borrow.Author.Rules.{rules}
 use Rattle.judging.proofs.note_extensions.Goals as goal
 
 pub returns-then-not-container : goal.returns-then-not-container

@@ -1,13 +1,12 @@
 -- `judging::note_missing` meets its contract. The loop's invariant: the rows passed that have no value are noted behind what was. Assumes nothing.
-use borrow.Author.Rules.{rules}
 use borrow.Author.Tests.{not-true, not-false}
-use Prim.Native.Nat.{◌<◌, ◌-◌}
+use Prim.Native.Nat.{◌<◌}
 use native.Mathlib.Omega.{arith}
 use lib.ListN.{length}
 use Rattle.places.specs.Places.{spans_in}
 use Rattle.places.proofs.Laws.{pairs_length}
 use Rattle.rows.specs.Table.{rows_in}
-use Rattle.judging.proofs.NotedLaws.{Without, without_none, without_present, without_optional, without_more, without_all}
+use Rattle.judging.proofs.NotedLaws.{without_none, without_present, without_optional, without_more, without_all}
 use Rattle.judging.proofs.note_missing.Goals as goal
 
 pub loop-k-init : goal.loop-k-init

@@ -1,12 +1,8 @@
-use borrow.Author.Rules.{rules}
-use borrow.Author.Tests.{not-true, not-false}
-use Prim.Native.Nat.{◌<◌, ◌-◌}
-use native.Mathlib.Omega.{arith}
+use Prim.Native.Nat.{◌-◌}
 use lib.ListN.{length}
 use Rattle.places.specs.Places.{spans_in}
-use Rattle.places.proofs.Laws.{pairs_length}
 use Rattle.rows.specs.Table.{rows_in}
-use Rattle.judging.proofs.NotedLaws.{Without, without_none, without_present, without_optional, without_more, without_all}
+use Rattle.judging.proofs.NotedLaws.{Without}
 use Rattle.judging.proofs.note_missing.Given as goal
 
 abbrev pub invariant-loop-k : goal.invariant-loop-k

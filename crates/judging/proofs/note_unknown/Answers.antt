@@ -1,11 +1,7 @@
 -- `judging::note_unknown` meets its contract. The loop's invariant: the unknown ones of the elements passed are noted. Assumes nothing.
-use borrow.Author.Rules.{rules}
 use mathlib.Core.Path.{◌∙◌, sym}
 use native.Mathlib.Omega.{arith}
-use Rattle.octets.proofs.Chain.{told}
-use Rattle.rows.specs.Table.{rows_in}
-use Rattle.envelopes.specs.Envelope.{found_envelope}
-use Rattle.judging.proofs.NotedLaws.{Unknowns, unknowns_none, unknowns_known, unknowns_more, unknowns_all, unknowns_cut}
+use Rattle.judging.proofs.NotedLaws.{unknowns_none, unknowns_known, unknowns_more, unknowns_all, unknowns_cut}
 use Rattle.judging.proofs.note_unknown.Goals as goal
 
 pub loop-left-init : goal.loop-left-init

@@ -3,9 +3,7 @@ use mathlib.Core.Path.{◌≡◌}
 use native.Mathlib.Omega.{arith}
 use lib.ListN.{length, length-take}
 use Rattle.lists.proofs.Slices.{length_of}
-use Rattle.octets.proofs.Chain.{told}
 use Rattle.rows.specs.Table.{rows_in}
-use Rattle.frames.specs.Frame.{found_count}
 use Rattle.judging.proofs.OpenedLaws.{count_in}
 use Rattle.judging.proofs.FrontLaws.{none_noted, stop_noted, some_front, some_all}
 use borrow.Author.Rules.{rules}

@@ -1,11 +1,9 @@
 -- `judging::opened_at` meets its contract. How the message opens is read, and then the elements behind it. Assumes nothing.
 use mathlib.Core.Path.{refl}
 use native.Mathlib.Omega.{arith}
-use Rattle.octets.proofs.Chain.{past, halt, told}
-use Rattle.frames.specs.Frame.{found_count}
+use Rattle.octets.proofs.Chain.{past, halt}
 use Rattle.verdicts.specs.Verdict.{opened_at}
 use Rattle.judging.proofs.OpenedLaws.{count_in, opens_as}
-use borrow.Author.Rules.{rules}
 use Rattle.judging.proofs.opened_at.Goals as goal
 
 pub overflow_add-from : goal.overflow_add-from

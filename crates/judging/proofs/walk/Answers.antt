@@ -1,8 +1,6 @@
 -- `judging::walk` meets its contract. The outer loop's invariant is a Step: the elements done, and what the definitions make of the rest. The inner loop keeps it, with the element that was read, while its id is sought among the rows. Assumes nothing.
-use borrow.Author.Rules.{rules}
-use borrow.Author.Tests.{not-true, not-false}
-use mathlib.Core.Path.{◌≡◌, sym, refl}
-use Prim.Native.Nat.{◌≤◌, ◌<◌, ◌-◌}
+use mathlib.Core.Path.{sym, refl}
+use Prim.Native.Nat.{◌<◌}
 use native.Mathlib.Omega.{arith}
 use native.Mathlib.Nat.{zero-add}
 use lib.ListN.{length}
@@ -12,7 +10,7 @@ use Rattle.rows.specs.Table.{rows_in}
 use Rattle.envelopes.specs.Envelope.{found_envelope}
 use Rattle.envelopes.proofs.ScanLaws.{envelope_in}
 use Rattle.judging.specs.Judging.{tally_of}
-use Rattle.judging.proofs.StepLaws.{Step, Sought, sought_past, step_start, step_known, step_unknown, walk_end, walk_cut, walk_bad, walk_misplaced}
+use Rattle.judging.proofs.StepLaws.{sought_past, step_start, step_known, step_unknown, walk_end, walk_cut, walk_bad, walk_misplaced}
 use Rattle.judging.proofs.walk.Goals as goal
 
 pub walk-init : goal.walk-init

@@ -1,17 +1,8 @@
-use borrow.Author.Rules.{rules}
-use borrow.Author.Tests.{not-true, not-false}
-use mathlib.Core.Path.{◌≡◌, sym, refl}
-use Prim.Native.Nat.{◌≤◌, ◌<◌, ◌-◌}
-use native.Mathlib.Omega.{arith}
-use native.Mathlib.Nat.{zero-add}
+use mathlib.Core.Path.{◌≡◌}
+use Prim.Native.Nat.{◌≤◌, ◌-◌}
 use lib.ListN.{length}
-use lib.Seq.{length-take-le}
-use Rattle.octets.proofs.Chain.{told}
 use Rattle.rows.specs.Table.{rows_in}
-use Rattle.envelopes.specs.Envelope.{found_envelope}
-use Rattle.envelopes.proofs.ScanLaws.{envelope_in}
-use Rattle.judging.specs.Judging.{tally_of}
-use Rattle.judging.proofs.StepLaws.{Step, Sought, sought_past, step_start, step_known, step_unknown, walk_end, walk_cut, walk_bad, walk_misplaced}
+use Rattle.judging.proofs.StepLaws.{Step, Sought}
 use Rattle.judging.proofs.walk.Given as goal
 
 abbrev pub invariant-loop-k : goal.invariant-loop-k

@@ -1,13 +1,12 @@
 -- `judging::with_missing` meets its contract. The loop's invariant: the tally counts what it did, and the rows passed that have no value. Assumes nothing.
-use borrow.Author.Rules.{rules}
 use borrow.Author.Tests.{not-true, not-false}
-use Prim.Native.Nat.{◌≤◌, ◌<◌, ◌-◌}
+use Prim.Native.Nat.{◌<◌}
 use native.Mathlib.Omega.{arith}
 use lib.ListN.{length}
 use Rattle.places.specs.Places.{spans_in}
 use Rattle.places.proofs.Laws.{pairs_length}
 use Rattle.rows.specs.Table.{rows_in}
-use Rattle.judging.proofs.TallyLaws.{Lacking, lacking_none, lacking_all, lacking_present, lacking_optional, lacking_more}
+use Rattle.judging.proofs.TallyLaws.{lacking_none, lacking_all, lacking_present, lacking_optional, lacking_more}
 use Rattle.judging.proofs.with_missing.Goals as goal
 
 pub loop-k-init : goal.loop-k-init

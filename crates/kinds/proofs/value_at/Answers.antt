@@ -1,10 +1,8 @@
 -- `kinds::value_at` meets its contract. Each return is the chain of the readings on the way to it. Assumes nothing.
 use mathlib.Core.Path.{refl}
-use Rattle.octets.proofs.Chain.{past, halt, told}
-use Rattle.values.specs.Found.{found_mme, found_mce, found_tmgi, found_one_octet, found_two_octets, found_cause}
+use Rattle.octets.proofs.Chain.{past, halt}
 use Rattle.kinds.specs.Kinds.{legible_at}
 use Rattle.kinds.proofs.Laws.{of_kind, carried}
-use borrow.Author.Rules.{rules}
 use Rattle.kinds.proofs.value_at.Goals as goal
 
 pub returns-in-Carried : goal.returns-in-Carried

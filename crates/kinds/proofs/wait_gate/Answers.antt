@@ -1,9 +1,7 @@
 -- `kinds::wait_gate` meets its contract. Each return is the chain of the readings on the way to it. Assumes nothing.
 use mathlib.Core.Path.{refl}
-use Rattle.octets.proofs.Chain.{past, halt, told}
-use Rattle.values.specs.Found.{found_wait}
+use Rattle.octets.proofs.Chain.{past, halt}
 use Rattle.kinds.specs.Kinds.{legible_at}
-use borrow.Author.Rules.{rules}
 use Rattle.kinds.proofs.wait_gate.Goals as goal
 
 pub returns-in-Is : goal.returns-in-Is

@@ -1,12 +1,9 @@
 -- No row passed is named.
-use Prim.Native.Nat.{◌-◌}
 use mathlib.Core.Path.{sym}
 use native.Mathlib.Omega.{arith}
-use lib.ListN.{length, drop}
-use Rattle.table.specs.Table.{names}
-use Rattle.lent.specs.Lent.{rows_of}
+use lib.ListN.{drop}
 use Rattle.lent.proofs.Rows.{length_rows}
-use Rattle.lent.proofs.ByRows.{NotTo, next_row, not_yet, not_more, not_found, not_all}
+use Rattle.lent.proofs.ByRows.{next_row, not_yet, not_more, not_found, not_all}
 use Rattle.lent.proofs.held_in.Goals as goal
 
 pub loop-i-init : goal.loop-i-init

@@ -1,7 +1,6 @@
 -- Each identity by itself, and then both.
 use mathlib.Core.Path.{◌∙◌}
 use native.Mathlib.Omega.{arith}
-use borrow.Author.Rules.{rules}
 use lib.ListN.{drop}
 use Rattle.identity.specs.declared.Mme.TheVariants as mme
 use Rattle.identity.specs.declared.Mce.TheVariants as mce

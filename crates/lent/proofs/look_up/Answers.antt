@@ -1,8 +1,6 @@
 -- Each test that fails would pass for a table; where all pass, the octets are those of the rows read, and what is held of these is held.
 use mathlib.Core.Path.{◌≡◌, sym, ◌∙◌}
 use native.Mathlib.Omega.{arith}
-use borrow.Author.Rules.{rules}
-use borrow.Author.Tests.{not-true, not-false}
 use Rattle.octets.specs.Field.{value_at}
 use Rattle.lent.proofs.Reading.{not_long, too_many, not_zeros, right_or_not}
 use Rattle.lent.proofs.look_up.Goals as goal

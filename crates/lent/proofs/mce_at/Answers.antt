@@ -1,7 +1,6 @@
 -- Two octets of the row.
 use mathlib.Core.Path.{◌≡◌, ◌∙◌}
 use native.Mathlib.Omega.{arith}
-use borrow.Author.Rules.{rules}
 use lib.Seq.{get_or-drop}
 use lib.ListN.{drop}
 use Rattle.octets.specs.Field.{value_at}

@@ -1,13 +1,10 @@
 -- The identities passed are all different and make up the set.
-use Prim.Native.Nat.{◌-◌}
 use mathlib.Core.Path.{refl, ap, ◌∙◌}
-use mathlib.Core.List.{map}
 use native.Mathlib.Omega.{arith}
-use borrow.Author.Rules.{rules}
 use Rattle.identity.specs.declared.MceId.{MceId}
 use Rattle.distinct.proofs.Series.{no_words, mce_word, mce_was, mce_with}
 use Rattle.lent.specs.declared.Series.TheVariants as series
-use Rattle.lent.proofs.ByRows.{SeriesTo, mce_of, series_none, series_shared, series_more, series_apart, series_holds}
+use Rattle.lent.proofs.ByRows.{mce_of, series_none, series_shared, series_more, series_apart, series_holds}
 use Rattle.lent.proofs.mces_in.Goals as goal
 
 pub loop-i-init : goal.loop-i-init

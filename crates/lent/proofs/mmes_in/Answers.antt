@@ -1,15 +1,11 @@
 -- The rows passed have good octets, and their identities are all different and make up the set.
-use Prim.Native.Nat.{◌-◌}
 use mathlib.Core.Path.{refl, ap, ◌∙◌}
 use mathlib.Core.Bool.{and-false}
-use mathlib.Core.List.{map}
 use native.Mathlib.Omega.{arith}
-use borrow.Author.Rules.{rules}
-use borrow.Author.Tests.{not-true, not-false}
 use Rattle.identity.specs.declared.MmeId.{MmeId}
 use Rattle.distinct.proofs.Series.{no_words, mme_word, mme_was, mme_with}
 use Rattle.lent.specs.declared.Series.TheVariants as series
-use Rattle.lent.proofs.ByRows.{GoodTo, good_none, good_stop, good_more, good_all, SeriesTo, mme_of, series_none, series_shared, series_more, series_apart, series_holds}
+use Rattle.lent.proofs.ByRows.{good_none, good_stop, good_more, good_all, mme_of, series_none, series_shared, series_more, series_apart, series_holds}
 use Rattle.lent.proofs.mmes_in.Goals as goal
 
 pub loop-i-init : goal.loop-i-init

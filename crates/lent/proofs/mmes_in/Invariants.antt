@@ -1,14 +1,7 @@
 use Prim.Native.Nat.{◌-◌}
-use mathlib.Core.Path.{refl, ap, ◌∙◌}
-use mathlib.Core.Bool.{and-false}
 use mathlib.Core.List.{map}
-use native.Mathlib.Omega.{arith}
-use borrow.Author.Rules.{rules}
-use borrow.Author.Tests.{not-true, not-false}
-use Rattle.identity.specs.declared.MmeId.{MmeId}
-use Rattle.distinct.proofs.Series.{no_words, mme_word, mme_was, mme_with}
-use Rattle.lent.specs.declared.Series.TheVariants as series
-use Rattle.lent.proofs.ByRows.{GoodTo, good_none, good_stop, good_more, good_all, SeriesTo, mme_of, series_none, series_shared, series_more, series_apart, series_holds}
+use Rattle.distinct.proofs.Series.{mme_word}
+use Rattle.lent.proofs.ByRows.{GoodTo, SeriesTo, mme_of}
 use Rattle.lent.proofs.mmes_in.Given as goal
 
 abbrev pub invariant-loop-i : goal.invariant-loop-i

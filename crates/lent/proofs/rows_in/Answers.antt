@@ -1,11 +1,10 @@
 -- The rows passed stand in the array; none stands in the rest.
 -- a row stands only in what is as long as a table
-use Prim.Native.Nat.{ℕ, min, ◌-◌, ◌≤◌, ◌<◌}
+use Prim.Native.Nat.{ℕ, min, ◌≤◌, ◌<◌}
 use mathlib.Core.Path.{◌≡◌, ◌∙◌, refl, sym, ap}
 use mathlib.Core.Bool.{Bool, true, false}
 use mathlib.Core.List.{List, []}
 use native.Mathlib.Omega.{arith}
-use borrow.Author.Rules.{rules}
 use borrow.Author.Tests.{eqb-true}
 use lib.Dec.{eqb}
 use lib.ListN.{length, drop}
@@ -13,7 +12,7 @@ use Rattle.lists.specs.Lists.{pick}
 use Rattle.table.specs.Table.{table_holding}
 use Rattle.table.specs.declared.Table.{Table}
 use Rattle.lent.specs.Lent.{rows_of, room, first_rows}
-use Rattle.lent.proofs.ByRows.{InRows, next_row, in_none, in_more, in_all}
+use Rattle.lent.proofs.ByRows.{next_row, in_none, in_more, in_all}
 use Rattle.lent.proofs.rows_in.Goals as goal
 
 there : (n : ℕ) (s : List ℕ) {k i : ℕ} → k ≡ pick (room s) (min n 256) 0 → i < k → (length s ≡ 3074) × (k ≤ 256)

@@ -1,17 +1,7 @@
-use Prim.Native.Nat.{ℕ, min, ◌-◌, ◌≤◌, ◌<◌}
-use mathlib.Core.Path.{◌≡◌, ◌∙◌, refl, sym, ap}
-use mathlib.Core.Bool.{Bool, true, false}
-use mathlib.Core.List.{List, []}
-use native.Mathlib.Omega.{arith}
-use borrow.Author.Rules.{rules}
-use borrow.Author.Tests.{eqb-true}
-use lib.Dec.{eqb}
-use lib.ListN.{length, drop}
-use Rattle.lists.specs.Lists.{pick}
-use Rattle.table.specs.Table.{table_holding}
-use Rattle.table.specs.declared.Table.{Table}
-use Rattle.lent.specs.Lent.{rows_of, room, first_rows}
-use Rattle.lent.proofs.ByRows.{InRows, next_row, in_none, in_more, in_all}
+use Prim.Native.Nat.{◌-◌}
+use lib.ListN.{drop}
+use Rattle.lent.specs.Lent.{rows_of}
+use Rattle.lent.proofs.ByRows.{InRows}
 use Rattle.lent.proofs.rows_in.Given as goal
 
 abbrev pub invariant-loop-i : goal.invariant-loop-i

@@ -1,6 +1,5 @@
 -- By the cases of the flag.
 use borrow.Author.Tests.{eq-eqb, ne_eqb}
-use borrow.Author.Rules.{rules}
 use lib.Seq.{get_or-drop}
 use Rattle.lent.proofs.session_good.Goals as goal
 

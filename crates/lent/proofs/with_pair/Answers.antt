@@ -1,6 +1,5 @@
 -- A row that has both identities is one that is named; there is none where neither is held.
 use mathlib.Core.Path.{sym, ◌∙◌}
-use borrow.Author.Rules.{rules}
 use lib.ListN.{drop}
 use Rattle.lent.specs.Lent.{rows_of}
 use Rattle.lent.specs.declared.Looked.TheVariants as looked

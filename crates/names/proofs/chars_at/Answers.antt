@@ -1,9 +1,5 @@
 -- `names::chars_at` meets its contract: the loop's invariant: what is left of the characters is read as all of them are. Assumes nothing.
-use borrow.Author.Tests.{not-true, not-false}
-use borrow.Author.Rules.{rules}
-use mathlib.Core.Path.{◌≡◌, ◌∙◌, refl, sym}
-use Prim.Native.Nat.{◌-◌}
-use Rattle.names.specs.Names.{chars_at}
+use mathlib.Core.Path.{◌∙◌, refl, sym}
 use Rattle.names.proofs.Chars.{chars_none, chars_more, chars_stop}
 use Rattle.names.proofs.chars_at.Goals as goal
 

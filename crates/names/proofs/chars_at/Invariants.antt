@@ -1,9 +1,6 @@
-use borrow.Author.Tests.{not-true, not-false}
-use borrow.Author.Rules.{rules}
-use mathlib.Core.Path.{◌≡◌, ◌∙◌, refl, sym}
+use mathlib.Core.Path.{◌≡◌}
 use Prim.Native.Nat.{◌-◌}
 use Rattle.names.specs.Names.{chars_at}
-use Rattle.names.proofs.Chars.{chars_none, chars_more, chars_stop}
 use Rattle.names.proofs.chars_at.Given as goal
 
 abbrev pub invariant-loop-i : goal.invariant-loop-i

@@ -1,8 +1,5 @@
 -- `names::is_name` meets its contract: each test is one of the definition's, and the characters are read exactly if each is printable. Assumes nothing.
-use borrow.Author.Rules.{rules}
 use mathlib.Core.Path.{◌∙◌, ap}
-use Rattle.octets.specs.Found.{found_gate}
-use Rattle.octets.proofs.Chain.{told}
 use Rattle.names.proofs.Chars.{passes}
 use Rattle.names.proofs.Allowed.{allowed_out, allowed_none, allowed_over, allowed_by}
 use Rattle.names.proofs.is_name.Goals as goal

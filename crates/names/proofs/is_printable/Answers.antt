@@ -1,6 +1,5 @@
 -- `names::is_printable` meets its contract: the four cases of the definition. Assumes nothing.
 use Rattle.names.specs.Names.{printable}
-use borrow.Author.Rules.{rules}
 use Rattle.names.proofs.is_printable.Goals as goal
 
 pub returns : goal.returns

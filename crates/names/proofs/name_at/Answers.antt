@@ -1,10 +1,9 @@
 -- `names::name_at` meets its contract: each return is the chain of what was read on the way there; a place fits since the size does not reach past the end. Assumes nothing.
 -- as many characters as were said
-use borrow.Author.Rules.{rules}
 use mathlib.Core.Path.{◌≡◌, ◌∙◌}
 use Prim.Native.Nat.{◌+◌, ◌-◌}
 use native.Mathlib.Omega.{arith}
-use Rattle.octets.specs.Found.{found_gate, found_octet}
+use Rattle.octets.specs.Found.{found_gate}
 use Rattle.octets.proofs.Chain.{past, halt, told}
 use Rattle.octets.proofs.Got.{plain_got}
 use Rattle.names.specs.Names.{chars_at, name_at}

@@ -2,13 +2,11 @@
 use mathlib.Core.Path.{◌≡◌, ◌∙◌, sym}
 use mathlib.Core.Bool.{true}
 use native.Mathlib.Omega.{arith}
-use borrow.Author.Tests.{not-true, not-false}
 use lib.Seq.{slice, length-slice}
 use Rattle.octets.proofs.Writing.{wrote_none}
 use Rattle.names.specs.Names.{name_allowed, part_in}
 use Rattle.names.proofs.Allowed.{part_in_lem, allowed_part}
 use Rattle.names.proofs.Put.{name_octets_lem, no_octets, wrote_name}
-use borrow.Author.Rules.{rules}
 use Rattle.names.proofs.put_name.Goals as goal
 
 pub returns-then-not-is_name : goal.returns-then-not-is_name

@@ -8,7 +8,6 @@ use lib.Bits.{bit_or}
 use mathlib.Core.Path.{◌≡◌}
 use Rattle.names.specs.Names.{across_at, size_at}
 use Rattle.names.proofs.Size.{across_or}
-use borrow.Author.Rules.{rules}
 use Rattle.names.proofs.size_at.Goals as goal
 
 pub returns-then-s-at-lt2 : goal.returns-then-s-at-lt2

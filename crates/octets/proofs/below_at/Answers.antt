@@ -1,9 +1,7 @@
 -- `octets::below_at` meets its contract. Each return is the chain of the readings on the way to it. Assumes nothing.
 use borrow.Author.Tests.{lt-ltb, le-ltb}
 use Rattle.octets.specs.Field.{below_at}
-use Rattle.octets.specs.Found.{found_two}
-use Rattle.octets.proofs.Chain.{past, halt, told}
-use borrow.Author.Rules.{rules}
+use Rattle.octets.proofs.Chain.{past, halt}
 use Rattle.octets.proofs.below_at.Goals as goal
 
 pub returns-then-v-n : goal.returns-then-v-n

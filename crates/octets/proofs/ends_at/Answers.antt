@@ -1,7 +1,6 @@
 -- `octets::ends_at` meets its contract. Each return is the case of the definition that the tests on the way single out. Assumes nothing.
 use borrow.Author.Tests.{lt-ltb, le-ltb}
 use Rattle.octets.specs.Field.{ends_at}
-use borrow.Author.Rules.{rules}
 use Rattle.octets.proofs.ends_at.Goals as goal
 
 pub returns-then-at-s : goal.returns-then-at-s

@@ -4,7 +4,6 @@ use native.Mathlib.Omega.{arith}
 use Prim.Native.Nat.{◌+◌}
 use lib.ListN.{length}
 use Rattle.octets.specs.Field.{flag_at}
-use borrow.Author.Rules.{rules}
 use Rattle.octets.proofs.flag_at.Goals as goal
 
 pub returns-then-s-at : goal.returns-then-s-at

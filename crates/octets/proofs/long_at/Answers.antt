@@ -9,7 +9,6 @@ use mathlib.Core.Path.{◌≡◌, ◌∙◌}
 use Rattle.packed.specs.Packed.{bits_of}
 use Rattle.octets.specs.Field.{long_at, long_length_at}
 use Rattle.packed.proofs.Packed.{two_octets_lem, six_small}
-use borrow.Author.Rules.{rules}
 use Rattle.octets.proofs.long_at.Goals as goal
 
 pub returns-then-s-at-lt2 : goal.returns-then-s-at-lt2

@@ -6,7 +6,6 @@ use lib.ListN.{length}
 use mathlib.Core.Path.{ap}
 use Rattle.octets.specs.Read.{got}
 use Rattle.octets.specs.Field.{number_at}
-use borrow.Author.Rules.{rules}
 use Rattle.octets.proofs.octet_at.Goals as goal
 
 pub returns-then-s-at : goal.returns-then-s-at

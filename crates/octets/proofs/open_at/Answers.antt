@@ -5,10 +5,8 @@ use native.Mathlib.Omega.{arith}
 use Prim.Native.Nat.{◌+◌, ◌≤◌}
 use lib.ListN.{length}
 use Rattle.octets.specs.Field.{open_at}
-use Rattle.octets.specs.Found.{found_length}
-use Rattle.octets.proofs.Chain.{past, halt, told}
+use Rattle.octets.proofs.Chain.{past, halt}
 use Rattle.octets.proofs.Got.{length_got, length_in}
-use borrow.Author.Rules.{rules}
 use Rattle.octets.proofs.open_at.Goals as goal
 
 pub returns-then-count-eq0 : goal.returns-then-count-eq0

@@ -4,7 +4,6 @@ use native.Mathlib.Omega.{arith}
 use Prim.Native.Nat.{◌+◌}
 use lib.ListN.{length}
 use Rattle.octets.specs.Field.{pad_at}
-use borrow.Author.Rules.{rules}
 use Rattle.octets.proofs.pad_at.Goals as goal
 
 pub returns-then-b-eq0 : goal.returns-then-b-eq0

@@ -8,7 +8,6 @@ use native.Mathlib.Omega.{arith}
 use Rattle.packed.specs.Packed.{packed, packed_in, ◌bits◌, placed}
 use Rattle.packed.proofs.Packed.{together}
 use Rattle.octets.proofs.Writing.{wrote_none, wrote_then, length_short, length_long, length_over}
-use borrow.Author.Rules.{rules}
 use Rattle.octets.proofs.put_length.Goals as goal
 
 pub returns-then-n-lt128 : goal.returns-then-n-lt128

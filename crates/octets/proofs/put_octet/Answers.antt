@@ -1,6 +1,5 @@
 -- `octets::put_octet` meets its contract. Each return is the chain of the readings on the way to it. Assumes nothing.
 use Rattle.octets.proofs.Writing.{wrote_one, wrote_past}
-use borrow.Author.Rules.{rules}
 use Rattle.octets.proofs.put_octet.Goals as goal
 
 pub returns-then-at-room : goal.returns-then-at-room

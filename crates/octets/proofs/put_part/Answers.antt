@@ -1,9 +1,6 @@
 -- `octets::put_part` meets its contract. The loop's invariant: what was written is the octets passed so far, and the walk is not past the end that was asked for. Assumes nothing.
-use borrow.Author.Rules.{rules}
-use Prim.Native.Nat.{max, ◌≤◌, ◌-◌}
 use native.Mathlib.Omega.{arith}
-use lib.Seq.{slice, slice_empty}
-use Rattle.octets.specs.Write.{Wrote}
+use lib.Seq.{slice_empty}
 use Rattle.octets.proofs.Writing.{wrote_none, wrote_then, wrote_length}
 use Rattle.lists.proofs.Parts.{slice_more, slice_past, slice_stop}
 use Rattle.octets.proofs.put_part.Goals as goal

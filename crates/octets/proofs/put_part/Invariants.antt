@@ -1,10 +1,6 @@
-use borrow.Author.Rules.{rules}
 use Prim.Native.Nat.{max, ◌≤◌, ◌-◌}
-use native.Mathlib.Omega.{arith}
-use lib.Seq.{slice, slice_empty}
+use lib.Seq.{slice}
 use Rattle.octets.specs.Write.{Wrote}
-use Rattle.octets.proofs.Writing.{wrote_none, wrote_then, wrote_length}
-use Rattle.lists.proofs.Parts.{slice_more, slice_past, slice_stop}
 use Rattle.octets.proofs.put_part.Given as goal
 
 abbrev pub invariant-loop-i : goal.invariant-loop-i

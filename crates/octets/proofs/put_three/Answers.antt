@@ -1,6 +1,5 @@
 -- `octets::put_three` meets its contract: the octets one after another. Assumes nothing.
 use Rattle.octets.proofs.Writing.{wrote_then}
-use borrow.Author.Rules.{rules}
 use Rattle.octets.proofs.put_three.Goals as goal
 
 pub returns : goal.returns

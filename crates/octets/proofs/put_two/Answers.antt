@@ -1,7 +1,6 @@
 -- `octets::put_two` meets its contract. The octets are those of the writers on the way, one after another. Assumes nothing.
 use native.Mathlib.Omega.{arith}
 use Rattle.octets.proofs.Writing.{number_two, wrote_then}
-use borrow.Author.Rules.{rules}
 use Rattle.octets.proofs.put_two.Goals as goal
 
 pub returns : goal.returns

@@ -1,7 +1,5 @@
 -- Zeros stand from the place up to where the loop is.
-use Prim.Native.Nat.{◌-◌}
-use Rattle.octets.proofs.Zeros.{Cleared, cleared_none, cleared_size, cleared_more, cleared_all}
-use borrow.Author.Rules.{rules}
+use Rattle.octets.proofs.Zeros.{cleared_none, cleared_size, cleared_more, cleared_all}
 use native.Mathlib.Omega.{arith}
 use Rattle.octets.proofs.put_zeros.Goals as goal
 

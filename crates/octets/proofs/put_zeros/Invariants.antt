@@ -1,7 +1,5 @@
 use Prim.Native.Nat.{◌-◌}
-use Rattle.octets.proofs.Zeros.{Cleared, cleared_none, cleared_size, cleared_more, cleared_all}
-use borrow.Author.Rules.{rules}
-use native.Mathlib.Omega.{arith}
+use Rattle.octets.proofs.Zeros.{Cleared}
 use Rattle.octets.proofs.put_zeros.Given as goal
 
 abbrev pub invariant-loop-i : goal.invariant-loop-i

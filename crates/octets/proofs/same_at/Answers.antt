@@ -1,9 +1,7 @@
 -- `octets::same_at` meets its contract. Each return is the chain of the readings on the way to it. Assumes nothing.
 use borrow.Author.Tests.{eq-eqb, ne_eqb}
 use Rattle.octets.specs.Field.{same_at}
-use Rattle.octets.specs.Found.{found_two}
-use Rattle.octets.proofs.Chain.{past, halt, told}
-use borrow.Author.Rules.{rules}
+use Rattle.octets.proofs.Chain.{past, halt}
 use Rattle.octets.proofs.same_at.Goals as goal
 
 pub returns-then-k-v : goal.returns-then-k-v

@@ -5,7 +5,6 @@ use Prim.Native.Nat.{◌+◌, ◌≤◌}
 use lib.ListN.{length}
 use Rattle.octets.specs.Field.{string_at}
 use Rattle.octets.proofs.Stood.{slice_three}
-use borrow.Author.Rules.{rules}
 use Rattle.octets.proofs.three_at.Goals as goal
 
 pub returns-then-s-at : goal.returns-then-s-at

@@ -6,7 +6,6 @@ use Prim.Native.Nat.{◌+◌, ℕ}
 use mathlib.Core.Path.{ap}
 use Rattle.octets.specs.Read.{got}
 use Rattle.octets.specs.Field.{number_at}
-use borrow.Author.Rules.{rules}
 use Rattle.octets.proofs.two_at.Goals as goal
 
 pub returns-then-s-at : goal.returns-then-s-at

@@ -1,6 +1,5 @@
 -- `places::put_span` meets its contract. Assumes nothing.
 use borrow.Author.Tests.{lt-ltb, le-ltb}
-use borrow.Author.Rules.{rules}
 use Rattle.places.proofs.put_span.Goals as goal
 
 pub returns-then-row-lt12 : goal.returns-then-row-lt12

@@ -1,7 +1,6 @@
 -- `places::span_in` meets its contract. Assumes nothing.
 use mathlib.Core.Path.{sym}
 use Rattle.places.proofs.Laws.{pairs_at, pairs_past}
-use borrow.Author.Rules.{rules}
 use Rattle.places.proofs.span_in.Goals as goal
 
 pub returns-then-row-lt12 : goal.returns-then-row-lt12

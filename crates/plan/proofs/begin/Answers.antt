@@ -1,7 +1,6 @@
 -- `plan::begin` meets its contract: by the tests, on what the plan says. Assumes nothing.
 use native.Mathlib.Omega.{arith}
 use Rattle.plan.proofs.Steps.{begun_none, begun_long, begun_over, begun_front}
-use borrow.Author.Rules.{rules}
 use Rattle.plan.proofs.begin.Goals as goal
 
 pub returns-then-sum-gt8192 : goal.returns-then-sum-gt8192

@@ -2,7 +2,6 @@
 use native.Mathlib.Omega.{arith}
 use Prim.Native.Nat.{◌+◌}
 use Rattle.plan.proofs.Steps.{length_few}
-use borrow.Author.Rules.{rules}
 use Rattle.plan.proofs.message_size.Goals as goal
 
 pub overflow_add-result : goal.overflow_add-result

@@ -1,11 +1,9 @@
 -- `plan::plan_of` meets its contract: the loop's invariant: the plan of the first i rows, which is small. Assumes nothing.
-use borrow.Author.Rules.{rules}
 use mathlib.Core.Path.{◌≡◌, ◌∙◌, refl, ap}
-use Prim.Native.Nat.{◌≤◌, ◌-◌}
 use native.Mathlib.Omega.{arith}
 use native.Mathlib.Numerals.{add-one}
 use Rattle.plan.specs.declared.Plan.TheVariants.{Is}
-use Rattle.plan.specs.Plan.{Small, plan_to}
+use Rattle.plan.specs.Plan.{plan_to}
 use Rattle.plan.proofs.Steps.{small_more, small_step}
 use Rattle.plan.proofs.plan_of.Goals as goal
 

@@ -1,11 +1,7 @@
-use borrow.Author.Rules.{rules}
-use mathlib.Core.Path.{◌≡◌, ◌∙◌, refl, ap}
+use mathlib.Core.Path.{◌≡◌}
 use Prim.Native.Nat.{◌≤◌, ◌-◌}
-use native.Mathlib.Omega.{arith}
-use native.Mathlib.Numerals.{add-one}
 use Rattle.plan.specs.declared.Plan.TheVariants.{Is}
 use Rattle.plan.specs.Plan.{Small, plan_to}
-use Rattle.plan.proofs.Steps.{small_more, small_step}
 use Rattle.plan.proofs.plan_of.Given as goal
 
 abbrev pub invariant-loop-i : goal.invariant-loop-i

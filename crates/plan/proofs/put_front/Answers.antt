@@ -2,7 +2,6 @@
 use Rattle.octets.proofs.Writing.{wrote_then}
 use Rattle.plan.specs.Plan.{front_octets}
 use Rattle.plan.proofs.Steps.{crit_octet}
-use borrow.Author.Rules.{rules}
 use Rattle.plan.proofs.put_front.Goals as goal
 
 pub returns : goal.returns

@@ -1,7 +1,6 @@
 -- `plan::put_opening` meets its contract: the parts one after another. Assumes nothing.
 use Rattle.octets.proofs.Writing.{wrote_then}
 use Rattle.plan.proofs.Steps.{opening_same, wrote_as}
-use borrow.Author.Rules.{rules}
 use Rattle.plan.proofs.put_opening.Goals as goal
 
 pub returns : goal.returns

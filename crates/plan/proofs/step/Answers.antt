@@ -3,7 +3,6 @@ use native.Mathlib.Omega.{arith}
 use borrow.Author.Tests.{lt-ltb, le-ltb, ne_eqb}
 use Rattle.plan.specs.Plan.{step_of}
 use Rattle.plan.proofs.Steps.{length_few}
-use borrow.Author.Rules.{rules}
 use Rattle.plan.proofs.step.Goals as goal
 
 pub returns-then-mandatory : goal.returns-then-mandatory

@@ -1,6 +1,5 @@
 -- `put_diagnostics::bits_for` meets its contract: the definition goes by the same cases.
 -- Assumes nothing.
-use borrow.Author.Rules.{rules}
 use Rattle.put_diagnostics.proofs.bits_for.Goals as goal
 
 pub returns-in-Is : goal.returns-in-Is

@@ -1,7 +1,6 @@
 -- `put_diagnostics::head_size` meets its contract: the bits of the fields, in whole octets.
 -- Assumes nothing.
 use native.Mathlib.Omega.{arith}
-use borrow.Author.Rules.{rules}
 use Rattle.put_diagnostics.proofs.Sizes.{bits_le, head_size}
 use Rattle.put_diagnostics.proofs.head_size.Goals as goal
 

@@ -2,7 +2,6 @@
 -- Assumes nothing.
 use mathlib.Core.Path.{◌∙◌}
 use native.Mathlib.Omega.{arith}
-use borrow.Author.Rules.{rules}
 use borrow.Author.Tests.{not-false, not-true}
 use Rattle.put_diagnostics.proofs.Sizes.{head_small, size_no, size_over, size_yes}
 use Rattle.put_diagnostics.proofs.listed_size.Goals as goal

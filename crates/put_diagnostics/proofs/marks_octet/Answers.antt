@@ -1,6 +1,5 @@
 -- `put_diagnostics::marks_octet` meets its contract: each bit is put behind those before it.
 -- Assumes nothing.
-use borrow.Author.Rules.{rules}
 use Rattle.diagnostics.specs.Written.{marks_of}
 use Rattle.put_diagnostics.proofs.Putting.{marks_put}
 use Rattle.put_diagnostics.proofs.marks_octet.Goals as goal

@@ -1,7 +1,6 @@
 -- `put_diagnostics::put_begun` meets its contract: an octet is written if any of its bits is used.
 -- Assumes nothing.
 use borrow.Author.Tests.{eq-eqb, ne_eqb}
-use borrow.Author.Rules.{rules}
 use Rattle.octets.proofs.Writing.{wrote_none}
 use Rattle.put_diagnostics.specs.Put.{pairs_from}
 use Rattle.put_diagnostics.proofs.put_begun.Goals as goal

@@ -1,6 +1,5 @@
 -- `put_diagnostics::put_entry` meets its contract: the octet that has begun, with the criticality, is written, and then the id.
 -- Assumes nothing.
-use borrow.Author.Rules.{rules}
 use Rattle.octets.proofs.Writing.{wrote_then}
 use Rattle.put_diagnostics.proofs.put_entry.Goals as goal
 

@@ -1,6 +1,5 @@
 -- `put_diagnostics::put_last` meets its contract: one number more fills or ends the octet.
 -- Assumes nothing.
-use borrow.Author.Rules.{rules}
 use Rattle.put_diagnostics.proofs.Putting.{pairs_one}
 use Rattle.put_diagnostics.proofs.put_last.Goals as goal
 

@@ -1,6 +1,5 @@
 -- `put_diagnostics::put_listed` meets its contract: the fields before the list are put, and the list if they say that it is there.
 -- Assumes nothing.
-use borrow.Author.Rules.{rules}
 use Rattle.octets.proofs.Writing.{wrote_then}
 use Rattle.put_diagnostics.proofs.Putting.{listed_no, listed_yes, wrote_as}
 use Rattle.put_diagnostics.proofs.put_listed.Goals as goal

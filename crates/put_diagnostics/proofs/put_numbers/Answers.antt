@@ -3,7 +3,6 @@
 use Prim.Native.Nat.{◌+◌}
 use native.Mathlib.Omega.{arith}
 use borrow.Author.Tests.{lt-ltb, le-ltb}
-use borrow.Author.Rules.{rules}
 use Rattle.octets.proofs.Writing.{wrote_then}
 use Rattle.put_diagnostics.specs.Put.{pairs_from}
 use Rattle.put_diagnostics.proofs.put_numbers.Goals as goal

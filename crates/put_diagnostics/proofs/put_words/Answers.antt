@@ -2,15 +2,14 @@
 -- Assumes nothing.
 use mathlib.Core.List.{List, [], ◌++◌, map}
 use mathlib.Core.Path.{◌∙◌, ap, sym}
-use Prim.Native.Nat.{◌-◌, ◌≤◌, ℕ}
+use Prim.Native.Nat.{◌-◌, ℕ}
 use native.Mathlib.Omega.{arith}
-use borrow.Author.Rules.{rules}
-use lib.ListN.{get_or-map, length, length-map}
+use lib.ListN.{get_or-map, length-map}
 use Rattle.diagnostics.specs.Written.{entries_octets}
 use Rattle.entry_words.specs.EntryWords.{entry_by}
 use Rattle.octets.proofs.Writing.{wrote_length, wrote_then}
 use Rattle.octets.specs.Write.{number_octets}
-use Rattle.put_diagnostics.proofs.Putting.{Listing, listing_all, listing_more, listing_none, wrote_as}
+use Rattle.put_diagnostics.proofs.Putting.{listing_all, listing_more, listing_none, wrote_as}
 use Rattle.put_diagnostics.proofs.put_words.Goals as goal
 
 pub loop-i-init : goal.loop-i-init

@@ -1,14 +1,8 @@
-use mathlib.Core.List.{List, [], ◌++◌, map}
-use mathlib.Core.Path.{◌∙◌, ap, sym}
-use Prim.Native.Nat.{◌-◌, ◌≤◌, ℕ}
-use native.Mathlib.Omega.{arith}
-use borrow.Author.Rules.{rules}
-use lib.ListN.{get_or-map, length, length-map}
-use Rattle.diagnostics.specs.Written.{entries_octets}
+use mathlib.Core.List.{map}
+use Prim.Native.Nat.{◌-◌, ◌≤◌}
+use lib.ListN.{length}
 use Rattle.entry_words.specs.EntryWords.{entry_by}
-use Rattle.octets.proofs.Writing.{wrote_length, wrote_then}
-use Rattle.octets.specs.Write.{number_octets}
-use Rattle.put_diagnostics.proofs.Putting.{Listing, listing_all, listing_more, listing_none, wrote_as}
+use Rattle.put_diagnostics.proofs.Putting.{Listing}
 use Rattle.put_diagnostics.proofs.put_words.Given as goal
 
 abbrev pub invariant-loop-i : goal.invariant-loop-i

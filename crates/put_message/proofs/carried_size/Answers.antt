@@ -3,7 +3,6 @@ use mathlib.Core.Path.{ap}
 use native.Mathlib.Omega.{arith}
 use lib.ListN.{length}
 use Rattle.put_message.proofs.Sizes.{carried_in_lem, is_carried_out}
-use borrow.Author.Rules.{rules}
 use Rattle.put_message.proofs.carried_size.Goals as goal
 
 pub returns-then-end-to : goal.returns-then-end-to

@@ -1,6 +1,5 @@
 -- `put_message::cause_size` meets its contract: by the test. Assumes nothing.
 use Rattle.put_message.proofs.Sizes.{cause_size, cause_none}
-use borrow.Author.Rules.{rules}
 use Rattle.put_message.proofs.cause_size.Goals as goal
 
 pub returns-then-c-root_of : goal.returns-then-c-root_of

@@ -1,10 +1,8 @@
 -- `put_message::diagnostics_size` meets its contract: what is tested in turn says whether they have octets, and the entries count only where a list is there. Assumes nothing.
 -- the test of the triggering message, by its meanings
-use borrow.Author.Tests.{not-true, not-false}
 use native.Mathlib.Omega.{arith}
 use Rattle.put_message.proofs.Sizes.{trigger_bad, crit_bad, list_bad, diagnostics_size}
 use Rattle.put_message.proofs.Words.{entries_few}
-use borrow.Author.Rules.{rules}
 use mathlib.Core.Path.{◌≡◌, ◌∙◌, sym}
 use Rattle.rows.specs.Table.{meanings}
 use Rattle.meaning.specs.Written.{under}

@@ -1,6 +1,5 @@
 -- `put_message::head_at` meets its contract: field by field, in the record's own places. Assumes nothing.
 use Rattle.put_message.proofs.Values.{head_in_lem}
-use borrow.Author.Rules.{rules}
 use Rattle.put_message.proofs.head_at.Goals as goal
 
 pub returns : goal.returns

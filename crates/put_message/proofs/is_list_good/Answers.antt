@@ -1,5 +1,4 @@
 -- `put_message::is_list_good` meets its contract: by the test. Assumes nothing.
-use borrow.Author.Rules.{rules}
 use Rattle.put_message.proofs.is_list_good.Goals as goal
 
 pub returns-then-listed : goal.returns-then-listed

@@ -1,5 +1,4 @@
 -- `put_message::is_under` meets its contract: by what is there. Assumes nothing.
-use borrow.Author.Rules.{rules}
 use Rattle.put_message.proofs.is_under.Goals as goal
 
 pub returns-in-Is : goal.returns-in-Is

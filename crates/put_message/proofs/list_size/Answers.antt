@@ -3,7 +3,6 @@ use mathlib.Core.Path.{◌∙◌, sym}
 use Rattle.items.specs.Written.{acknowledgement_crit}
 use Rattle.put_message.specs.Said.{said_items}
 use Rattle.put_message.proofs.Sizes.{list_size, list_none}
-use borrow.Author.Rules.{rules}
 use Rattle.put_message.proofs.list_size.Goals as goal
 
 pub returns-then-fits_a_list : goal.returns-then-fits_a_list

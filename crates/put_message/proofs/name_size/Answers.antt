@@ -8,7 +8,6 @@ use Rattle.names.specs.Names.{name_allowed}
 use Rattle.names.proofs.Allowed.{allowed_part}
 use Rattle.meaning.specs.Value.{octets_in}
 use Rattle.put_message.proofs.Sizes.{carried_in_lem, name_size, name_none}
-use borrow.Author.Rules.{rules}
 use Rattle.put_message.proofs.name_size.Goals as goal
 
 pub overflow_sub-result : goal.overflow_sub-result

@@ -5,7 +5,6 @@ use mathlib.Core.Path.{◌∙◌, sym}
 use Rattle.items.specs.Written.{reset_crit}
 use Rattle.put_message.specs.Said.{said_items}
 use Rattle.put_message.proofs.Sizes.{part_size, part_none}
-use borrow.Author.Rules.{rules}
 use Rattle.put_message.proofs.part_size.Goals as goal
 
 pub overflow_add-result : goal.overflow_add-result

@@ -2,7 +2,6 @@
 use borrow.Author.Tests.{le-leb}
 use mathlib.Core.Path.{sym}
 use Rattle.put_message.proofs.Sizes.{is_carried_out}
-use borrow.Author.Rules.{rules}
 use Rattle.put_message.proofs.put_carried.Goals as goal
 
 pub returns-then-values-to : goal.returns-then-values-to

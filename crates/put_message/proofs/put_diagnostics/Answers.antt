@@ -2,7 +2,6 @@
 use mathlib.Core.List.{[]}
 use Rattle.plan.proofs.Steps.{wrote_as}
 use Rattle.put_message.proofs.Words.{listed_not}
-use borrow.Author.Rules.{rules}
 use Rattle.put_message.proofs.put_diagnostics.Goals as goal
 
 pub returns : goal.returns

@@ -3,7 +3,6 @@ use Rattle.packed.specs.Packed.{packed_in}
 use borrow.Author.Tests.{eq-eqb, ne_eqb}
 use Rattle.octets.proofs.Writing.{wrote_then}
 use Rattle.items.specs.Written.{reset_octets}
-use borrow.Author.Rules.{rules}
 use Rattle.put_message.proofs.put_reset.Goals as goal
 
 pub returns-then-there-eq2 : goal.returns-then-there-eq2

@@ -8,7 +8,6 @@ use Rattle.plan.proofs.Steps.{wrote_as}
 use Rattle.plan.proofs.Messages.{element_none, element_is}
 use Rattle.put_message.specs.Said.{value_by, given_by}
 use Rattle.put_message.proofs.Values.{given_there}
-use borrow.Author.Rules.{rules}
 use Rattle.put_message.proofs.put_row.Goals as goal
 
 pub returns-then-size-eq0 : goal.returns-then-size-eq0

@@ -1,17 +1,10 @@
-use Rattle.octets.proofs.Writing.{wrote_length}
-use borrow.Author.Rules.{rules}
-use Prim.Native.Nat.{◌≤◌, ◌<◌, ◌-◌}
+use Prim.Native.Nat.{◌≤◌, ◌-◌}
 use mathlib.Core.Path.{◌≡◌}
-use native.Mathlib.Omega.{arith}
-use native.Mathlib.Numerals.{add-one}
 use lib.ListN.{length}
 use Rattle.octets.specs.Write.{Wrote}
-use Rattle.octets.proofs.Writing.{wrote_none, wrote_then}
 use Rattle.rows.specs.Table.{rows_in}
 use Rattle.plan.specs.Plan.{elements_to}
-use Rattle.plan.proofs.Steps.{wrote_as, wrote_within}
 use Rattle.put_message.specs.Said.{said_in}
-use Rattle.put_message.proofs.Values.{element_in}
 use Rattle.put_message.proofs.put_rows.Given as goal
 
 abbrev pub invariant-loop-i : goal.invariant-loop-i

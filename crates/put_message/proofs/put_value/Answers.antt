@@ -1,7 +1,6 @@
 -- `put_message::put_value` meets its contract: by the kind. Assumes nothing.
 use Rattle.meaning.specs.Written.{octets_of}
 use Rattle.put_message.proofs.Values.{carried_by, mme_by_lem, mce_by_lem, tmgi_by, one_by, two_by, cause_by, wait_by, name_by_lem, reset_by_lem, list_by, diagnostics_by_lem}
-use borrow.Author.Rules.{rules}
 use Rattle.put_message.proofs.put_value.Goals as goal
 
 pub returns-in-Carried : goal.returns-in-Carried

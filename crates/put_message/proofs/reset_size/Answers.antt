@@ -1,7 +1,6 @@
 -- `put_message::reset_size` meets its contract: by the first octet. Assumes nothing.
 use borrow.Author.Tests.{eq-eqb, ne_eqb}
 use Rattle.put_message.proofs.Sizes.{whole_size}
-use borrow.Author.Rules.{rules}
 use Rattle.put_message.proofs.reset_size.Goals as goal
 
 pub returns-then-there-eq2 : goal.returns-then-there-eq2

@@ -2,7 +2,6 @@
 use borrow.Author.Tests.{eq-eqb, ne_eqb}
 use Rattle.plan.specs.Plan.{size_given}
 use Rattle.put_message.specs.Said.{given_by}
-use borrow.Author.Rules.{rules}
 use Rattle.put_message.proofs.size_at.Goals as goal
 
 pub returns-then-s-at-eq0 : goal.returns-then-s-at-eq0

@@ -1,11 +1,10 @@
 -- `put_message::sizes_of` meets its contract: the loop's invariant: the sizes of the first i rows, in front of zeros. Assumes nothing.
 use lib.Seq.{take_all}
-use borrow.Author.Rules.{rules}
-use Prim.Native.Nat.{◌≤◌, ◌<◌, ◌-◌}
-use mathlib.Core.Path.{◌≡◌, ◌∙◌, ap}
+use Prim.Native.Nat.{◌≤◌, ◌<◌}
+use mathlib.Core.Path.{◌∙◌, ap}
 use native.Mathlib.Omega.{arith}
 use lib.ListN.{length}
-use Rattle.lists.proofs.Copy.{Copied, copied_none, copied_more, copied_all}
+use Rattle.lists.proofs.Copy.{copied_none, copied_more, copied_all}
 use Rattle.rows.specs.Table.{rows_in}
 use Rattle.meaning.specs.Value.{absent}
 use Rattle.plan.specs.Plan.{size_given}

@@ -1,15 +1,10 @@
-use lib.Seq.{take_all}
-use borrow.Author.Rules.{rules}
-use Prim.Native.Nat.{◌≤◌, ◌<◌, ◌-◌}
-use mathlib.Core.Path.{◌≡◌, ◌∙◌, ap}
-use native.Mathlib.Omega.{arith}
+use Prim.Native.Nat.{◌≤◌, ◌-◌}
+use mathlib.Core.Path.{◌≡◌}
 use lib.ListN.{length}
-use Rattle.lists.proofs.Copy.{Copied, copied_none, copied_more, copied_all}
+use Rattle.lists.proofs.Copy.{Copied}
 use Rattle.rows.specs.Table.{rows_in}
-use Rattle.meaning.specs.Value.{absent}
 use Rattle.plan.specs.Plan.{size_given}
 use Rattle.put_message.specs.Said.{said_in}
-use Rattle.put_message.proofs.Values.{said_count, given_in}
 use Rattle.put_message.proofs.sizes_of.Given as goal
 
 abbrev pub invariant-loop-i : goal.invariant-loop-i

@@ -1,7 +1,6 @@
 -- `put_message::span_at` meets its contract: two numbers of two octets each, whose sum fits. Assumes nothing.
 use native.Mathlib.Omega.{arith}
 use Prim.Native.Nat.{◌+◌}
-use borrow.Author.Rules.{rules}
 use Rattle.put_message.proofs.span_at.Goals as goal
 
 pub overflow_add-result : goal.overflow_add-result

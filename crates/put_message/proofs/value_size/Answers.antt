@@ -6,7 +6,6 @@ use Rattle.meaning.specs.Value.{octets_in}
 use Rattle.put_message.specs.Said.{span_at, tmgi_in}
 use Rattle.put_message.proofs.Values.{carried_by, mme_by_lem, mce_by_lem, tmgi_by, one_by, two_by, cause_by, wait_by, name_by_lem, reset_by_lem, list_by, diagnostics_by_lem}
 use Rattle.put_message.proofs.Sizes.{carried_size, mme_size, mce_size, tmgi_size, one_size, two_size}
-use borrow.Author.Rules.{rules}
 use Rattle.put_message.proofs.value_size.Goals as goal
 
 pub returns-in-Carried : goal.returns-in-Carried

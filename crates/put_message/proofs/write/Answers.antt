@@ -1,7 +1,6 @@
 -- `put_message::write` meets its contract: by the number of octets, their criticality and their number. Assumes nothing.
 use mathlib.Core.Path.{◌∙◌, sym}
 use Rattle.put_message.proofs.Messages.{writes_none, writes_as, written_size, written_crit, written_other, written_by_lem}
-use borrow.Author.Rules.{rules}
 use Rattle.put_message.proofs.write.Goals as goal
 
 pub returns-then-s-ne2662 : goal.returns-then-s-ne2662

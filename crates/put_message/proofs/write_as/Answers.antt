@@ -1,8 +1,6 @@
 -- `put_message::write_as` meets its contract: octets that are no record's are not written; of the others the plan says whether they are, and the rows are put one after another. Assumes nothing.
-use borrow.Author.Tests.{not-true, not-false}
 use mathlib.Core.Path.{◌∙◌, sym}
 use Rattle.put_message.proofs.Messages.{writes_none, not_formed, formed_in, within, ready, refused, no_room_lem, done}
-use borrow.Author.Rules.{rules}
 use Rattle.put_message.proofs.write_as.Goals as goal
 
 pub returns-then-not-is_formed : goal.returns-then-not-is_formed

@@ -1,13 +1,9 @@
 -- `put_reply::are_good` meets its contract: the loop's invariant: none of the first i entries is bad. Assumes nothing.
 use mathlib.Core.Path.{sym, ◌∙◌, ap}
 use mathlib.Core.Bool.{not}
-use Prim.Native.Nat.{◌-◌}
-use borrow.Author.Rules.{rules}
-use lib.ListN.{length}
 use native.Mathlib.Omega.{arith}
-use borrow.Author.Tests.{not-true, not-false}
-use Rattle.lists.proofs.Search.{Sought, sought_none, sought_more, sought_found, sought_all}
-use Rattle.put_reply.proofs.Sizes.{is_bad, good_none, good_some}
+use Rattle.lists.proofs.Search.{sought_none, sought_more, sought_found, sought_all}
+use Rattle.put_reply.proofs.Sizes.{good_none, good_some}
 use Rattle.put_reply.proofs.are_good.Goals as goal
 
 pub returns-then-not-fits_a_list : goal.returns-then-not-fits_a_list

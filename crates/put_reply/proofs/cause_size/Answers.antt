@@ -1,7 +1,6 @@
 -- `put_reply::cause_size` meets its contract: by the test. Assumes nothing.
 use native.Mathlib.Omega.{arith}
 use Rattle.put_reply.proofs.Sizes.{cause_size, cause_none}
-use borrow.Author.Rules.{rules}
 use Rattle.put_reply.proofs.cause_size.Goals as goal
 
 pub returns-then-c-root_of : goal.returns-then-c-root_of

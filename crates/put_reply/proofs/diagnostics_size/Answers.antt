@@ -1,8 +1,6 @@
 -- `put_reply::diagnostics_size` meets its contract: what is tested in turn says whether they have octets, and the entries count only where a list is there. Assumes nothing.
 use mathlib.Core.Path.{sym, ◌∙◌}
-use borrow.Author.Tests.{not-true, not-false}
 use Rattle.put_reply.proofs.Sizes.{trigger_bad, crit_bad, list_bad, diagnostics_size}
-use borrow.Author.Rules.{rules}
 use Rattle.put_reply.proofs.diagnostics_size.Goals as goal
 
 pub returns-then-not-is_under_3 : goal.returns-then-not-is_under_3

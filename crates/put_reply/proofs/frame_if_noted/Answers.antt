@@ -1,7 +1,6 @@
 -- `put_reply::frame_if_noted` meets its contract: by the test. Assumes nothing.
 use native.Mathlib.Omega.{arith}
 use borrow.Author.Tests.{lt-ltb}
-use borrow.Author.Rules.{rules}
 use Rattle.put_reply.proofs.frame_if_noted.Goals as goal
 
 pub returns-then-noted-eq0 : goal.returns-then-noted-eq0

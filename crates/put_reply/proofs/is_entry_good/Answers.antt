@@ -1,6 +1,5 @@
 -- `put_reply::is_entry_good` meets its contract: by the tests. Assumes nothing.
 use Rattle.put_reply.proofs.Sizes.{entry_test, entry_bad}
-use borrow.Author.Rules.{rules}
 use Rattle.put_reply.proofs.is_entry_good.Goals as goal
 
 pub returns-then-e-lt3 : goal.returns-then-e-lt3

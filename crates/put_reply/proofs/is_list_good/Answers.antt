@@ -1,5 +1,4 @@
 -- `put_reply::is_list_good` meets its contract: by the test. Assumes nothing.
-use borrow.Author.Rules.{rules}
 use Rattle.put_reply.proofs.is_list_good.Goals as goal
 
 pub returns-then-listed : goal.returns-then-listed

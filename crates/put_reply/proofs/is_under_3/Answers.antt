@@ -1,5 +1,4 @@
 -- `put_reply::is_under_3` meets its contract: by cases. Assumes nothing.
-use borrow.Author.Rules.{rules}
 use Rattle.put_reply.proofs.is_under_3.Goals as goal
 
 pub returns-in-Is : goal.returns-in-Is

@@ -1,9 +1,7 @@
 -- `put_reply::list_size` meets its contract: by how many there are. Assumes nothing.
 use mathlib.Core.Path.{sym, ◌∙◌}
-use borrow.Author.Tests.{not-true, not-false}
 use Rattle.items.specs.Written.{acknowledgement_crit}
 use Rattle.put_reply.proofs.Sizes.{list_size, list_none}
-use borrow.Author.Rules.{rules}
 use Rattle.put_reply.proofs.list_size.Goals as goal
 
 pub returns-then-not-fits_a_list : goal.returns-then-not-fits_a_list

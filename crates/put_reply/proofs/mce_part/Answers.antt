@@ -1,5 +1,4 @@
 -- `put_reply::mce_part` meets its contract: by cases. Assumes nothing.
-use borrow.Author.Rules.{rules}
 use Rattle.put_reply.proofs.mce_part.Goals as goal
 
 pub returns-in-Is : goal.returns-in-Is

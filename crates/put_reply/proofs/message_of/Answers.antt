@@ -1,5 +1,4 @@
 -- `put_reply::message_of` meets its contract: by cases. Assumes nothing.
-use borrow.Author.Rules.{rules}
 use Rattle.put_reply.proofs.message_of.Goals as goal
 
 pub returns-in-StartResponse : goal.returns-in-StartResponse

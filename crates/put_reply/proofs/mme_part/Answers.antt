@@ -1,5 +1,4 @@
 -- `put_reply::mme_part` meets its contract: by cases. Assumes nothing.
-use borrow.Author.Rules.{rules}
 use Rattle.put_reply.proofs.mme_part.Goals as goal
 
 pub returns-in-Is : goal.returns-in-Is

@@ -1,6 +1,5 @@
 -- `put_reply::parts_of` meets its contract: by cases. Assumes nothing.
 use Rattle.put_reply.specs.Parts.{parts_of}
-use borrow.Author.Rules.{rules}
 use Rattle.put_reply.proofs.parts_of.Goals as goal
 
 pub returns-in-None : goal.returns-in-None

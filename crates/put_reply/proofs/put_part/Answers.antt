@@ -3,7 +3,6 @@ use native.Mathlib.Omega.{arith}
 use Rattle.octets.proofs.Writing.{wrote_none}
 use Rattle.meaning.specs.Written.{octets_of}
 use Rattle.put_reply.specs.Parts.{given_by}
-use borrow.Author.Rules.{rules}
 use Rattle.put_reply.proofs.put_part.Goals as goal
 
 pub returns-in-Absent : goal.returns-in-Absent

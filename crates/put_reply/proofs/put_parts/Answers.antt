@@ -3,7 +3,6 @@ use mathlib.Core.List.{map}
 use Rattle.item_words.specs.Words.{item_of}
 use Rattle.entry_words.specs.EntryWords.{entry_by}
 use Rattle.put_reply.proofs.Rows.{refused_by, no_room_by, done_by, within_by, ready_then}
-use borrow.Author.Rules.{rules}
 use Rattle.put_reply.proofs.put_parts.Goals as goal
 
 pub put_rows-requires : goal.put_rows-requires

@@ -4,7 +4,6 @@ use mathlib.Core.List.{map}
 use Rattle.item_words.specs.Words.{item_of}
 use Rattle.entry_words.specs.EntryWords.{entry_by}
 use Rattle.put_reply.proofs.Replies.{said_none, said_by_lem, sends_none, sends_as}
-use borrow.Author.Rules.{rules}
 use Rattle.put_reply.proofs.put_reply.Goals as goal
 
 pub returns-in-Other : goal.returns-in-Other

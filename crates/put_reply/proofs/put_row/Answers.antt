@@ -1,6 +1,5 @@
 -- `put_reply::put_row` meets its contract: by the size. Assumes nothing.
 use Rattle.put_reply.proofs.Rows.{row_none, row_is}
-use borrow.Author.Rules.{rules}
 use Rattle.put_reply.proofs.put_row.Goals as goal
 
 pub returns-then-size-eq0 : goal.returns-then-size-eq0

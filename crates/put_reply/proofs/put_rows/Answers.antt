@@ -1,18 +1,15 @@
 -- `put_reply::put_rows` meets its contract: the loop's invariant: the elements of the first i rows are written. Assumes nothing.
 use mathlib.Core.Path.{◌≡◌}
 use mathlib.Core.List.{map}
-use Prim.Native.Nat.{◌≤◌, ◌<◌, ◌-◌}
-use borrow.Author.Rules.{rules}
+use Prim.Native.Nat.{◌<◌}
 use native.Mathlib.Omega.{arith}
 use lib.ListN.{length}
-use Rattle.octets.specs.Write.{Wrote}
 use Rattle.octets.proofs.Writing.{wrote_none, wrote_length}
 use Rattle.rows.specs.Table.{rows_in}
 use Rattle.item_words.specs.Words.{item_of}
 use Rattle.entry_words.specs.EntryWords.{entry_by}
 use Rattle.plan.specs.Plan.{elements_to}
 use Rattle.plan.proofs.Steps.{wrote_within}
-use Rattle.put_reply.specs.Parts.{given_rows}
 use Rattle.put_reply.proofs.Rows.{rows_more}
 use Rattle.put_reply.proofs.put_rows.Goals as goal
 

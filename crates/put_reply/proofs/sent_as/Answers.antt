@@ -1,5 +1,4 @@
 -- `put_reply::sent_as` meets its contract: by cases. Assumes nothing.
-use borrow.Author.Rules.{rules}
 use Rattle.put_reply.proofs.sent_as.Goals as goal
 
 pub returns-in-Done : goal.returns-in-Done

@@ -3,7 +3,6 @@ use mathlib.Core.Path.{◌∙◌, ap}
 use Rattle.plan.specs.Plan.{fitted, size_given}
 use Rattle.put_reply.specs.Parts.{given_by}
 use Rattle.put_reply.proofs.Sizes.{mme_size, mce_size}
-use borrow.Author.Rules.{rules}
 use Rattle.put_reply.proofs.size_of.Goals as goal
 
 pub returns-in-Absent : goal.returns-in-Absent

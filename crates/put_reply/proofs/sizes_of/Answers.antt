@@ -1,19 +1,14 @@
 -- `put_reply::sizes_of` meets its contract: the loop's invariant: the sizes of the first i rows are in the array. Assumes nothing.
 use mathlib.Core.Path.{◌≡◌, ◌∙◌, ap, sym}
 use mathlib.Core.List.{map, map-map}
-use Prim.Native.Nat.{◌-◌}
 use borrow.Author.Rules.{rules}
 use native.Mathlib.Omega.{arith}
 use lib.ListN.{length, length-take}
 use Rattle.lists.specs.Lists.{fill}
 use Rattle.lists.proofs.Slices.{length_of, take_within}
-use Rattle.lists.proofs.Copy.{Copied, copied_none, copied_more, copied_all}
-use Rattle.rows.specs.declared.Row.{Row}
+use Rattle.lists.proofs.Copy.{copied_none, copied_more, copied_all}
 use Rattle.rows.specs.Table.{no_row, rows_in}
-use Rattle.item_words.specs.Words.{item_of}
-use Rattle.entry_words.specs.EntryWords.{entry_by}
 use Rattle.plan.specs.Plan.{size_given}
-use Rattle.put_reply.specs.Parts.{part_of, given_by}
 use Rattle.put_reply.proofs.sizes_of.Goals as goal
 
 pub loop-i-init : goal.loop-i-init

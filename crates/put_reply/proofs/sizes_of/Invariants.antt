@@ -1,14 +1,7 @@
-use mathlib.Core.Path.{◌≡◌, ◌∙◌, ap, sym}
-use mathlib.Core.List.{map, map-map}
+use mathlib.Core.List.{map}
 use Prim.Native.Nat.{◌-◌}
-use borrow.Author.Rules.{rules}
-use native.Mathlib.Omega.{arith}
-use lib.ListN.{length, length-take}
-use Rattle.lists.specs.Lists.{fill}
-use Rattle.lists.proofs.Slices.{length_of, take_within}
-use Rattle.lists.proofs.Copy.{Copied, copied_none, copied_more, copied_all}
+use Rattle.lists.proofs.Copy.{Copied}
 use Rattle.rows.specs.declared.Row.{Row}
-use Rattle.rows.specs.Table.{no_row, rows_in}
 use Rattle.item_words.specs.Words.{item_of}
 use Rattle.entry_words.specs.EntryWords.{entry_by}
 use Rattle.plan.specs.Plan.{size_given}

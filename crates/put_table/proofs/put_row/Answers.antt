@@ -1,7 +1,6 @@
 -- Twelve stores into twelve octets: nothing of what stood there is left.
 use mathlib.Core.Path.{◌≡◌}
 use native.Mathlib.Omega.{arith}
-use borrow.Author.Rules.{rules}
 use lib.ListN.{length, length-set}
 use Rattle.octets.proofs.Writing.{number_two}
 use Rattle.put_table.proofs.Writing.{twelve}

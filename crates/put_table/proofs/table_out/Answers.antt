@@ -1,5 +1,4 @@
 -- The count, the rows one after another, and zeros up to the end; the rows before the first of them are not touched.
-use Prim.Native.Nat.{◌-◌}
 use mathlib.Core.Path.{◌≡◌, ◌∙◌}
 use native.Mathlib.Omega.{arith}
 use borrow.Author.Count.{falls}
@@ -7,7 +6,7 @@ use borrow.Author.Rules.{rules}
 use borrow.Author.Tests.{eq-eqb, ne_eqb}
 use lib.ListN.{length}
 use Rattle.lists.proofs.Slices.{length_of}
-use Rattle.put_table.proofs.Writing.{WrittenTo, part_long, count_wrote, written_none, written_more, written_all, held_from}
+use Rattle.put_table.proofs.Writing.{part_long, count_wrote, written_none, written_more, written_all, held_from}
 use Rattle.put_table.proofs.table_out.Goals as goal
 
 pub returns-then-d-ne3074 : goal.returns-then-d-ne3074

@@ -3,7 +3,6 @@ use native.Mathlib.Omega.{arith}
 use native.Mathlib.Nat.{lt_of_lt_of_le}
 use Rattle.values.proofs.Roots.{root_width, root_group}
 use Rattle.put_values.proofs.Put.{cause_together}
-use borrow.Author.Rules.{rules}
 use Rattle.put_values.proofs.cause_octet.Goals as goal
 
 pub returns : goal.returns

@@ -4,7 +4,6 @@ use borrow.Author.Tests.{le-ltb}
 use Rattle.octets.proofs.Writing.{wrote_none}
 use Rattle.values.specs.Written.{cause_octets}
 use Rattle.values.proofs.Back.{cause_octets_lem}
-use borrow.Author.Rules.{rules}
 use Rattle.put_values.proofs.put_cause.Goals as goal
 
 pub returns-then-c-root_of : goal.returns-then-c-root_of

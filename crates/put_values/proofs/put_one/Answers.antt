@@ -1,7 +1,6 @@
 -- `put_values::put_one` meets its contract: an octet is the number of one octet. Assumes nothing.
 use native.Mathlib.Omega.{arith}
 use Rattle.octets.proofs.Writing.{number_one}
-use borrow.Author.Rules.{rules}
 use Rattle.put_values.proofs.put_one.Goals as goal
 
 pub returns : goal.returns

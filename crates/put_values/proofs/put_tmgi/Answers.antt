@@ -2,7 +2,6 @@
 use Rattle.packed.specs.Packed.{packed_in}
 use Rattle.octets.proofs.Writing.{wrote_then}
 use Rattle.values.specs.Written.{tmgi_octets}
-use borrow.Author.Rules.{rules}
 use Rattle.put_values.proofs.put_tmgi.Goals as goal
 
 pub returns : goal.returns

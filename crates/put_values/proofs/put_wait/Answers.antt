@@ -5,7 +5,6 @@ use Rattle.octets.proofs.Writing.{wrote_none}
 use Rattle.values.specs.Written.{wait_octets}
 use Rattle.values.proofs.Back.{wait_octets_lem}
 use Rattle.put_values.proofs.Put.{wait_together}
-use borrow.Author.Rules.{rules}
 use Rattle.put_values.proofs.put_wait.Goals as goal
 
 pub returns-then-v-lt6 : goal.returns-then-v-lt6

@@ -4,7 +4,6 @@ use Rattle.octets.proofs.Chain.{told}
 use Rattle.diagnostics.specs.Found.{found_head}
 use Rattle.layout.specs.Record.{slot_of}
 use Rattle.reader.proofs.Slots.{head_is, head_none}
-use borrow.Author.Rules.{rules}
 use Rattle.reader.proofs.diagnostics_slot.Goals as goal
 
 pub returns-in-Is : goal.returns-in-Is

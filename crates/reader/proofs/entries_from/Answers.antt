@@ -7,7 +7,6 @@ use Rattle.diagnostics.specs.Diagnostics.{diagnostics_at}
 use Rattle.meaning.specs.Reading.{read_as}
 use Rattle.reader.proofs.Slots.{got_of}
 use Rattle.reader.proofs.Begin.{no_entries_there, diagnostics_entries, no_entries}
-use borrow.Author.Rules.{rules}
 use Rattle.reader.proofs.entries_from.Goals as goal
 
 pub returns-then-to-eq0 : goal.returns-then-to-eq0

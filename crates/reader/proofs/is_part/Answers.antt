@@ -1,8 +1,5 @@
 -- `reader::is_part` meets its contract. Of a Reset Type that can be read, the second bit says what stands behind it. Assumes nothing.
-use Rattle.octets.specs.Found.{found_flag}
-use Rattle.octets.proofs.Chain.{told}
 use Rattle.reader.proofs.Slots.{reset_is, reset_flag}
-use borrow.Author.Rules.{rules}
 use Rattle.reader.proofs.is_part.Goals as goal
 
 pub returns-in-Is : goal.returns-in-Is

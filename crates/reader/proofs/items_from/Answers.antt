@@ -11,7 +11,6 @@ use lib.Seq.{length-take-le}
 use Rattle.items.specs.Items.{items_at, reset_at}
 use Rattle.meaning.specs.Reading.{read_as}
 use Rattle.reader.proofs.Begin.{no_items_there, part_items_lem, whole_items, list_items, no_items, items_inside}
-use borrow.Author.Rules.{rules}
 use Rattle.reader.proofs.items_from.Goals as goal
 
 pub returns-then-to-eq0 : goal.returns-then-to-eq0

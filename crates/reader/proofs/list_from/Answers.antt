@@ -3,7 +3,6 @@ use Rattle.octets.proofs.Chain.{told}
 use Rattle.diagnostics.specs.Found.{found_head}
 use Rattle.reader.proofs.Slots.{head_is, head_none}
 use Rattle.reader.proofs.Begin.{listed_entries, unlisted_entries}
-use borrow.Author.Rules.{rules}
 use Rattle.reader.proofs.list_from.Goals as goal
 
 pub returns-then-h : goal.returns-then-h

@@ -1,5 +1,4 @@
 -- `reader::pair_of` meets its contract. By cases. Assumes nothing.
-use borrow.Author.Rules.{rules}
 use Rattle.reader.proofs.pair_of.Goals as goal
 
 pub returns-in-Is : goal.returns-in-Is

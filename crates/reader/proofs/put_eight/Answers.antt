@@ -2,7 +2,6 @@
 use native.Mathlib.Omega.{arith}
 use lib.ListN.{length-set}
 use Rattle.reader.proofs.Slots.{eight_put}
-use borrow.Author.Rules.{rules}
 use Rattle.reader.proofs.put_eight.Goals as goal
 
 pub bounds-room-at-2 : goal.bounds-room-at-2

@@ -1,22 +1,10 @@
-use Prim.Native.Nat.{◌-◌, ◌≤◌, ◌<◌}
-use mathlib.Core.Path.{◌≡◌, refl, sym, ap, subst, ◌∙◌}
-use mathlib.Core.List.{List}
-use native.Mathlib.Omega.{arith}
-use borrow.Author.Rules.{rules}
-use lib.ListN.{length, get_or, take, drop}
-use lib.Seq.{length-take-le}
-use Rattle.octets.specs.Span.{no_span}
-use Rattle.octets.proofs.Writing.{wrote_length}
+use Prim.Native.Nat.{◌-◌, ◌≤◌}
+use mathlib.Core.Path.{◌≡◌}
+use lib.ListN.{length, drop}
 use Rattle.places.specs.Places.{spans_in}
-use Rattle.places.proofs.Laws.{pairs_length}
-use Rattle.rows.specs.Table.{rows_in, no_row}
-use Rattle.rows.proofs.TableLaws.{row_at}
-use Rattle.meaning.specs.Reading.{value_in, values_in}
-use Rattle.layout.specs.Record.{Lists, lists_of}
-use Rattle.entries.specs.declared.Entry.{Entry}
-use Rattle.entries.specs.Entries.{list_at}
-use Rattle.reader.specs.Steps.{ListBegins}
-use Rattle.reader.proofs.Walk.{rest_more, rest_found, rest_none, ends_inside, no_entry_rows}
+use Rattle.rows.specs.Table.{rows_in}
+use Rattle.meaning.specs.Reading.{values_in}
+use Rattle.layout.specs.Record.{lists_of}
 use Rattle.reader.proofs.put_entries.Given as goal
 
 abbrev pub invariant-loop-k : goal.invariant-loop-k

@@ -1,5 +1,4 @@
 -- `reader::put_head` meets its contract. The three pairs and the flag fill the slot. Assumes nothing.
-use borrow.Author.Rules.{rules}
 use Rattle.reader.proofs.put_head.Goals as goal
 
 pub returns : goal.returns

@@ -1,10 +1,9 @@
 -- `reader::put_items` meets its contract. The rows passed announce no items; those of the first that does are put, or zeros where none does. Assumes nothing.
-use Prim.Native.Nat.{◌-◌, ◌≤◌, ◌<◌}
-use mathlib.Core.Path.{◌≡◌, refl, sym, ap, subst, ◌∙◌}
+use Prim.Native.Nat.{◌≤◌, ◌<◌}
+use mathlib.Core.Path.{refl, sym, ap, subst, ◌∙◌}
 use mathlib.Core.List.{List}
 use native.Mathlib.Omega.{arith}
-use borrow.Author.Rules.{rules}
-use lib.ListN.{length, get_or, take, drop}
+use lib.ListN.{length, get_or, take}
 use lib.Seq.{length-take-le}
 use Rattle.octets.specs.Span.{no_span}
 use Rattle.octets.proofs.Writing.{wrote_length}
@@ -12,7 +11,7 @@ use Rattle.places.specs.Places.{spans_in}
 use Rattle.places.proofs.Laws.{pairs_length}
 use Rattle.rows.specs.Table.{rows_in, no_row}
 use Rattle.rows.proofs.TableLaws.{row_at}
-use Rattle.meaning.specs.Reading.{value_in, values_in}
+use Rattle.meaning.specs.Reading.{value_in}
 use Rattle.layout.specs.Record.{Lists, lists_of}
 use Rattle.identity.specs.declared.Item.{Item}
 use Rattle.items.specs.Items.{items_at}

@@ -1,6 +1,5 @@
 -- `reader::put_place` meets its contract. The place and the length, the low 16 bits of each. Assumes nothing.
 use Rattle.reader.proofs.Slots.{number_cut}
-use borrow.Author.Rules.{rules}
 use Rattle.reader.proofs.put_place.Goals as goal
 
 pub returns : goal.returns

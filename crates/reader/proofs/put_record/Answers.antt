@@ -1,7 +1,6 @@
 -- `reader::put_record` meets its contract. Each part begins where the one before it ends. Assumes nothing.
 use Rattle.octets.proofs.Writing.{wrote_then}
 use Rattle.layout.specs.Record.{record_octets}
-use borrow.Author.Rules.{rules}
 use Rattle.reader.proofs.put_record.Goals as goal
 
 pub returns : goal.returns

@@ -2,7 +2,6 @@
 use native.Mathlib.Omega.{arith}
 use borrow.Author.Tests.{lt-ltb, le-ltb}
 use Rattle.meaning.specs.Reading.{value_in}
-use borrow.Author.Rules.{rules}
 use Rattle.reader.proofs.put_slot.Goals as goal
 
 pub put_value-requires : goal.put_value-requires

@@ -1,18 +1,13 @@
 -- `reader::put_slots` meets its contract. The slots of the rows passed are put, each of 8 octets; behind the last come zeros. Assumes nothing.
-use mathlib.Core.Path.{◌∙◌, ◌≡◌}
-use borrow.Author.Rules.{rules}
-use Prim.Native.Nat.{◌+◌, ◌*◌, ◌-◌, ◌≤◌, ◌<◌}
+use mathlib.Core.Path.{◌∙◌}
+use Prim.Native.Nat.{◌≤◌, ◌<◌}
 use native.Mathlib.Omega.{arith}
-use lib.ListN.{length, take}
-use Rattle.octets.specs.Many.{each_octets}
-use Rattle.octets.specs.Write.{Wrote}
+use lib.ListN.{length}
 use Rattle.octets.proofs.Writing.{wrote_length, wrote_none}
 use Rattle.places.specs.Places.{spans_in}
 use Rattle.places.proofs.Laws.{pairs_length}
 use Rattle.rows.specs.Table.{rows_in}
 use Rattle.rows.proofs.TableLaws.{row_at}
-use Rattle.meaning.specs.Reading.{values_in}
-use Rattle.layout.specs.Record.{slot_octets}
 use Rattle.reader.proofs.Walk.{slot_more, slots_all}
 use Rattle.reader.proofs.put_slots.Goals as goal
 

@@ -1,6 +1,5 @@
 -- `reader::put_tmgi` meets its contract. The six octets behind the first, and a zero. Assumes nothing.
 use Rattle.layout.specs.Record.{slot_of}
-use borrow.Author.Rules.{rules}
 use Rattle.reader.proofs.put_tmgi.Goals as goal
 
 pub returns : goal.returns

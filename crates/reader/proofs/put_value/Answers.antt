@@ -7,7 +7,6 @@ use Rattle.diagnostics.specs.Diagnostics.{diagnostics_at}
 use Rattle.meaning.specs.Reading.{read_as}
 use Rattle.layout.specs.Record.{slot_of}
 use Rattle.reader.proofs.Slots.{got_of, list_slot}
-use borrow.Author.Rules.{rules}
 use Rattle.reader.proofs.put_value.Goals as goal
 
 pub slice_bounds-mme_slot-end : goal.slice_bounds-mme_slot-end

@@ -1,11 +1,8 @@
 -- `reader::read` meets its contract. Each return is one case of the verdict. Assumes nothing.
 use mathlib.Core.Path.{refl, sym, ◌∙◌}
-use Rattle.octets.proofs.Chain.{told}
-use Rattle.frames.specs.Frame.{found_frame}
 use Rattle.verdicts.specs.Verdict.{every}
 use Rattle.judging.proofs.Steps.{too_long, frame_stops, not_named, judged_inside}
 use Rattle.reader.proofs.Record.{answers_as, answers_refused}
-use borrow.Author.Rules.{rules}
 use Rattle.reader.proofs.read.Goals as goal
 
 pub returns-then-s-gt8192 : goal.returns-then-s-gt8192

@@ -2,7 +2,6 @@
 use native.Mathlib.Omega.{arith}
 use Rattle.judging.proofs.Steps.{verdict_stops}
 use Rattle.reader.proofs.Record.{all_legible, too_small, is_put, answers_refused}
-use borrow.Author.Rules.{rules}
 use Rattle.reader.proofs.read_inside.Goals as goal
 
 pub returns-in-Stop : goal.returns-in-Stop

@@ -1,7 +1,6 @@
 -- `reader::reset_slot` meets its contract. A part of the interface is 2, the whole 1. Assumes nothing.
 use Rattle.octets.specs.Read.{◌>>=◌}
 use Rattle.layout.specs.Record.{slot_of}
-use borrow.Author.Rules.{rules}
 use Rattle.reader.proofs.reset_slot.Goals as goal
 
 pub returns-then-is_part : goal.returns-then-is_part

@@ -3,7 +3,6 @@ use Rattle.octets.specs.Read.{◌>>=◌}
 use Rattle.octets.proofs.Chain.{told}
 use Rattle.values.specs.Found.{found_wait}
 use Rattle.layout.specs.Record.{slot_of}
-use borrow.Author.Rules.{rules}
 use Rattle.reader.proofs.wait_slot.Goals as goal
 
 pub returns-in-Is : goal.returns-in-Is

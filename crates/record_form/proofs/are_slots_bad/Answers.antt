@@ -1,12 +1,11 @@
 -- `record_form::are_slots_bad` meets its contract: the loop's invariant: what the rest of the slots makes is what they all make. Assumes nothing.
-use borrow.Author.Rules.{rules}
-use Prim.Native.Nat.{◌≤◌, ◌<◌, ◌-◌, ◌+◌, ◌*◌}
+use Prim.Native.Nat.{◌≤◌, ◌<◌, ◌+◌, ◌*◌}
 use mathlib.Core.Path.{◌≡◌, ◌∙◌, refl, sym}
 use mathlib.Core.Bool.{false, true}
 use native.Mathlib.Omega.{arith}
 use lib.ListN.{length, drop, get_or}
 use Rattle.rows.specs.Table.{no_row, rows_in}
-use Rattle.record_form.specs.BadNames.{slot_bad, slots_bad}
+use Rattle.record_form.specs.BadNames.{slot_bad}
 use Rattle.record_form.proofs.Forms.{row_in}
 use Rattle.record_form.proofs.BadNames.{bad_here, bad_next, bad_end}
 use Rattle.record_form.proofs.are_slots_bad.Goals as goal

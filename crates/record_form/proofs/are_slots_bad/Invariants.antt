@@ -1,13 +1,8 @@
-use borrow.Author.Rules.{rules}
-use Prim.Native.Nat.{◌≤◌, ◌<◌, ◌-◌, ◌+◌, ◌*◌}
-use mathlib.Core.Path.{◌≡◌, ◌∙◌, refl, sym}
-use mathlib.Core.Bool.{false, true}
-use native.Mathlib.Omega.{arith}
-use lib.ListN.{length, drop, get_or}
-use Rattle.rows.specs.Table.{no_row, rows_in}
-use Rattle.record_form.specs.BadNames.{slot_bad, slots_bad}
-use Rattle.record_form.proofs.Forms.{row_in}
-use Rattle.record_form.proofs.BadNames.{bad_here, bad_next, bad_end}
+use Prim.Native.Nat.{◌≤◌, ◌-◌, ◌+◌, ◌*◌}
+use mathlib.Core.Path.{◌≡◌}
+use lib.ListN.{drop}
+use Rattle.rows.specs.Table.{rows_in}
+use Rattle.record_form.specs.BadNames.{slots_bad}
 use Rattle.record_form.proofs.are_slots_bad.Given as goal
 
 abbrev pub invariant-loop-i : goal.invariant-loop-i

@@ -1,9 +1,8 @@
 -- `record_form::are_zeros` meets its contract: the loop's invariant: the octets passed, or'ed, and the rest. Assumes nothing.
-use Prim.Native.Nat.{◌≤◌, ◌-◌, ◌+◌}
+use Prim.Native.Nat.{◌-◌, ◌+◌}
 use mathlib.Core.Path.{◌≡◌, ◌∙◌, ap}
 use native.Mathlib.Omega.{arith}
-use lib.ListN.{length}
-use Rattle.record_form.proofs.Zeros.{Zeroed, zeroed_none, zeroed_more, zeroed_all}
+use Rattle.record_form.proofs.Zeros.{zeroed_none, zeroed_more, zeroed_all}
 use Rattle.record_form.specs.Form.{zeros_at}
 use Rattle.record_form.proofs.are_zeros.Goals as goal
 

@@ -1,9 +1,7 @@
 use Prim.Native.Nat.{◌≤◌, ◌-◌, ◌+◌}
-use mathlib.Core.Path.{◌≡◌, ◌∙◌, ap}
-use native.Mathlib.Omega.{arith}
+use mathlib.Core.Path.{◌≡◌}
 use lib.ListN.{length}
-use Rattle.record_form.proofs.Zeros.{Zeroed, zeroed_none, zeroed_more, zeroed_all}
-use Rattle.record_form.specs.Form.{zeros_at}
+use Rattle.record_form.proofs.Zeros.{Zeroed}
 use Rattle.record_form.proofs.are_zeros.Given as goal
 
 abbrev pub invariant-loop-i : goal.invariant-loop-i

@@ -1,13 +1,11 @@
 -- `record_form::form_of` meets its contract: the loop's invariant: what the rest of the slots makes of what is announced so far is what they all make. Assumes nothing.
-use borrow.Author.Tests.{not-true, not-false}
-use borrow.Author.Rules.{rules}
-use Prim.Native.Nat.{◌≤◌, ◌<◌, ◌-◌, ◌+◌, ◌*◌}
+use Prim.Native.Nat.{◌≤◌, ◌<◌, ◌+◌, ◌*◌}
 use mathlib.Core.Path.{◌≡◌, ◌∙◌, refl, sym}
 use mathlib.Core.Bool.{false, true}
 use native.Mathlib.Omega.{arith}
 use lib.ListN.{length, drop, get_or}
 use Rattle.rows.specs.Table.{no_row, rows_in}
-use Rattle.record_form.specs.Form.{form_from, slot_good}
+use Rattle.record_form.specs.Form.{slot_good}
 use Rattle.record_form.proofs.Forms.{row_in, form_stop, form_next, form_end}
 use Rattle.record_form.proofs.form_of.Goals as goal
 

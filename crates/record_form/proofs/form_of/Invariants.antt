@@ -1,13 +1,9 @@
-use borrow.Author.Tests.{not-true, not-false}
-use borrow.Author.Rules.{rules}
-use Prim.Native.Nat.{◌≤◌, ◌<◌, ◌-◌, ◌+◌, ◌*◌}
-use mathlib.Core.Path.{◌≡◌, ◌∙◌, refl, sym}
-use mathlib.Core.Bool.{false, true}
-use native.Mathlib.Omega.{arith}
-use lib.ListN.{length, drop, get_or}
-use Rattle.rows.specs.Table.{no_row, rows_in}
-use Rattle.record_form.specs.Form.{form_from, slot_good}
-use Rattle.record_form.proofs.Forms.{row_in, form_stop, form_next, form_end}
+use Prim.Native.Nat.{◌≤◌, ◌-◌, ◌+◌, ◌*◌}
+use mathlib.Core.Path.{◌≡◌}
+use mathlib.Core.Bool.{false}
+use lib.ListN.{drop}
+use Rattle.rows.specs.Table.{rows_in}
+use Rattle.record_form.specs.Form.{form_from}
 use Rattle.record_form.proofs.form_of.Given as goal
 
 abbrev pub invariant-loop-i : goal.invariant-loop-i

@@ -1,6 +1,4 @@
 -- `record_form::is_behind` meets its contract: by the tests. Assumes nothing.
-use borrow.Author.Tests.{not-true, not-false}
-use borrow.Author.Rules.{rules}
 use Rattle.record_form.proofs.is_behind.Goals as goal
 
 pub returns-then-not-are_zeros : goal.returns-then-not-are_zeros

@@ -5,7 +5,6 @@ use native.Mathlib.Omega.{arith}
 use lib.ListN.{length}
 use Rattle.rows.specs.Table.{rows_in}
 use Rattle.record_form.proofs.Formed.{formed_by, formed_not}
-use borrow.Author.Rules.{rules}
 use Rattle.record_form.proofs.is_formed.Goals as goal
 
 pub returns-then-s-ne2662 : goal.returns-then-s-ne2662

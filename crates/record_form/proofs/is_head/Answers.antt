@@ -1,7 +1,5 @@
 -- `record_form::is_head` meets its contract: by the tests, in the record's own places. Assumes nothing.
-use borrow.Author.Tests.{not-true, not-false}
 use Rattle.record_form.proofs.Forms.{head_at_lem}
-use borrow.Author.Rules.{rules}
 use Rattle.record_form.proofs.is_head.Goals as goal
 
 pub returns-then-not-is_maybe : goal.returns-then-not-is_maybe

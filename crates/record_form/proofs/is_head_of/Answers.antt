@@ -1,5 +1,4 @@
 -- `record_form::is_head_of` meets its contract: by the kind. Assumes nothing.
-use borrow.Author.Rules.{rules}
 use Rattle.record_form.proofs.is_head_of.Goals as goal
 
 pub returns-in-Diagnostics : goal.returns-in-Diagnostics

@@ -1,5 +1,4 @@
 -- `record_form::is_items_part` meets its contract: by the test. Assumes nothing.
-use borrow.Author.Rules.{rules}
 use Rattle.record_form.proofs.is_items_part.Goals as goal
 
 pub returns-then-said : goal.returns-then-said

@@ -4,7 +4,6 @@ use mathlib.Core.Path.{◌≡◌, ◌∙◌, ap}
 use mathlib.Core.Bool.{not}
 use lib.ListN.{get_or}
 use Rattle.record_form.proofs.BadNames.{none_bad, there_bad}
-use borrow.Author.Rules.{rules}
 use Rattle.record_form.proofs.is_name_bad.Goals as goal
 
 pub returns-then-s-at-eq0 : goal.returns-then-s-at-eq0

@@ -1,10 +1,8 @@
 -- `record_form::is_rest` meets its contract: zeros behind what the value uses, and the head of diagnostics. Assumes nothing.
-use borrow.Author.Tests.{not-true, not-false}
 use native.Mathlib.Omega.{arith}
 use lib.Seq.{drop-drop}
 use Rattle.record_form.specs.Form.{rest_good}
 use Rattle.record_form.proofs.Slots.{used_small}
-use borrow.Author.Rules.{rules}
 use Rattle.record_form.proofs.is_rest.Goals as goal
 
 pub overflow_add-at : goal.overflow_add-at

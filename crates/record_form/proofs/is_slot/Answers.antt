@@ -6,7 +6,6 @@ use lib.ListN.{length, drop, get_or, length-drop}
 use borrow.Author.Tests.{eq-eqb, ne_eqb}
 use Rattle.record_form.proofs.Slots.{slot_there, slot_none}
 use Rattle.record_form.proofs.Forms.{octets_drop, first_at}
-use borrow.Author.Rules.{rules}
 use Rattle.record_form.proofs.is_slot.Goals as goal
 
 pub returns-then-there-eq0 : goal.returns-then-there-eq0

@@ -1,7 +1,6 @@
 -- `record_form::is_slot_bad` meets its contract: by the kind. Assumes nothing.
 use lib.ListN.{drop}
 use Rattle.record_form.proofs.BadNames.{no_name}
-use borrow.Author.Rules.{rules}
 use Rattle.record_form.proofs.is_slot_bad.Goals as goal
 
 pub returns-in-Name : goal.returns-in-Name

@@ -1,6 +1,5 @@
 -- `record_form::mark_of` meets its contract: by the kind. Assumes nothing.
 use borrow.Author.Tests.{eq-eqb, ne_eqb}
-use borrow.Author.Rules.{rules}
 use Rattle.record_form.proofs.mark_of.Goals as goal
 
 pub returns-then-there-eq2 : goal.returns-then-there-eq2

@@ -2,7 +2,6 @@
 use mathlib.Core.Path.{◌∙◌, sym}
 use native.Mathlib.Omega.{arith}
 use Rattle.record_form.proofs.BadNames.{refused_size, refused_other, refused_none, refused_bad}
-use borrow.Author.Rules.{rules}
 use Rattle.record_form.proofs.name_refused.Goals as goal
 
 pub returns-then-s-ne2662 : goal.returns-then-s-ne2662

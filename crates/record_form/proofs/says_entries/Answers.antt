@@ -1,6 +1,5 @@
 -- `record_form::says_entries` meets its contract: by the kind. Assumes nothing.
 use borrow.Author.Tests.{eq-eqb, ne_eqb}
-use borrow.Author.Rules.{rules}
 use Rattle.record_form.proofs.says_entries.Goals as goal
 
 pub returns-then-there-eq0 : goal.returns-then-there-eq0

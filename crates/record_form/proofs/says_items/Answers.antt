@@ -1,5 +1,4 @@
 -- `record_form::says_items` meets its contract: by the kind. Assumes nothing.
-use borrow.Author.Rules.{rules}
 use Rattle.record_form.proofs.says_items.Goals as goal
 
 pub returns-in-ResetType : goal.returns-in-ResetType

@@ -1,5 +1,4 @@
 -- `requests::request_of` meets its contract: what was called says it. Assumes nothing.
-use borrow.Author.Rules.{rules}
 use Rattle.requests.proofs.request_of.Goals as goal
 
 pub returns-in-Start : goal.returns-in-Start

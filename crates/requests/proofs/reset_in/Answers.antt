@@ -1,6 +1,5 @@
 -- `requests::reset_in` meets its contract: what can be read is a part or the whole by its second bit. Assumes nothing.
 use mathlib.Core.Path.{◌∙◌, sym, ap}
-use borrow.Author.Rules.{rules}
 use Rattle.octets.specs.Found.{found_gate, found_flag}
 use Rattle.requests.proofs.Laws.{reset_none, reset_by_flag, flag_there}
 use Rattle.requests.proofs.reset_in.Goals as goal

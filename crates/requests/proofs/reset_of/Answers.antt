@@ -1,5 +1,4 @@
 -- `requests::reset_of` meets its contract, by the case. Assumes nothing.
-use borrow.Author.Rules.{rules}
 use Rattle.requests.proofs.reset_of.Goals as goal
 
 pub returns-in-Whole : goal.returns-in-Whole

@@ -1,14 +1,8 @@
 -- `requests::seen_in` meets its contract: from the last row to the first, what is seen of the rows from there on. Assumes nothing.
 use mathlib.Core.Path.{◌≡◌, ◌∙◌}
-use Prim.Native.Nat.{◌≤◌}
 use native.Mathlib.Omega.{arith}
-use borrow.Author.Rules.{rules}
-use lib.ListN.{length, drop}
 use Rattle.places.specs.Places.{spans_in}
 use Rattle.places.proofs.Laws.{pairs_length}
-use Rattle.rows.specs.Table.{rows_in}
-use Rattle.meaning.specs.Reading.{values_in}
-use Rattle.requests.specs.Requests.{seen}
 use Rattle.requests.proofs.Laws.{seen_none, seen_row_at}
 use Rattle.requests.proofs.seen_in.Goals as goal
 

@@ -1,5 +1,4 @@
 -- `requests::start_of` meets its contract, by the case. Assumes nothing.
-use borrow.Author.Rules.{rules}
 use Rattle.requests.proofs.start_of.Goals as goal
 
 pub returns-in-Is-g : goal.returns-in-Is-g

@@ -1,5 +1,4 @@
 -- `requests::stop_of` meets its contract, by the case. Assumes nothing.
-use borrow.Author.Rules.{rules}
 use Rattle.requests.proofs.stop_of.Goals as goal
 
 pub returns-in-Is-y : goal.returns-in-Is-y

@@ -1,7 +1,5 @@
 -- `requests::with_mce` meets its contract: by what the reader gave. Assumes nothing.
 use mathlib.Core.Path.{sym}
-use borrow.Author.Rules.{rules}
-use Rattle.values.proofs.mce_at.Reads as mce_at_reads
 use Rattle.requests.proofs.with_mce.Goals as goal
 
 pub returns-in-Is : goal.returns-in-Is

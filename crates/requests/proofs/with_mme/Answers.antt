@@ -1,7 +1,5 @@
 -- `requests::with_mme` meets its contract: by what the reader gave. Assumes nothing.
 use mathlib.Core.Path.{sym}
-use borrow.Author.Rules.{rules}
-use Rattle.values.proofs.mme_at.Reads as mme_at_reads
 use Rattle.requests.proofs.with_mme.Goals as goal
 
 pub returns-in-Is : goal.returns-in-Is

@@ -1,6 +1,5 @@
 -- `requests::with_reset` meets its contract: by what is seen of the Reset Type. Assumes nothing.
 use mathlib.Core.Path.{◌∙◌, sym, ap}
-use borrow.Author.Rules.{rules}
 use Rattle.items.specs.Items.{reset_at}
 use Rattle.requests.proofs.Laws.{with_reset, also_reset}
 use Rattle.requests.proofs.with_reset.Goals as goal

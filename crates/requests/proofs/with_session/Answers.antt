@@ -1,6 +1,5 @@
 -- `requests::with_session` meets its contract: by what the reader gave. Assumes nothing.
 use mathlib.Core.Path.{sym}
-use borrow.Author.Rules.{rules}
 use Rattle.requests.proofs.with_session.Goals as goal
 
 pub returns-in-Is : goal.returns-in-Is

@@ -1,7 +1,5 @@
 -- `requests::with_tmgi` meets its contract: by what the reader gave. Assumes nothing.
 use mathlib.Core.Path.{sym}
-use borrow.Author.Rules.{rules}
-use Rattle.values.proofs.tmgi_at.Reads as tmgi_at_reads
 use Rattle.requests.proofs.with_tmgi.Goals as goal
 
 pub returns-in-Is : goal.returns-in-Is

@@ -1,7 +1,6 @@
 -- `requests::with_value` meets its contract: by the kind, what the reading of the value gave. Assumes nothing.
 use mathlib.Core.Path.{refl, sym}
 use native.Mathlib.Omega.{arith}
-use borrow.Author.Rules.{rules}
 use lib.Seq.{length-take-le}
 use Rattle.rows.specs.declared.Kind.TheVariants as kind
 use Rattle.values.specs.Values.{mme_at, mce_at, tmgi_at, one_at, two_at, cause_at, wait_at}

@@ -1,7 +1,5 @@
 -- `requests::with_wait` meets its contract: by what the reader gave. Assumes nothing.
 use mathlib.Core.Path.{sym}
-use borrow.Author.Rules.{rules}
-use Rattle.values.proofs.wait_at.Reads as wait_at_reads
 use Rattle.requests.proofs.with_wait.Goals as goal
 
 pub returns-in-Is : goal.returns-in-Is

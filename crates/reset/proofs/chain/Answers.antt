@@ -1,12 +1,10 @@
 -- The items passed are chained.
-use Prim.Native.Nat.{min, ◌≤◌, ◌-◌}
+use Prim.Native.Nat.{min}
 use mathlib.Core.Path.{◌≡◌, refl, ap, sym, ◌∙◌}
 use native.Mathlib.Omega.{arith}
-use borrow.Author.Rules.{rules}
 use lib.ListN.{length}
-use Rattle.lists.specs.Chains.{Chained}
 use Rattle.lists.proofs.Chains.{chained_none, chained_more, chained_not}
-use Rattle.reset.specs.Slots.{item_slot, slot_at}
+use Rattle.reset.specs.Slots.{item_slot}
 use Rattle.reset.proofs.chain.Goals as goal
 
 pub loop-i-init : goal.loop-i-init

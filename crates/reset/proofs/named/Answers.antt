@@ -1,5 +1,4 @@
 -- The slots of both identities are walked, the second where the first has none that names it.
-use borrow.Author.Rules.{rules}
 use Rattle.reset.proofs.Slots.{named_either}
 use Rattle.reset.proofs.named.Goals as goal
 

@@ -1,8 +1,6 @@
 -- A walk along the slot's chain: no item passed names the association.
 use mathlib.Core.Path.{sym}
-use native.Mathlib.Omega.{arith}
-use borrow.Author.Rules.{rules}
-use Rattle.reset.proofs.Slots.{Walked, walked_first, walked_found, walked_more, walked_less, walked_all}
+use Rattle.reset.proofs.Slots.{walked_first, walked_found, walked_more, walked_less, walked_all}
 use Rattle.reset.proofs.named_in.Goals as goal
 
 pub loop-k-init : goal.loop-k-init

@@ -1,7 +1,4 @@
-use mathlib.Core.Path.{sym}
-use native.Mathlib.Omega.{arith}
-use borrow.Author.Rules.{rules}
-use Rattle.reset.proofs.Slots.{Walked, walked_first, walked_found, walked_more, walked_less, walked_all}
+use Rattle.reset.proofs.Slots.{Walked}
 use Rattle.reset.proofs.named_in.Given as goal
 
 abbrev pub invariant-loop-k : goal.invariant-loop-k

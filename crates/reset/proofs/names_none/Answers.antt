@@ -1,5 +1,4 @@
 -- The items passed name no row.
-use Prim.Native.Nat.{◌-◌}
 use mathlib.Core.Path.{ap, ◌∙◌}
 use native.Mathlib.Omega.{arith}
 use borrow.Author.Tests.{le-leb, lt-leb}
@@ -8,7 +7,7 @@ use Rattle.lists.specs.Lists.{some}
 use Rattle.identity.specs.declared.Item.{Item}
 use Rattle.table.specs.Table.{names}
 use Rattle.lent.specs.Lent.{first_rows}
-use Rattle.reset.proofs.Untouched.{NoneTo, none_start, none_more, none_found, none_all}
+use Rattle.reset.proofs.Untouched.{none_start, none_more, none_found, none_all}
 use Rattle.reset.proofs.names_none.Goals as goal
 
 pub returns-then-words-gt4 : goal.returns-then-words-gt4

@@ -1,16 +1,13 @@
 -- A filter into the empty table, by what the chains tell of each row.
 use mathlib.Core.Path.{◌≡◌, refl, ap}
 use mathlib.Core.Bool.{not}
-use Prim.Native.Nat.{◌-◌}
 use native.Mathlib.Omega.{arith}
 use borrow.Author.Rules.{rules}
 use lib.ListN.{length}
 use Rattle.lists.proofs.Slices.{length_of}
-use Rattle.lists.proofs.Filter.{Kept, kept_none, kept_one, kept_not}
-use Rattle.table.specs.Table.{unheld, named, without}
-use Rattle.table.specs.declared.Association.{Association}
+use Rattle.lists.proofs.Filter.{kept_none, kept_one, kept_not}
+use Rattle.table.specs.Table.{without}
 use Rattle.table.proofs.Rows.{table_kept}
-use Rattle.reset.proofs.Slots.{word_items}
 use Rattle.reset.proofs.reset.Goals as goal
 
 pub chain-requires : goal.chain-requires

@@ -1,14 +1,8 @@
-use mathlib.Core.Path.{◌≡◌, refl}
 use mathlib.Core.Bool.{not}
 use Prim.Native.Nat.{◌-◌}
-use native.Mathlib.Omega.{arith}
-use borrow.Author.Rules.{rules}
-use lib.ListN.{length}
-use Rattle.lists.proofs.Slices.{length_of}
-use Rattle.lists.proofs.Filter.{Kept, kept_none, kept_one, kept_not}
-use Rattle.table.specs.Table.{unheld, named, without}
+use Rattle.lists.proofs.Filter.{Kept}
+use Rattle.table.specs.Table.{unheld, named}
 use Rattle.table.specs.declared.Association.{Association}
-use Rattle.table.proofs.Rows.{table_kept}
 use Rattle.reset.proofs.Slots.{word_items}
 use Rattle.reset.proofs.reset.Given as goal
 

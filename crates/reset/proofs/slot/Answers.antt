@@ -1,5 +1,4 @@
 -- By the identities that there are.
-use borrow.Author.Rules.{rules}
 use Rattle.reset.specs.Slots.{item_slot}
 use Rattle.reset.proofs.slot.Goals as goal
 

@@ -1,15 +1,10 @@
 -- `reset_items::items_in` meets its contract: no row passed has items, and the words are as they were. Assumes nothing.
-use mathlib.Core.Path.{◌≡◌, ◌∙◌, refl, sym, ap}
-use Prim.Native.Nat.{◌≤◌, ◌-◌}
+use mathlib.Core.Path.{◌∙◌, refl, sym, ap}
 use native.Mathlib.Omega.{arith}
-use borrow.Author.Rules.{rules}
 use lib.ListN.{length}
 use Rattle.places.specs.Places.{spans_in}
 use Rattle.places.proofs.Laws.{pairs_length}
-use Rattle.rows.specs.Table.{rows_in}
-use Rattle.meaning.specs.Reading.{values_in}
-use Rattle.layout.specs.Record.{lists_of}
-use Rattle.reset_items.proofs.Laws.{items_from, behind_last, found_items, same_size, no_items, none_front}
+use Rattle.reset_items.proofs.Laws.{behind_last, found_items, same_size, no_items, none_front}
 use Rattle.reset_items.proofs.items_in.Goals as goal
 
 pub loop-k-init : goal.loop-k-init

@@ -1,14 +1,10 @@
-use mathlib.Core.Path.{◌≡◌, ◌∙◌, refl, sym, ap}
+use mathlib.Core.Path.{◌≡◌}
 use Prim.Native.Nat.{◌≤◌, ◌-◌}
-use native.Mathlib.Omega.{arith}
-use borrow.Author.Rules.{rules}
-use lib.ListN.{length}
 use Rattle.places.specs.Places.{spans_in}
-use Rattle.places.proofs.Laws.{pairs_length}
 use Rattle.rows.specs.Table.{rows_in}
 use Rattle.meaning.specs.Reading.{values_in}
 use Rattle.layout.specs.Record.{lists_of}
-use Rattle.reset_items.proofs.Laws.{items_from, behind_last, found_items, same_size, no_items, none_front}
+use Rattle.reset_items.proofs.Laws.{items_from}
 use Rattle.reset_items.proofs.items_in.Given as goal
 
 abbrev pub invariant-loop-k : goal.invariant-loop-k

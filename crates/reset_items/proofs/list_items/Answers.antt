@@ -2,7 +2,6 @@
 use Rattle.items.specs.Items.{items_at}
 use Rattle.item_words.specs.declared.Taken.TheVariants as taken
 use Rattle.reset_items.proofs.Laws.{list_is}
-use borrow.Author.Rules.{rules}
 use Rattle.reset_items.proofs.list_items.Goals as goal
 
 pub returns-in-Is : goal.returns-in-Is

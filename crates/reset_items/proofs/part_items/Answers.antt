@@ -2,7 +2,6 @@
 use Rattle.items.specs.Items.{reset_at}
 use Rattle.item_words.specs.declared.ResetTaken.TheVariants as taken
 use Rattle.reset_items.proofs.Laws.{part_is}
-use borrow.Author.Rules.{rules}
 use Rattle.reset_items.proofs.part_items.Goals as goal
 
 pub returns-in-Whole : goal.returns-in-Whole

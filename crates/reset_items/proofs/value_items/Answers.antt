@@ -4,7 +4,6 @@ use native.Mathlib.Omega.{arith}
 use lib.Seq.{length-take-le}
 use Rattle.rows.specs.declared.Kind.TheVariants as kind
 use Rattle.reset_items.proofs.Laws.{none_there, of_reset, of_list, none_front, silent_none, carried_silent, mme_silent, mce_silent, tmgi_silent, one_silent, two_silent, cause_silent, wait_silent, name_silent, diagnostics_silent}
-use borrow.Author.Rules.{rules}
 use Rattle.reset_items.proofs.value_items.Goals as goal
 
 pub returns-then-v-eq0 : goal.returns-then-v-eq0

@@ -1,11 +1,7 @@
 -- `rows::kind_of` meets its contract. The loop's invariant: the id is found among the rows left, counted from where the loop stands. Assumes nothing.
-use borrow.Author.Rules.{rules}
-use mathlib.Core.Path.{◌≡◌}
-use Prim.Native.Nat.{◌+◌, ◌≤◌, ◌-◌}
 use native.Mathlib.Omega.{arith}
 use native.Mathlib.Nat.{zero-add}
-use lib.ListN.{drop, length}
-use Rattle.rows.specs.Table.{rows_in, find}
+use Rattle.rows.specs.Table.{rows_in}
 use Rattle.rows.proofs.TableLaws.{row_kind, row_past, ended, unread}
 use Rattle.rows.proofs.kind_of.Goals as goal
 

@@ -1,7 +1,5 @@
 -- `setup::set_up` meets its contract: each refusal in its turn, and then what the writer answered. Assumes nothing.
 use mathlib.Core.Path.{sym, ◌∙◌}
-use borrow.Author.Rules.{rules}
-use borrow.Author.Tests.{not-true, not-false}
 use Rattle.identity.specs.Items.{empty_item}
 use Rattle.setup.specs.Setup.{Setup}
 use Rattle.setup.proofs.Laws.{has_no_unit, a_unit, not_a_unit, name_not_allowed, already_open, no_request, sent_so, no_room_so, not_written_so}

@@ -1,14 +1,10 @@
-use mathlib.Core.Path.{◌≡◌, ◌∙◌}
+use mathlib.Core.Path.{◌≡◌}
 use Prim.Native.Nat.{◌≤◌}
-use native.Mathlib.Omega.{arith}
-use borrow.Author.Rules.{rules}
 use lib.ListN.{length, drop}
 use Rattle.places.specs.Places.{spans_in}
-use Rattle.places.proofs.Laws.{pairs_length}
 use Rattle.rows.specs.Table.{rows_in}
 use Rattle.meaning.specs.Reading.{values_in}
 use Rattle.shown.specs.Shown.{found_among}
-use Rattle.shown.proofs.Values.{found_none, found_row_at}
 use Rattle.shown.proofs.name_among.Given as goal
 
 abbrev pub invariant-loop-k : goal.invariant-loop-k

@@ -1,8 +1,5 @@
 -- `shown::name_in` meets its contract, by the steps of reading: what is refused has no name. Assumes nothing.
 use mathlib.Core.Path.{sym, ◌∙◌}
-use borrow.Author.Rules.{rules}
-use Rattle.octets.proofs.Chain.{told}
-use Rattle.frames.specs.Frame.{found_frame}
 use Rattle.judging.proofs.Steps.{too_long, frame_stops, not_named, not_among, judged_inside}
 use Rattle.shown.specs.Shown.{setup_requests}
 use Rattle.shown.proofs.Reading.{read_as_lem, refused_as}

@@ -1,6 +1,5 @@
 -- `shown::name_inside` meets its contract. What is inside stops, and nothing is found; or the outcome and the values are those of the verdict. Assumes nothing.
 use mathlib.Core.Path.{◌∙◌}
-use borrow.Author.Rules.{rules}
 use Rattle.shown.proofs.Reading.{not_opened, opened}
 use Rattle.shown.proofs.name_inside.Goals as goal
 

@@ -1,8 +1,5 @@
 -- `shown::or_else` meets its contract: by what the reading of the name gave. Assumes nothing.
 use mathlib.Core.Path.{ap}
-use borrow.Author.Rules.{rules}
-use Rattle.octets.proofs.Chain.{told}
-use Rattle.names.specs.Found.{found_name}
 use Rattle.shown.specs.Shown.{or_else}
 use Rattle.shown.proofs.or_else.Goals as goal
 

@@ -1,6 +1,5 @@
 -- `shown::part_of` meets its contract: by what was found. Assumes nothing.
 use mathlib.Core.Path.{sym, ap, ◌∙◌}
-use borrow.Author.Rules.{rules}
 use Rattle.shown.specs.Shown.{part_by, shown_part}
 use Rattle.shown.proofs.part_of.Goals as goal
 

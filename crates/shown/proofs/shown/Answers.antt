@@ -1,5 +1,4 @@
 -- `shown::shown` meets its contract. The part lies within what it is a part of, and its octets are those that are shown. Assumes nothing.
-use borrow.Author.Rules.{rules}
 use Rattle.shown.proofs.Inside.{lies, shows}
 use Rattle.shown.proofs.shown.Goals as goal
 

@@ -1,7 +1,6 @@
 -- `shown::with_value` meets its contract: by the kind, what the reading of a name gave, or what was found before. Assumes nothing.
 use mathlib.Core.Path.{sym}
 use native.Mathlib.Omega.{arith}
-use borrow.Author.Rules.{rules}
 use lib.Seq.{length-take-le}
 use Rattle.shown.proofs.Values.{none_there, name_there, other_there}
 use Rattle.shown.proofs.with_value.Goals as goal

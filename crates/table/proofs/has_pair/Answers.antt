@@ -1,6 +1,5 @@
 -- By whether it has the first.
 use mathlib.Core.Path.{sym, ◌∙◌}
-use borrow.Author.Rules.{rules}
 use Rattle.table.proofs.has_pair.Goals as goal
 
 pub returns-then-first : goal.returns-then-first

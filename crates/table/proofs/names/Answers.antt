@@ -1,5 +1,4 @@
 -- By the identities that the item has.
-use borrow.Author.Rules.{rules}
 use Rattle.table.proofs.names.Goals as goal
 
 pub returns-in-Is-y : goal.returns-in-Is-y

@@ -1,14 +1,12 @@
 -- The rows passed that stay stand in front, and behind them rows are empty up to those not passed yet.
 use mathlib.Core.Path.{◌≡◌, ap}
 use mathlib.Core.Bool.{not}
-use Prim.Native.Nat.{◌-◌}
 use native.Mathlib.Omega.{arith}
 use borrow.Author.Rules.{rules}
 use lib.ListN.{length}
 use Rattle.lists.proofs.Slices.{length_of}
-use Rattle.table.specs.Table.{has_pair, stopping}
-use Rattle.table.specs.declared.Association.{Association}
-use Rattle.table.proofs.Holding.{Stayed, stayed_none, stayed_one, stayed_not, stayed_all}
+use Rattle.table.specs.Table.{stopping}
+use Rattle.table.proofs.Holding.{stayed_none, stayed_one, stayed_not, stayed_all}
 use Rattle.table.proofs.stop.Goals as goal
 
 pub loop-i-init : goal.loop-i-init

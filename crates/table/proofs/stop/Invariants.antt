@@ -1,13 +1,8 @@
-use mathlib.Core.Path.{◌≡◌}
 use mathlib.Core.Bool.{not}
 use Prim.Native.Nat.{◌-◌}
-use native.Mathlib.Omega.{arith}
-use borrow.Author.Rules.{rules}
-use lib.ListN.{length}
-use Rattle.lists.proofs.Slices.{length_of}
-use Rattle.table.specs.Table.{has_pair, stopping}
+use Rattle.table.specs.Table.{has_pair}
 use Rattle.table.specs.declared.Association.{Association}
-use Rattle.table.proofs.Holding.{Stayed, stayed_none, stayed_one, stayed_not, stayed_all}
+use Rattle.table.proofs.Holding.{Stayed}
 use Rattle.table.proofs.stop.Given as goal
 
 abbrev pub invariant-loop-i : goal.invariant-loop-i

@@ -1,7 +1,6 @@
 -- The octet of the mark is 1; too few octets have none.
 use mathlib.Core.Path.{refl}
 use native.Mathlib.Omega.{arith}
-use borrow.Author.Rules.{rules}
 use lib.ListN.{get_or-eq_default}
 use Rattle.units.proofs.is_open.Goals as goal
 

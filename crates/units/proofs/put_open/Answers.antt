@@ -2,7 +2,6 @@
 use mathlib.Core.Path.{sym, ap}
 use Prim.Native.Nat.{ℕ}
 use native.Mathlib.Omega.{arith}
-use borrow.Author.Rules.{rules}
 use lib.ListN.{set}
 use lib.Seq.{set_out}
 use Rattle.units.specs.Unit.{open_octet}

@@ -1,7 +1,6 @@
 -- What is put in front leaves what stands behind; too few octets stay.
 use mathlib.Core.Path.{sym}
 use native.Mathlib.Omega.{arith}
-use borrow.Author.Rules.{rules}
 use lib.Seq.{length-take-le}
 use Rattle.table.specs.Table.{held}
 use Rattle.put_table.specs.Out.{table_out}

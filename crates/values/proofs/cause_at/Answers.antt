@@ -6,7 +6,6 @@ use Rattle.octets.specs.Found.{found_gate, found_octet}
 use Rattle.octets.proofs.Got.{plain_got}
 use Rattle.values.specs.Values.{cause_at}
 use Rattle.values.proofs.Roots.{root_width}
-use borrow.Author.Rules.{rules}
 use Rattle.values.proofs.cause_at.Goals as goal
 
 pub returns-in-Stop : goal.returns-in-Stop

@@ -1,9 +1,7 @@
 -- `values::mce_at` meets its contract: each return is a link of the reading: the two octets were read, or where they stopped. Assumes nothing.
-use Rattle.octets.proofs.Chain.{past, halt, told}
+use Rattle.octets.proofs.Chain.{past, halt}
 use mathlib.Core.Path.{refl}
-use Rattle.values.specs.Found.{found_two_octets}
 use Rattle.values.specs.Values.{mce_at, two_at}
-use borrow.Author.Rules.{rules}
 use Rattle.values.proofs.mce_at.Goals as goal
 
 pub returns-in-Is : goal.returns-in-Is

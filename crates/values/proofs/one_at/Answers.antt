@@ -5,7 +5,6 @@ use native.Mathlib.Omega.{arith}
 use Rattle.octets.specs.Found.{found_octet, found_gate}
 use Rattle.octets.proofs.Got.{number_got}
 use Rattle.values.specs.Values.{one_at}
-use borrow.Author.Rules.{rules}
 use Rattle.values.proofs.one_at.Goals as goal
 
 pub returns-in-Stop : goal.returns-in-Stop

@@ -2,7 +2,6 @@
 use mathlib.Core.Path.{refl, sym}
 use lib.ListN.{get_or-eq_default}
 use Rattle.values.specs.Values.{roots}
-use borrow.Author.Rules.{rules}
 use Rattle.values.proofs.root_of.Goals as goal
 
 pub returns-then-group-lt5 : goal.returns-then-group-lt5

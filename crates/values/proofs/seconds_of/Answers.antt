@@ -2,7 +2,6 @@
 use mathlib.Core.Path.{refl, sym}
 use lib.ListN.{get_or-eq_default}
 use Rattle.values.specs.Values.{waits}
-use borrow.Author.Rules.{rules}
 use Rattle.values.proofs.seconds_of.Goals as goal
 
 pub returns-then-v-lt6 : goal.returns-then-v-lt6

@@ -1,11 +1,9 @@
 -- `values::tmgi_at` meets its contract: each return is the chain of what was read on the way there; a place fits since the field before it stood inside. Assumes nothing.
-use Rattle.octets.proofs.Chain.{past, halt, told}
+use Rattle.octets.proofs.Chain.{past, halt}
 use mathlib.Core.Path.{refl}
 use native.Mathlib.Omega.{arith}
-use Rattle.octets.specs.Found.{found_gate, found_three}
 use Rattle.octets.proofs.Got.{plain_got, string_got}
 use Rattle.values.specs.Values.{tmgi_at}
-use borrow.Author.Rules.{rules}
 use Rattle.values.proofs.tmgi_at.Goals as goal
 
 pub returns-in-Stop : goal.returns-in-Stop

@@ -1,11 +1,9 @@
 -- `values::two_at` meets its contract: each return is the chain of what was read on the way there. Assumes nothing.
-use Rattle.octets.proofs.Chain.{past, halt, told}
+use Rattle.octets.proofs.Chain.{past, halt}
 use mathlib.Core.Path.{refl}
 use native.Mathlib.Omega.{arith}
-use Rattle.octets.specs.Found.{found_two, found_gate}
 use Rattle.octets.proofs.Got.{number_got}
 use Rattle.values.specs.Values.{two_at}
-use borrow.Author.Rules.{rules}
 use Rattle.values.proofs.two_at.Goals as goal
 
 pub returns-in-Stop : goal.returns-in-Stop

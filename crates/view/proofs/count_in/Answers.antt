@@ -1,13 +1,11 @@
 -- At each turn, count of the rows before i have the TMGI.
 use mathlib.Core.Path.{sym, ap, ◌∙◌}
-use Prim.Native.Nat.{◌-◌}
 use native.Mathlib.Omega.{arith}
 use lib.ListN.{drop}
 use Rattle.table.specs.Table.{empty_association}
-use Rattle.lent.specs.Lent.{rows_of}
 use Rattle.lent.proofs.Rows.{length_rows}
 use Rattle.console.specs.Console.{tmgi_of, has_tmgi}
-use Rattle.console.proofs.Counting.{Passed, passed_none, passed_one, passed_not, passed_all}
+use Rattle.console.proofs.Counting.{passed_none, passed_one, passed_not, passed_all}
 use Rattle.view.proofs.count_in.Goals as goal
 use Rattle.view.proofs.count_in.Goals.{then-has_tmgi, else-has_tmgi}
 

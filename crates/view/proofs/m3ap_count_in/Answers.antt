@@ -4,7 +4,6 @@ use native.Mathlib.Omega.{arith}
 use Rattle.identity.specs.Items.{empty_item}
 use Rattle.view.proofs.Found.{found, has_no_unit}
 use lib.Seq.{length-take-le}
-use borrow.Author.Rules.{rules}
 use Rattle.view.proofs.m3ap_count_in.Goals as goal
 
 pub slice_bounds-count_in-end : goal.slice_bounds-count_in-end

@@ -3,7 +3,6 @@ use mathlib.Core.Path.{sym, ◌∙◌}
 use native.Mathlib.Omega.{arith}
 use Rattle.identity.specs.Items.{empty_item}
 use Rattle.view.proofs.Found.{found, has_no_unit}
-use borrow.Author.Rules.{rules}
 use Rattle.view.proofs.m3ap_row.Goals as goal
 
 pub overflow_cast-result : goal.overflow_cast-result

@@ -1,7 +1,6 @@
 -- 1 if the octets say that a request is open, else 0.
-use mathlib.Core.Path.{◌≡◌, sym, ap, ◌∙◌}
+use mathlib.Core.Path.{sym, ap, ◌∙◌}
 use mathlib.Core.Bool.{Bool}
-use borrow.Author.Rules.{rules}
 use Rattle.units.specs.Unit.{open_octet}
 use Rattle.view.proofs.open_mark.Goals as goal
 

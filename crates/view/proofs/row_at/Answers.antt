@@ -6,7 +6,6 @@ use lib.Seq.{length-take-le}
 use Rattle.table.specs.Table.{empty_association}
 use Rattle.lent.specs.Lent.{rows_of}
 use Rattle.lent.proofs.Rows.{length_rows}
-use borrow.Author.Rules.{rules}
 use Rattle.view.proofs.row_at.Goals as goal
 
 pub returns-then-n-k : goal.returns-then-n-k
