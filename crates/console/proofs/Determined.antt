@@ -23,7 +23,7 @@ count_is κs a p x y e f = (e same f) & refl
 pub count_numbers_is : Determined count_numbers'.ps count_numbers'.r count_numbers.Asked count_numbers.Learnt
 count_numbers_is κs a p x y e f = (e same f) & refl
 
--- A function walked by hand has no `.m3ap_count.Reads`, so its own clauses are read: in every model they are a plain fact, and that fact allows one result.
+-- A function's own clauses are read: in every model they are a plain fact, and that fact allows one result.
 pub record DeterminedBy (T : Ended) (c : (M : Type 1) (𝓤 : Ura M) → (𝓛 : Logic 𝓤) → (Memory → SProp 𝓤) → (Routine → Fun 𝓤) → Clauses 𝓤 T) : Type 2 where
   pub Learnt : (κs : Lfts T.signature.lifetimes) → Args T.signature κs → Res T.signature κs → AtExit T κs → Type 0
   pub says : (M : Type 1) (𝓤 : Ura M) (𝓛 : Logic 𝓤) (mem : Memory → SProp 𝓤) (run : Routine → Fun 𝓤) (κs : Lfts T.signature.lifetimes) (a : Args T.signature κs)

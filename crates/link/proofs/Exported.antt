@@ -1,4 +1,4 @@
--- Demand 1 said of the exported call itself: of any arguments, and any result and last values that its statement allows.
+-- Demand 1 said of the call itself: of any arguments, and any result and last values that its statement allows.
 -- Assumes nothing.
 use Prim.Native.Nat.{ℕ, ◌<◌}
 use mathlib.Core.Path.{◌≡◌, ap, ◌∙◌}
@@ -24,7 +24,7 @@ use Rattle.link.proofs.m3ap_call.Reads as m3ap_call
 
 module _ (t m : List ℕ) (o : ℕ) (d : List ℕ) where
   -- of what the statement says
-  promised : (r : Answer) (t' d' : List ℕ) → CallHanded (call Release18 t (lent t m o d)) r t' d' → Promised t m o d r t' d'
+  pub promised : (r : Answer) (t' d' : List ℕ) → CallHanded (call Release18 t (lent t m o d)) r t' d' → Promised t m o d r t' d'
   promised r t' d' e =
       let c : Call = lent t m o d in
       let a = (demand_1 Release18).answered t c in
