@@ -1,10 +1,8 @@
 -- 01's and 02's number of each answer of the table call, with its place, the octet at fault for 2 and 3, 0 otherwise,
 -- and how many seconds to wait: those of a setup that failed with a Time to Wait, 0 otherwise.
-use Rattle.std.specs.Prelude.{ℕ}
+use Rattle.std.specs.Prelude.{ℕ, None, Option, Some}
 use Rattle.octets.specs.declared.Stop.TheVariants.{Fault, Extension}
 use Rattle.values.specs.Values.{seconds}
-use Rattle.requests.specs.declared.MaybeWait.{MaybeWait}
-use Rattle.requests.specs.declared.MaybeWait.TheVariants as wait
 use Rattle.carry.specs.declared.Answer.{Answer}
 use Rattle.carry.specs.declared.Answer.TheVariants.{CarriedOut, TooLong, Stopped, NoRequest, Rejected, MmeHeld, OfferHeld, PairNotHeld, Full, NoRoom, NoneOpen, SetupFailed, NoUnit}
 
@@ -17,9 +15,9 @@ abbrev plain : ℕ → Numbered
 plain n = record { number = n; place = 0; wait = 0 }
 
 -- beside no Time to Wait it is 0, which no number means
-abbrev pub wait_of : MaybeWait → ℕ
-wait_of (wait.Is v) = seconds v
-wait_of wait.Absent = 0
+abbrev pub wait_of : Option ℕ → ℕ
+wait_of (Some v) = seconds v
+wait_of None = 0
 
 abbrev pub numbered : Answer → Numbered
 numbered CarriedOut = plain 0

@@ -1,5 +1,5 @@
 -- A request carried out on a unit, and the associations that its rule names.
-use Rattle.std.specs.Prelude.{false, List, [], ◌∷◌, ◌++◌}
+use Rattle.std.specs.Prelude.{false, List, [], ◌∷◌, ◌++◌, Option, ℕ, Ok, Err}
 use Rattle.lists.specs.Lists.{keep}
 use Rattle.identity.specs.declared.MceId.{MceId}
 use Rattle.identity.specs.declared.Item.{Item}
@@ -8,7 +8,6 @@ use Rattle.frames.specs.declared.Frame.{Frame}
 use Rattle.editions.specs.declared.Edition.{Edition}
 use Rattle.table.specs.Table.{State, has_pair, named, without, starting, stopping, standing}
 use Rattle.units.specs.Unit.{Unit, with_held, with_open}
-use Rattle.requests.specs.declared.MaybeWait.{MaybeWait}
 use Rattle.requests.specs.declared.Request.{Request}
 use Rattle.requests.specs.declared.Request.TheVariants as request
 use Rattle.replies.specs.Replies.{Replied, replied, has_identity}
@@ -17,13 +16,13 @@ use Rattle.carry.specs.declared.Change.{Change}
 use Rattle.carry.specs.declared.Change.TheVariants as change
 use Rattle.carry.specs.declared.Decision.{Decision}
 use Rattle.carry.specs.Carry.{asked, carried_out}
-use Rattle.calls.specs.Judged.{Accepted, Judged, refuses, accepts}
+use Rattle.calls.specs.Judged.{Accepted, Judged}
 
 -- the unit stays: the answer, and the reply; or it changes: the unit then, and the reply; or a setup has failed: the unit then, and how long to wait
 pub data Decided : Type 0 where
   keeps : Answer → Replied → Decided
   changes : Unit → Replied → Decided
-  fails : Unit → MaybeWait → Replied → Decided
+  fails : Unit → Option ℕ → Replied → Decided
 
 -- with the items received
 abbrev pub changed : Unit → List Item → Replied → Change → Decided
@@ -46,8 +45,8 @@ module _ (e : Edition) (u : Unit) where
 
   -- judge, then do
   unfoldable pub decided : MceId → Judged → Decided
-  decided c (refuses a r) = keeps a r
-  decided c (accepts a) = carried c a
+  decided c (Ok a) = carried c a
+  decided c (Err x) = keeps x.answer x.reply
 
 -- ---- what a request is about, in the unit before it
 

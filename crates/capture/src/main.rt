@@ -3,6 +3,7 @@
 
 ghost use Rattle.std.specs.Prelude.{◌≡◌, ◌≤◌, length, IfOk};
 
+use evening::Turn;
 use std::io;
 use std::io::{BufWriter, Read, Write};
 
@@ -28,73 +29,42 @@ fn space_for_two() -> [u8; 131072]
     [0; 131072]
 }
 
-fn line<W: Write>(output: &mut W, label: &[u8], n: usize) -> io::Result<()> {
-    output.write_all(label)?;
-    writeln!(output, "{n}")
-}
-
 // The lines of each entry; the last number given before is told.
-fn show<W: Write>(output: &mut W, out: &[usize], entries: usize, before: usize) -> io::Result<()> {
+fn show<W: Write>(output: &mut W, turns: &[Turn], before: usize) -> io::Result<()> {
     let mut message = before;
-    let mut at: usize = 0;
-    let mut left = entries;
-    while 0 < left {
-        if out.len() - at < 3 {
-            return Ok(());
-        }
-        message = std::num::wrapping_add_usize(message, 1);
-        line(output, b"message=", message)?;
-        line(output, b"answer=", out[at])?;
-        line(output, b"reply=", out[at + 1])?;
-        line(output, b"held=", out[at + 2])?;
-        at += 3;
-        left -= 1;
+    for turn in turns {
+        message = message.wrapping_add(1);
+        writeln!(output, "message={message}")?;
+        writeln!(output, "answer={}", turn.answer)?;
+        writeln!(output, "reply={}", turn.reply)?;
+        writeln!(output, "held={}", turn.held)?;
     }
     Ok(())
 }
 
-// Plays all whole entries of s, as many at a time as the array has room for.
+// Plays all whole entries of s, as many at a time as there is room for turns.
 fn play_whole<W: Write>(
     output: &mut W,
     s: &[u8],
     unit: &mut [u8],
     room: &mut [u8],
-    out: &mut [usize],
+    turns: &mut [Turn],
     before: usize,
-) -> io::Result<Progress> {
+) -> io::Result<Progress>
+    ensures { IfOk result (λ p. p.octets ≤ length s.now) }
+{
     let mut messages = before;
-    let mut at: usize = 0;
-    while at < s.len() {
-        let p = evening::play(&s[at..], unit, room, out);
+    let mut octets: usize = 0;
+    while octets < s.len() {
+        let p = evening::play(&s[octets..], unit, room, turns);
         if p.octets == 0 {
-            return Ok(Progress {
-                messages: messages,
-                octets: at,
-            });
+            break;
         }
-        show(output, out, p.entries, messages)?;
-        messages = std::num::wrapping_add_usize(messages, p.entries);
-        at += p.octets;
+        show(output, &turns[..p.entries], messages)?;
+        messages = messages.wrapping_add(p.entries);
+        octets += p.octets;
     }
-    Ok(Progress {
-        messages: messages,
-        octets: at,
-    })
-}
-
-// Moves what stands from a place up to another to the front, and says how much that is.
-fn to_front(space: &mut [u8], from: usize, to: usize) -> usize {
-    let mut i: usize = 0;
-    let mut j = from;
-    while j < to {
-        if space.len() <= j {
-            return i;
-        }
-        space[i] = space[j];
-        i += 1;
-        j += 1;
-    }
-    i
+    Ok(Progress { messages, octets })
 }
 
 // Reads until the space is filled or the input ends, and says how many octets came.
@@ -112,7 +82,7 @@ fn read_full<R: Read>(input: &mut R, space: &mut [u8]) -> io::Result<usize>
     Ok(at)
 }
 
-// Reads behind what is left over, plays what is whole, and keeps the rest. Where the space is not filled, the input has ended.
+// Reads behind what is left over, plays what is whole, and keeps the rest in front. Where the space is not filled, the input has ended.
 fn read_on<R: Read, W: Write>(
     input: &mut R,
     output: &mut W,
@@ -120,35 +90,24 @@ fn read_on<R: Read, W: Write>(
     space: &mut [u8],
     unit: &mut [u8],
     room: &mut [u8],
-    out: &mut [usize],
+    turns: &mut [Turn],
 ) -> io::Result<Reading> {
-    let left = r.left;
-    if space.len() < left {
-        return Ok(Reading {
-            messages: r.messages,
-            left: left,
-            more: false,
-        });
+    if space.len() < r.left {
+        return Ok(Reading { more: false, ..r });
     }
-    let got = read_full(input, &mut space[left..])?;
-    let have = left + got;
-    let p = play_whole(output, &space[..have], unit, room, out, r.messages)?;
-    let more = have == space.len();
-    let rest = to_front(space, p.octets, have);
+    let have = r.left + read_full(input, &mut space[r.left..])?;
+    let p = play_whole(output, &space[..have], unit, room, turns, r.messages)?;
+    space[..have].rotate_left(p.octets);
     Ok(Reading {
         messages: p.messages,
-        left: rest,
-        more: more,
+        left: have - p.octets,
+        more: have == space.len(),
     })
 }
 
 fn finish<W: Write>(output: &mut W, r: Reading) -> io::Result<()> {
-    line(output, b"messages=", r.messages)?;
-    if r.left == 0 {
-        line(output, b"cut=", 0)?;
-        return output.flush();
-    }
-    line(output, b"cut=", 1)?;
+    writeln!(output, "messages={}", r.messages)?;
+    writeln!(output, "cut={}", u8::from(r.left != 0))?;
     output.flush()
 }
 
@@ -158,7 +117,11 @@ fn main(rt: HostRuntime) -> io::Result<()> {
     let mut space = space_for_two();
     let mut room = [0u8; 8192];
     let mut unit = [0u8; 3088];
-    let mut out = [0usize; 3072];
+    let mut turns = [Turn {
+        answer: 0,
+        reply: 0,
+        held: 0,
+    }; 1024];
     let mut r = Reading {
         messages: 0,
         left: 0,
@@ -172,10 +135,9 @@ fn main(rt: HostRuntime) -> io::Result<()> {
             &mut space,
             &mut unit,
             &mut room,
-            &mut out,
+            &mut turns,
         )?;
-        let more = r.more;
-        if !more {
+        if !r.more {
             return finish(&mut output, r);
         }
     }

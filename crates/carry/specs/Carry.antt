@@ -1,11 +1,8 @@
 -- 01's rules: the judging ends in a refusal or in a request, and a request is carried out by what is held of its identities.
+use Rattle.std.specs.Prelude.{None, Option, Some, Result, Ok, Err, ℕ}
 use Rattle.lists.specs.Lists.{pick}
 use Rattle.identity.specs.declared.MmeId.{MmeId}
 use Rattle.identity.specs.declared.MceId.{MceId}
-use Rattle.identity.specs.declared.Mme.{Mme}
-use Rattle.identity.specs.declared.Mme.TheVariants as mme
-use Rattle.identity.specs.declared.Mce.TheVariants as mce
-use Rattle.identity.specs.declared.Session.{Session}
 use Rattle.identity.specs.declared.Tmgi.{Tmgi}
 use Rattle.identity.specs.declared.Item.{Item}
 use Rattle.identity.specs.Items.{empty_item}
@@ -23,42 +20,41 @@ use Rattle.requests.specs.declared.Ask.TheVariants as ask
 use Rattle.requests.specs.declared.Seen.{Seen}
 use Rattle.requests.specs.declared.Request.{Request}
 use Rattle.requests.specs.declared.Request.TheVariants as request
-use Rattle.requests.specs.declared.Wanted.{Wanted}
-use Rattle.requests.specs.declared.Wanted.TheVariants as wanted
 use Rattle.requests.specs.Requests.{request_of}
 use Rattle.carry.specs.declared.Answer.{Answer}
 use Rattle.carry.specs.declared.Answer.TheVariants as answer
 use Rattle.carry.specs.declared.Change.{Change}
 use Rattle.carry.specs.declared.Change.TheVariants as change
 use Rattle.carry.specs.declared.Decision.{Decision}
-use Rattle.carry.specs.declared.Ruling.{Ruling}
-use Rattle.carry.specs.declared.Ruling.TheVariants.{Granted, Refused}
 
 -- ---- the judging ends in a refusal with its reply, or in a request
 
+abbrev pub Ruling : Type 0
+Ruling = Result Request Reply
+
 -- answer 5: START FAILURE if a start's MME identity was read; none for an ERROR INDICATION; else ERROR INDICATION, with the identities read for a stop
-abbrev pub start_rejected : Mme → Cause → Reply
-start_rejected (mme.Is m) why = reply.StartFailure m why
-start_rejected mme.Absent why = reply.Rejection mme.Absent mce.Absent why
+abbrev pub start_rejected : Option MmeId → Cause → Reply
+start_rejected (Some m) why = reply.StartFailure m why
+start_rejected None why = reply.Rejection None None why
 
 unfoldable pub rejection : Ask → Seen → Cause → Reply
 rejection ask.Start x why = start_rejected x.mme why
 rejection ask.Stop x why = reply.Rejection x.mme x.mce why
-rejection ask.Reset x why = reply.Rejection mme.Absent mce.Absent why
+rejection ask.Reset x why = reply.Rejection None None why
 rejection ask.Indication x why = reply.None
-rejection ask.SetupResponse x why = reply.Rejection mme.Absent mce.Absent why
-rejection ask.SetupFailure x why = reply.Rejection mme.Absent mce.Absent why
+rejection ask.SetupResponse x why = reply.Rejection None None why
+rejection ask.SetupFailure x why = reply.Rejection None None why
 rejection ask.Nothing x why = reply.None
 
 -- a mandatory element that is missing is rejected
-abbrev pub ruled_by : Reply → Wanted → Ruling
-ruled_by r (wanted.Is q) = Granted q
-ruled_by r wanted.Lacking = Refused r
+abbrev pub ruled_by : Reply → Option Request → Ruling
+ruled_by r (Some q) = Ok q
+ruled_by r None = Err r
 
 abbrev pub ruling : Ask → Seen → Outcome → Ruling
 ruling a x outcome.Accepted = ruled_by (rejection a x abstract_syntax) (request_of a x)
-ruling a x (outcome.Misplaced p) = Refused (rejection a x falsely_constructed)
-ruling a x outcome.Rejected = Refused (rejection a x abstract_syntax)
+ruling a x (outcome.Misplaced p) = Err (rejection a x falsely_constructed)
+ruling a x outcome.Rejected = Err (rejection a x abstract_syntax)
 
 -- answers 1 to 4
 abbrev pub refusal : Refusal → Answer
@@ -77,8 +73,8 @@ stays a r = deciding (change.Stays a) r
 
 -- a start asks about its MME identity and the offered one, a stop about its two; nothing else asks
 abbrev pub asked : MceId → Request → Item
-asked c (request.Start m t s) = record { mme = mme.Is m; mce = mce.Is c }
-asked c (request.Stop m x) = record { mme = mme.Is m; mce = mce.Is x }
+asked c (request.Start m t s) = record { mme = Some m; mce = Some c }
+asked c (request.Stop m x) = record { mme = Some m; mce = Some x }
 asked c request.Whole = empty_item
 asked c request.Part = empty_item
 asked c request.Indication = empty_item
@@ -88,7 +84,7 @@ asked c (request.SetupFailure w) = empty_item
 -- k is what is held of the identities that the request asks about
 module _ (k : Standing) where
   -- start: 6, 7, 9, or the new association stands behind the others
-  unfoldable pub started : MceId → MmeId → Tmgi → Session → Decision
+  unfoldable pub started : MceId → MmeId → Tmgi → Option ℕ → Decision
   started c m t s =
       pick k.mme (stays answer.MmeHeld (reply.StartFailure m mme_taken))
       (pick k.mce (stays answer.OfferHeld reply.None)
@@ -113,9 +109,9 @@ module _ (k : Standing) where
 -- ---- both in turn, as the code has them: of a refusal nothing is asked, and nothing changes
 
 abbrev pub asked_by : MceId → Ruling → Item
-asked_by c (Granted q) = asked c q
-asked_by c (Refused r) = empty_item
+asked_by c (Ok q) = asked c q
+asked_by c (Err r) = empty_item
 
 abbrev pub decision : Standing → MceId → Ruling → Decision
-decision k c (Granted q) = carried_out k c q
-decision k c (Refused r) = stays answer.Rejected r
+decision k c (Ok q) = carried_out k c q
+decision k c (Err r) = stays answer.Rejected r

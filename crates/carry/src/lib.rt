@@ -4,10 +4,10 @@
 ghost use Rattle.std.specs.Prelude.{◌≡◌};
 ghost use Rattle.carry.specs.Carry.{start_rejected, rejection, ruling, stays, started, stopped, asked, carried_out, asked_by, decision};
 
-use identity::{Item, Mce, MceId, Mme, MmeId, Session, Tmgi};
+use identity::{Item, MceId, MmeId, Tmgi};
 use octets::Stop;
 use replies::Reply;
-use requests::{Ask, MaybeWait, Request, Seen, Wanted};
+use requests::{Ask, Request, Seen};
 use table::{Association, Standing};
 use values::Cause;
 use verdicts::Outcome;
@@ -37,17 +37,13 @@ pub enum Answer {
     // 14: the answer to a setup request, and none is open
     NoneOpen,
     // 0, of a setup that failed: how long to wait
-    SetupFailed(MaybeWait),
+    SetupFailed(Option<u8>),
     // 21: octets of no unit
     NoUnit,
 }
 
 // What the judging of elements ends in: a request of which nothing is absent, or answer 5 with its reply.
-#[derive(Clone, Copy)]
-pub enum Ruling {
-    Granted(Request),
-    Refused(Reply),
-}
+pub type Ruling = Result<Request, Reply>;
 
 // What becomes of the table: it stays, with an answer; or it changes, and the answer is 0.
 #[derive(Clone, Copy)]
@@ -62,7 +58,7 @@ pub enum Change {
     // a setup request is accepted: nothing is held any more, and no request is open
     SetsUp,
     // it failed: no request is open
-    SetupFails(MaybeWait),
+    SetupFails(Option<u8>),
 }
 
 // What becomes of the table, and the reply.
@@ -85,8 +81,8 @@ const ABSTRACT_SYNTAX: Cause = Cause { group: 3, value: 1 };
 const FALSELY_CONSTRUCTED: Cause = Cause { group: 3, value: 5 };
 
 const NOBODY: Item = Item {
-    mme: Mme::Absent,
-    mce: Mce::Absent,
+    mme: None,
+    mce: None,
 };
 
 fn stays(a: Answer, reply: Reply) -> Decision
@@ -94,12 +90,13 @@ fn stays(a: Answer, reply: Reply) -> Decision
 {
     Decision {
         change: Change::Stays(a),
-        reply: reply,
+        reply,
     }
 }
 
 // A start: 6, 7, 9, or the new association stands behind the others.
-fn start(k: Standing, c: MceId, m: MmeId, tmgi: Tmgi, session: Session) -> Decision
+#[tactic(auto, unfolding(crate::specs::Carry::started))]
+fn start(k: Standing, c: MceId, m: MmeId, tmgi: Tmgi, session: Option<u8>) -> Decision
     ensures { result ≡ started k c m tmgi session }
 {
     if k.mme {
@@ -114,8 +111,8 @@ fn start(k: Standing, c: MceId, m: MmeId, tmgi: Tmgi, session: Session) -> Decis
     let a = Association {
         mme: m,
         mce: c,
-        tmgi: tmgi,
-        session: session,
+        tmgi,
+        session,
     };
     Decision {
         change: Change::Starts(a),
@@ -124,6 +121,7 @@ fn start(k: Standing, c: MceId, m: MmeId, tmgi: Tmgi, session: Session) -> Decis
 }
 
 // A stop: 8, or the association that has both identities is gone.
+#[tactic(auto, unfolding(crate::specs::Carry::stopped))]
 fn stop(k: Standing, m: MmeId, c: MceId) -> Decision
     ensures { result ≡ stopped k m c }
 {
@@ -137,29 +135,25 @@ fn stop(k: Standing, m: MmeId, c: MceId) -> Decision
 }
 
 // Answer 5's reply to a start.
-fn start_rejected(x: Mme, why: Cause) -> Reply
+fn start_rejected(x: Option<MmeId>, why: Cause) -> Reply
     ensures { result ≡ start_rejected x why }
 {
     match x {
-        Mme::Is(m) => Reply::StartFailure(m, why),
-        Mme::Absent => Reply::Rejection(Mme::Absent, Mce::Absent, why),
+        Some(m) => Reply::StartFailure(m, why),
+        None => Reply::Rejection(None, None, why),
     }
 }
 
 // Answer 5's reply.
+#[tactic(auto, unfolding(crate::specs::Carry::rejection))]
 fn rejection(a: Ask, x: Seen, why: Cause) -> Reply
     ensures { result ≡ rejection a x why }
 {
-    let mme = x.mme;
-    let mce = x.mce;
     match a {
-        Ask::Start => start_rejected(mme, why),
-        Ask::Stop => Reply::Rejection(mme, mce, why),
-        Ask::Reset => Reply::Rejection(Mme::Absent, Mce::Absent, why),
-        Ask::Indication => Reply::None,
-        Ask::SetupResponse => Reply::Rejection(Mme::Absent, Mce::Absent, why),
-        Ask::SetupFailure => Reply::Rejection(Mme::Absent, Mce::Absent, why),
-        Ask::Nothing => Reply::None,
+        Ask::Start => start_rejected(x.mme, why),
+        Ask::Stop => Reply::Rejection(x.mme, x.mce, why),
+        Ask::Reset | Ask::SetupResponse | Ask::SetupFailure => Reply::Rejection(None, None, why),
+        Ask::Indication | Ask::Nothing => Reply::None,
     }
 }
 
@@ -167,10 +161,7 @@ fn rejection(a: Ask, x: Seen, why: Cause) -> Reply
 fn granted(a: Ask, x: Seen) -> Ruling
     ensures { result ≡ ruling a x Outcome.Accepted }
 {
-    match requests::request_of(a, x) {
-        Wanted::Is(q) => Ruling::Granted(q),
-        Wanted::Lacking => Ruling::Refused(rejection(a, x, ABSTRACT_SYNTAX)),
-    }
+    requests::request_of(a, x).ok_or_else(|| rejection(a, x, ABSTRACT_SYNTAX))
 }
 
 // What the judging of elements ends in.
@@ -179,8 +170,8 @@ pub fn rule(a: Ask, x: Seen, o: Outcome) -> Ruling
 {
     match o {
         Outcome::Accepted => granted(a, x),
-        Outcome::Misplaced(_) => Ruling::Refused(rejection(a, x, FALSELY_CONSTRUCTED)),
-        Outcome::Rejected => Ruling::Refused(rejection(a, x, ABSTRACT_SYNTAX)),
+        Outcome::Misplaced(_) => Err(rejection(a, x, FALSELY_CONSTRUCTED)),
+        Outcome::Rejected => Err(rejection(a, x, ABSTRACT_SYNTAX)),
     }
 }
 
@@ -216,8 +207,8 @@ pub fn decide(k: Standing, c: MceId, r: Ruling) -> Decision
     ensures { result ≡ decision k c r }
 {
     match r {
-        Ruling::Granted(q) => carry_out(k, c, q),
-        Ruling::Refused(reply) => stays(Answer::Rejected, reply),
+        Ok(q) => carry_out(k, c, q),
+        Err(reply) => stays(Answer::Rejected, reply),
     }
 }
 
@@ -227,18 +218,18 @@ fn asked_by_request(c: MceId, q: Request) -> Item
 {
     match q {
         Request::Start(m, _, _) => Item {
-            mme: Mme::Is(m),
-            mce: Mce::Is(c),
+            mme: Some(m),
+            mce: Some(c),
         },
         Request::Stop(m, x) => Item {
-            mme: Mme::Is(m),
-            mce: Mce::Is(x),
+            mme: Some(m),
+            mce: Some(x),
         },
-        Request::Whole => NOBODY,
-        Request::Part => NOBODY,
-        Request::Indication => NOBODY,
-        Request::SetupResponse => NOBODY,
-        Request::SetupFailure(_) => NOBODY,
+        Request::Whole
+        | Request::Part
+        | Request::Indication
+        | Request::SetupResponse
+        | Request::SetupFailure(_) => NOBODY,
     }
 }
 
@@ -247,7 +238,7 @@ pub fn asked(c: MceId, r: Ruling) -> Item
     ensures { result ≡ asked_by c r }
 {
     match r {
-        Ruling::Granted(q) => asked_by_request(c, q),
-        Ruling::Refused(_) => NOBODY,
+        Ok(q) => asked_by_request(c, q),
+        Err(_) => NOBODY,
     }
 }

@@ -1,9 +1,7 @@
 -- What the console answers for a run of associations: 01's numbers 0 and 21.
-use Rattle.std.specs.Prelude.{Bool, true, false, not, ◌&&◌, List, map, ℕ, eqb, leb, length}
+use Rattle.std.specs.Prelude.{Bool, true, false, not, ◌&&◌, List, map, ℕ, eqb, leb, length, None, Option, Some}
 use Rattle.lists.specs.Lists.{pick, keep, some}
 use Rattle.identity.specs.declared.Tmgi.{Tmgi}
-use Rattle.identity.specs.declared.Session.{Session}
-use Rattle.identity.specs.declared.Session.TheVariants as session
 use Rattle.table.specs.declared.Association.{Association}
 use Rattle.table.specs.Table.{State, distinct_held}
 use Rattle.console.specs.declared.TmgiOctets.{TmgiOctets}
@@ -17,9 +15,9 @@ tmgi_of t = record {
   service = record { 0 = t.service.0; 1 = t.service.1; 2 = t.service.2 };
 }
 
-abbrev session_by : Bool → ℕ → Session
-session_by true s = session.Is s
-session_by false s = session.Absent
+abbrev session_by : Bool → ℕ → Option ℕ
+session_by true s = Some s
+session_by false s = None
 
 abbrev pub stands_for : Record → Association
 stands_for r = record {

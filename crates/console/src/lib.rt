@@ -1,7 +1,7 @@
 // How many associations of a run that the host lends have a TMGI: over plain numbers, then over the run.
 #![tactic(auto)]
 
-ghost use Rattle.std.specs.Prelude.{◌≡◌, [], ℕ, min, ◌<◌, eqb, length};
+ghost use Rattle.std.specs.Prelude.{◌≡◌, [], ℕ, ◌<◌, eqb, length};
 ghost use Rattle.lists.specs.Lists.{keep};
 ghost use Rattle.console.specs.Console.{tmgi_of, counted_run};
 ghost use Rattle.console.specs.Numbers.{Octets6, six_of, gathered, put_in, counted_in};
@@ -58,13 +58,11 @@ pub struct Numbers {
 pub fn count(tmgis: &[u64], tmgi: u64) -> usize
     ensures { result ≡ length (keep (λ (x : ℕ). eqb x tmgi) tmgis.now) }
 {
-    let mut n: usize = 0;
-    let mut i: usize = 0;
-    while i < tmgis.len() {
-        if tmgis[i] == tmgi {
+    let mut n = 0;
+    for x in tmgis {
+        if *x == tmgi {
             n += 1;
         }
-        i += 1;
     }
     n
 }
@@ -73,92 +71,67 @@ pub fn count(tmgis: &[u64], tmgi: u64) -> usize
 pub fn count_numbers(g: Numbers, n: usize, tmgi: u64) -> Counted
     ensures { result ≡ counted_in g n tmgi }
 {
-    if 256 < n {
+    if 256 < n || g.elsewhere {
         return NO_TABLE;
     }
-    if g.elsewhere {
+    if !distinct::unequal(&g.mmes[..n]) || !distinct::unequal(&g.mces[..n]) {
         return NO_TABLE;
     }
-    let mmes = g.mmes;
-    if !distinct::unequal_mmes(mmes, n) {
-        return NO_TABLE;
+    Counted {
+        answer: 0,
+        count: count(&g.tmgis[..n], tmgi),
     }
-    let mces = g.mces;
-    if !distinct::unequal_mces(mces, n) {
-        return NO_TABLE;
-    }
-    let tmgis = g.tmgis;
-    let count = count(&tmgis[..n], tmgi);
-    Counted { answer: 0, count }
 }
 
 // Six octets as one number, the first the highest; each is an octet, by its type.
 fn number_of(t: TmgiOctets) -> u64
     ensures { (result ≡ six_of t) × Octets6 t }
 {
-    let a = ((t.plmn.0 as u64) * 256 + (t.plmn.1 as u64)) * 256 + (t.plmn.2 as u64);
-    let b = ((t.service.0 as u64) * 256 + (t.service.1 as u64)) * 256 + (t.service.2 as u64);
-    a * 16777216 + b
-}
-
-// How many records are looked at: a run of more is no table.
-fn looked_at(n: usize) -> usize
-    ensures { result ≡ min n 256 }
-{
-    if n < 256 { n } else { 256 }
+    let (p, s) = (t.plmn, t.service);
+    u64::from_be_bytes([0, 0, p.0, p.1, p.2, s.0, s.1, s.2])
 }
 
 // The numbers of no record.
+#[tactic(auto, unfolding(crate::specs::Numbers::gathered))]
 fn none_yet() -> Numbers
     ensures { result ≡ gathered [] }
 {
-    let mme = MmeId(0);
-    let mce = MceId(0);
     Numbers {
-        mmes: [mme; 256],
-        mces: [mce; 256],
+        mmes: [MmeId(0); 256],
+        mces: [MceId(0); 256],
         tmgis: [0; 256],
         elsewhere: false,
     }
 }
 
 // The record's numbers are stored.
-fn with_record(g: Numbers, at: usize, row: Record) -> Numbers
+#[tactic(auto, unfolding(crate::specs::Numbers::put_in))]
+fn put(g: &mut Numbers, at: usize, row: Record)
     requires { at < 256 }
-    ensures { (result ≡ put_in g at row) × Octets6 row.tmgi }
+    ensures { (g.new ≡ put_in g.old at row) × Octets6 row.tmgi }
 {
-    let t = row.tmgi;
-    let x = number_of(t);
-    let mme = row.mme;
-    let mce = row.mce;
-    let mut out = g;
-    out.mmes[at] = mme;
-    out.mces[at] = mce;
-    out.tmgis[at] = x;
+    g.mmes[at] = row.mme;
+    g.mces[at] = row.mce;
+    g.tmgis[at] = number_of(row.tmgi);
     if row.link != 0 {
-        out.elsewhere = true;
+        g.elsewhere = true;
     }
-    out
 }
 
 // The answer for a run of n records, for a TMGI by its octets.
 fn judged(g: Numbers, n: usize, tmgi: TmgiOctets) -> Counted
     ensures { (result ≡ counted_in g n (six_of tmgi)) × Octets6 tmgi }
 {
-    let x = number_of(tmgi);
-    count_numbers(g, n, x)
+    count_numbers(g, n, number_of(tmgi))
 }
 
 // How many associations of the run have the TMGI; answer 21 where the run is no table.
 pub fn m3ap_count(run: &[Record], tmgi: TmgiOctets) -> Counted
     ensures { result ≡ counted_run (tmgi_of tmgi) run.now }
 {
-    let n = looked_at(run.len());
     let mut g = none_yet();
-    let mut i: usize = 0;
-    while i < n {
-        g = with_record(g, i, run[i]);
-        i += 1;
+    for i in 0..run.len().min(256) {
+        put(&mut g, i, run[i]);
     }
     judged(g, run.len(), tmgi)
 }

@@ -1,5 +1,8 @@
 -- Where the elements of a request are accepted, the mandatory ones of criticality reject were read: their rows have a value, which is of the row's kind, and it is seen.
 -- Assumes nothing.
+use Rattle.identity.specs.declared.MceId.{MceId}
+use Rattle.identity.specs.declared.Tmgi.{Tmgi}
+use Rattle.identity.specs.declared.MmeId.{MmeId}
 use Prim.Native.Nat.{ℕ, zero, suc, ◌+◌, ◌<◌, ◌≤◌}
 use mathlib.Core.Path.{◌≡◌, ◌∙◌, refl, sym, ap, subst}
 use mathlib.Core.Bool.{Bool, true, false}
@@ -12,7 +15,7 @@ use lib.Seq.{get_or-set_same, get_or-set_other, set_out}
 use Rattle.lists.specs.Lists.{pick, some}
 use Rattle.lists.proofs.Tests.{on-pick, or_left, or_right}
 use Rattle.lists.proofs.Some.{some_append}
-use Rattle.octets.specs.Read.{got}
+use Rattle.std.specs.Prelude.{IsSome, Ok, None, Option, Some}
 use Rattle.octets.specs.declared.Span.{Span}
 use Rattle.octets.specs.Span.{no_span, present}
 use Rattle.octets.proofs.Chain.{same_got}
@@ -46,46 +49,32 @@ use Rattle.meaning.specs.Reading.{read_as, value_in, values_in}
 use Rattle.verdicts.specs.declared.Outcome.TheVariants as outcome
 use Rattle.verdicts.specs.Verdict.{Opening, outcome_by, Understood, understood, read_of}
 use Rattle.round_trips.proofs.Ordered.{Scanned, scanned}
-use Rattle.round_trips.proofs.ValueAgain.{read_as_lem}
-use Rattle.round_trips.proofs.Accepted.{opened}
-use Rattle.identity.specs.declared.Mme.{Mme}
-use Rattle.identity.specs.declared.Mme.TheVariants as mme
-use Rattle.identity.specs.declared.Mce.{Mce}
-use Rattle.identity.specs.declared.Mce.TheVariants as mce
-use Rattle.identity.specs.declared.Session.{Session}
-use Rattle.requests.specs.declared.MaybeTmgi.{MaybeTmgi}
-use Rattle.requests.specs.declared.MaybeTmgi.TheVariants as tmgi
-use Rattle.requests.specs.declared.MaybeReset.{MaybeReset}
-use Rattle.requests.specs.declared.MaybeReset.TheVariants as reset
+use Rattle.round_trips.proofs.ValueAgain.{read_as_lem, of_read}
+use Rattle.round_trips.proofs.Accepted.{opened, accepted_tests}
+use Rattle.requests.specs.declared.Extent.{Extent}
+use Rattle.requests.specs.declared.Extent.TheVariants as extent
 use Rattle.requests.specs.declared.Seen.{Seen}
-use Rattle.requests.specs.declared.Wanted.{Wanted}
-use Rattle.requests.specs.declared.Wanted.TheVariants as wanted
 use Rattle.requests.specs.Requests.{seen, start_of, stop_of, reset_of, request_of, ask_of, asks}
-use Rattle.demands.proofs.Seen.{IsMme, IsMce, IsTmgi, IsReset, Has, seen_has}
-use Rattle.demands.proofs.Verdicts.{only_passed, judging, understood_m3ap}
-use Rattle.demands.proofs.Sound.{of_read}
+use Rattle.demands.proofs.Seen.{Has, seen_has}
+use Rattle.demands.proofs.Verdicts.{only_passed, judging, not_asked, understood_m3ap}
 
 -- ---- what is said
 
--- nothing is lacking
-abbrev pub Complete : Wanted → Type 0
-Complete (wanted.Is q) = Unit
-Complete wanted.Lacking = ⊥
+-- nothing is lacking where each is there
+start_complete : (x : Option MmeId) (t : Option Tmgi) (s : Option ℕ) → IsSome x → IsSome t → IsSome (start_of x t s)
+start_complete (Some m) (Some t) s g h = refl
+start_complete (Some m) None s g h = cc
+start_complete None t s g h = cc
 
-start_complete : (x : Mme) (t : MaybeTmgi) (s : Session) → IsMme x → IsTmgi t → Complete (start_of x t s)
-start_complete (mme.Is m) (tmgi.Is t) s g h = tt
-start_complete (mme.Is m) tmgi.Absent s g h = absurd h
-start_complete mme.Absent t s g h = absurd g
+stop_complete : (x : Option MmeId) (y : Option MceId) → IsSome x → IsSome y → IsSome (stop_of x y)
+stop_complete (Some m) (Some c) g h = refl
+stop_complete (Some m) None g h = cc
+stop_complete None y g h = cc
 
-stop_complete : (x : Mme) (y : Mce) → IsMme x → IsMce y → Complete (stop_of x y)
-stop_complete (mme.Is m) (mce.Is c) g h = tt
-stop_complete (mme.Is m) mce.Absent g h = absurd h
-stop_complete mme.Absent y g h = absurd g
-
-reset_complete : (x : MaybeReset) → IsReset x → Complete (reset_of x)
-reset_complete reset.Whole g = tt
-reset_complete reset.Part g = tt
-reset_complete reset.Absent g = absurd g
+reset_complete : (x : Option Extent) → IsSome x → IsSome (reset_of x)
+reset_complete (Some extent.Whole) g = refl
+reset_complete (Some extent.Part) g = refl
+reset_complete None g = cc
 
 -- ---- rows that have a value
 
@@ -110,7 +99,7 @@ row_present (r ∷ t) (v ∷ l) (suc k) n b e m c =
 
 module _ (t : List Row) (s : List ℕ) where
   abbrev Readable : Head → Type 0
-  Readable h = got tt ≡ legible_at (kind_of t h.id) (take h.value.to s) h.value.from
+  Readable h = Ok tt ≡ legible_at (kind_of t h.id) (take h.value.to s) h.value.from
 
   each_readable : (end at : ℕ) (hs : List Head) → Scanned t s end at hs → Each Readable hs
   each_readable end at [] q = tt
@@ -118,13 +107,13 @@ module _ (t : List Row) (s : List ℕ) where
 
   -- each row that has a value has one that can be read
   abbrev Rows : List Span → Type 0
-  Rows l = (j : ℕ) → present (get_or l j no_span) ≡ true → got tt ≡ legible_at (get_or t j no_row).kind (take (get_or l j no_span).to s) (get_or l j no_span).from
+  Rows l = (j : ℕ) → present (get_or l j no_span) ≡ true → Ok tt ≡ legible_at (get_or t j no_row).kind (take (get_or l j no_span).to s) (get_or l j no_span).from
 
   set_rows : (l : List Span) (h : Head) → Readable h → Rows l → Rows (set l (find h.id t) h.value)
   set_rows l h r g j = by (eqb j (find h.id t)) refl (ltb (find h.id t) (length l)) refl
     where
       One : Span → Type 0
-      One v = present v ≡ true → got tt ≡ legible_at (get_or t j no_row).kind (take v.to s) v.from
+      One v = present v ≡ true → Ok tt ≡ legible_at (get_or t j no_row).kind (take v.to s) v.from
 
       by : (a : Bool) → eqb j (find h.id t) ≡ a → (b : Bool) → ltb (find h.id t) (length l) ≡ b → One (get_or (set l (find h.id t) h.value) j no_span)
       by true e true f =
@@ -140,7 +129,7 @@ module _ (t : List Row) (s : List ℕ) where
   read_rows_readable l (h ∷ hs) q g = read_rows_readable (set l (find h.id t) h.value) hs q.1 (set_rows l h q.0 g)
 
   none_readable : (n : ℕ) → Rows (replicate n no_span)
-  none_readable n j h = let z : present no_span ≡ true = sym (ap (λ (v : Span). present v) (none_at n j)) ∙ h in let o : ◌≡◌ {A = ℕ} 0 1 = cc in absurd (omega arith)
+  none_readable n j h = let z : present no_span ≡ true = sym (ap (λ (v : Span). present v) (none_at n j)) ∙ h in cc
     where
       none_at : (n j : ℕ) → get_or (replicate n no_span) j no_span ≡ no_span
       none_at zero j = refl
@@ -158,18 +147,8 @@ front_length t row (h ∷ hs) =
     Short : List Head → Type 0
     Short fs = length fs ≤ length (h ∷ hs)
 
--- ---- the judging, where it accepts
-
-accepted_tests : (n : ℕ) (x : elements.Found) → outcome_by n x ≡ outcome.Accepted → (n ≤ x.place) × (some rejects x.listed ≡ false)
-accepted_tests n x q = by (ltb x.place n) refl (some rejects x.listed) q
-  where
-    by : (b : Bool) → ltb x.place n ≡ b → (y : Bool) → pick b (outcome.Misplaced x.place) (pick y outcome.Rejected outcome.Accepted) ≡ outcome.Accepted → (n ≤ x.place) × (y ≡ false)
-    by true e y q = let z : ◌≡◌ {A = ℕ} 0 1 = cc in absurd (omega arith)
-    by false e true q = let z : ◌≡◌ {A = ℕ} 0 1 = cc in absurd (omega arith)
-    by false e false q = (ltb-false x.place n e, refl)
-
 -- what is read is of the kind
-read_kind : (k : Kind) (s : List ℕ) (p : Span) {v : Value Span} → got v ≡ read_as k s p → value_kind v ≡ k
+read_kind : (k : Kind) (s : List ℕ) (p : Span) {v : Value Span} → Ok v ≡ read_as k s p → value_kind v ≡ k
 unfolding read_as
 read_kind kind.Carried s p q = ap value_kind (same_got q)
 read_kind kind.Mme s p q = of_read (λ v. value_kind v ≡ kind.Mme) value.mme (mme_at (take p.to s) p.from) q (λ a h. refl)
@@ -193,7 +172,7 @@ value_at (r ∷ t) s [] k n b = absurd (omega arith)
 value_at (r ∷ t) s (v ∷ l) zero n b = refl
 value_at (r ∷ t) s (v ∷ l) (suc k) n b = value_at t s l k (omega arith) (omega arith)
 
-module _ (t : List Row) (s : List ℕ) (n at : ℕ) (xs : List Head) {end : ℕ} (q : got end ≡ scan_at t s n at) where
+module _ (t : List Row) (s : List ℕ) (n at : ℕ) (xs : List Head) {end : ℕ} (q : Ok end ≡ scan_at t s n at) where
   abbrev counted : List Head
   counted = front t 0 (heads_at s n at)
 
@@ -233,13 +212,10 @@ module _ (t : List Row) (s : List ℕ) (n at : ℕ) (xs : List Head) {end : ℕ}
 
 -- ---- requests
 
-not_asked : {A : Type 0} → false ≡ true → A
-not_asked q = let z : ◌≡◌ {A = ℕ} 0 1 = cc in absurd (omega arith)
-
 -- which rows the rules look at
-complete : (m : Message) (s : List ℕ) (n at : ℕ) (xs : List Head) → asks m ≡ true → {end : ℕ} → got end ≡ scan_at (table_of Release18 m) s n at
+complete : (m : Message) (s : List ℕ) (n at : ℕ) (xs : List Head) → asks m ≡ true → {end : ℕ} → Ok end ≡ scan_at (table_of Release18 m) s n at
     → outcome_by n (elements.judged_of (table_of Release18 m) n (heads_at s n at) xs) ≡ outcome.Accepted
-    → Complete (request_of (ask_of m) (seen (values_in (table_of Release18 m) s (elements.read_of (table_of Release18 m) (front (table_of Release18 m) 0 (heads_at s n at))))))
+    → IsSome (request_of (ask_of m) (seen (values_in (table_of Release18 m) s (elements.read_of (table_of Release18 m) (front (table_of Release18 m) 0 (heads_at s n at))))))
 unfolding printed
 complete message.StartRequest s n at xs a q o =
     let r = row_seen (table_of Release18 message.StartRequest) s n at xs q o in
@@ -252,32 +228,32 @@ complete message.StopRequest s n at xs a q o =
 complete message.Reset s n at xs a q o =
     let x : Seen = seen (values_in (table_of Release18 message.Reset) s (elements.read_of (table_of Release18 message.Reset) (front (table_of Release18 message.Reset) 0 (heads_at s n at)))) in
     reset_complete x.reset (row_seen (table_of Release18 message.Reset) s n at xs q o 1 (omega arith) refl refl)
-complete message.ErrorIndication s n at xs a q o = tt
+complete message.ErrorIndication s n at xs a q o = refl
 complete message.StartResponse s n at xs a q o = not_asked a
 complete message.StartFailure s n at xs a q o = not_asked a
 complete message.StopResponse s n at xs a q o = not_asked a
 complete message.ResetAcknowledge s n at xs a q o = not_asked a
 complete message.SetupRequest s n at xs a q o = not_asked a
-complete message.SetupResponse s n at xs a q o = tt
-complete message.SetupFailure s n at xs a q o = tt
+complete message.SetupResponse s n at xs a q o = refl
+complete message.SetupFailure s n at xs a q o = refl
 complete message.StopWarningRequest s n at xs a q o = not_asked a
 complete message.StopWarningResponse s n at xs a q o = not_asked a
 complete message.WarningErrorIndication s n at xs a q o = not_asked a
 
 complete_18 : (s : List ℕ) (u : Understood) → read_of Release18 asks s ≡ understood u → u.outcome ≡ outcome.Accepted
-    → Complete (request_of (ask_of u.what.message) (seen u.what.values))
+    → IsSome (request_of (ask_of u.what.message) (seen u.what.values))
 unfolding elements.judged_of
 complete_18 s u q =
     let w = opened Release18 asks s u q in
     let m : Message = u.what.message in
     let t : List Row = table_of Release18 m in
     let j = judging t (container_of Release18 m) s u.frame.from w.read in
-    subst (λ (x : Understood). x.outcome ≡ outcome.Accepted → Complete (request_of (ask_of x.what.message) (seen x.what.values))) w.is
-    (subst (λ (y : Opening). y.outcome ≡ outcome.Accepted → Complete (request_of (ask_of m) (seen (values_in t s y.spans)))) j.is
+    subst (λ (x : Understood). x.outcome ≡ outcome.Accepted → IsSome (request_of (ask_of x.what.message) (seen x.what.values))) w.is
+    (subst (λ (y : Opening). y.outcome ≡ outcome.Accepted → IsSome (request_of (ask_of m) (seen (values_in t s y.spans)))) j.is
     (λ o. complete m s j.opens.elements (u.frame.from + 3) j.extensions (only_passed Release18 asks s u q) j.scan o))
 
 pub accepted_complete : (e : Edition) (s : List ℕ) (u : Understood) → read_of e asks s ≡ understood u → u.outcome ≡ outcome.Accepted
-    → Complete (request_of (ask_of u.what.message) (seen u.what.values))
+    → IsSome (request_of (ask_of u.what.message) (seen u.what.values))
 accepted_complete e s u q =
-    subst (λ (x : Edition). read_of x asks s ≡ understood u → u.outcome ≡ outcome.Accepted → Complete (request_of (ask_of u.what.message) (seen u.what.values)))
+    subst (λ (x : Edition). read_of x asks s ≡ understood u → u.outcome ≡ outcome.Accepted → IsSome (request_of (ask_of u.what.message) (seen u.what.values)))
     (only_m3ap e (understood_m3ap e s u q)) (complete_18 s u) q

@@ -1,5 +1,6 @@
 -- A start, a stop and a partial reset that are answered 0 were accepted: so they ask for what the words say.
 -- Assumes nothing.
+use Rattle.std.specs.Prelude.{None, Option, Some, Ok, Err}
 use Prim.Native.Nat.{ℕ}
 use mathlib.Core.Path.{◌≡◌, ◌∙◌, refl, sym, ap, subst}
 use mathlib.Core.Bool.{Bool, true, false, not, ◌&&◌}
@@ -8,33 +9,23 @@ use native.Mathlib.Omega.{arith}
 use Rattle.lists.specs.Lists.{pick}
 use Rattle.identity.specs.declared.MmeId.{MmeId}
 use Rattle.identity.specs.declared.MceId.{MceId}
-use Rattle.identity.specs.declared.Mme.{Mme}
-use Rattle.identity.specs.declared.Mme.TheVariants as mme
-use Rattle.identity.specs.declared.Mce.{Mce}
-use Rattle.identity.specs.declared.Mce.TheVariants as mce
 use Rattle.identity.specs.declared.Tmgi.{Tmgi}
-use Rattle.identity.specs.declared.Session.{Session}
 use Rattle.identity.specs.declared.Item.{Item}
 use Rattle.editions.specs.declared.Message.{Message}
 use Rattle.editions.specs.declared.Message.TheVariants as message
 use Rattle.editions.specs.declared.Edition.{Edition}
 use Rattle.verdicts.specs.Verdict.{Understood, Verdict, understood}
 use Rattle.units.specs.Unit.{Unit, MaybeUnit, is_unit, no_unit, read_unit}
-use Rattle.requests.specs.declared.MaybeTmgi.{MaybeTmgi}
-use Rattle.requests.specs.declared.MaybeTmgi.TheVariants as tmgi
-use Rattle.requests.specs.declared.MaybeReset.TheVariants as reset
+use Rattle.requests.specs.declared.Extent.TheVariants as extent
 use Rattle.requests.specs.declared.Request.{Request}
 use Rattle.requests.specs.declared.Request.TheVariants as request
-use Rattle.requests.specs.declared.Wanted.TheVariants as wanted
 use Rattle.requests.specs.declared.Seen.{Seen}
 use Rattle.replies.specs.Replies.{silent}
 use Rattle.requests.specs.Requests.{ask_of, start_of, stop_of, reset_of, request_of, seen}
-use Rattle.carry.specs.declared.Ruling.{Ruling}
-use Rattle.carry.specs.declared.Ruling.TheVariants.{Granted, Refused}
+use Rattle.carry.specs.Carry.{Ruling, ruling}
 use Rattle.carry.specs.declared.Answer.TheVariants as answer
-use Rattle.carry.specs.Carry.{ruling}
 use Rattle.answers.specs.Answers.{numbered}
-use Rattle.calls.specs.Judged.{Accepted, accepts, ruled, judged_by, judged, verdict, setup_answer}
+use Rattle.calls.specs.Judged.{Accepted, ruled, judged_by, judged, verdict, setup_answer}
 use Rattle.calls.specs.Decided.{keeps, decided}
 use Rattle.calls.specs.Call.{Call, decided_on, on_unit, call}
 use Rattle.demands.specs.Answered.{number_of}
@@ -46,12 +37,12 @@ use Rattle.demands.proofs.Done.{number, done}
 -- ---- answer 0 comes of a unit, and of a message that was accepted
 
 module _ (e : Edition) where
-  ruled_accepted : (u : Unit) (x : MceId) (w : Understood) (r : Ruling) → number (decided e u x (ruled e w r)) ≡ 0 → (a : Accepted) × (ruled e w r ≡ accepts a)
+  ruled_accepted : (u : Unit) (x : MceId) (w : Understood) (r : Ruling) → number (decided e u x (ruled e w r)) ≡ 0 → (a : Accepted) × (ruled e w r ≡ Ok a)
   unfolding decided
-  ruled_accepted u x w (Granted q) h = (_, refl)
-  ruled_accepted u x w (Refused r) h = absurd (omega arith)
+  ruled_accepted u x w (Ok q) h = (_, refl)
+  ruled_accepted u x w (Err r) h = absurd (omega arith)
 
-  was_accepted : (u : Unit) (x : MceId) (w : Understood) → number (decided e u x (judged_by e (understood w))) ≡ 0 → (a : Accepted) × (judged_by e (understood w) ≡ accepts a)
+  was_accepted : (u : Unit) (x : MceId) (w : Understood) → number (decided e u x (judged_by e (understood w))) ≡ 0 → (a : Accepted) × (judged_by e (understood w) ≡ Ok a)
   unfolding judged_by
   was_accepted u x w h = ruled_accepted u x w (ruling (ask_of w.what.message) (seen w.what.values) w.outcome) h
 
@@ -79,7 +70,7 @@ module _ (e : Edition) where
         by true h = absurd (omega arith)
         by false h = h
 
-    accepted : (a : Accepted) × (judged e s ≡ accepts a)
+    accepted : (a : Accepted) × (judged e s ≡ Ok a)
     accepted =
         let k = is_unit_lem t c h in
         let n = judged_0 k.0 (done e t c k.0 k.1 h).answer in
@@ -90,35 +81,35 @@ module _ (e : Edition) where
     what = accepted.0
 
     -- the request is what the values say
-    wanted_is : request_of (ask_of v.what.message) (seen v.what.values) ≡ wanted.Is what.request
+    wanted_is : request_of (ask_of v.what.message) (seen v.what.values) ≡ Some what.request
     wanted_is =
         let a = accepted_of e (verdict e s) what accepted.1 in
         let z : a.what ≡ v = same_read (sym a.read ∙ q) in
-        subst (λ (x : Understood). request_of (ask_of x.what.message) (seen x.what.values) ≡ wanted.Is what.request) z a.request
+        subst (λ (x : Understood). request_of (ask_of x.what.message) (seen x.what.values) ≡ Some what.request) z a.request
 
-    asks_for : (r : Request) → wanted.Is what.request ≡ wanted.Is r → Asks (judged e s) r
+    asks_for : (r : Request) → Some what.request ≡ Some r → Asks (judged e s) r
     asks_for r p = record { what = what; accepted = accepted.1; request = cc }
 
-    named_is : {m : Message} → v.what.message ≡ m → request_of (ask_of m) (seen v.what.values) ≡ wanted.Is what.request
-    named_is p = subst (λ (m : Message). request_of (ask_of m) (seen v.what.values) ≡ wanted.Is what.request) p wanted_is
+    named_is : {m : Message} → v.what.message ≡ m → request_of (ask_of m) (seen v.what.values) ≡ Some what.request
+    named_is p = subst (λ (m : Message). request_of (ask_of m) (seen v.what.values) ≡ Some what.request) p wanted_is
 
-    start_asks : (x : Mme) (i : MaybeTmgi) (w : Session) → start_of x i w ≡ wanted.Is what.request → (m : MmeId) × (g : Tmgi) × (y : Session) × Asks (judged e s) (request.Start m g y)
-    start_asks (mme.Is m) (tmgi.Is g) w p = (m, g, w, asks_for (request.Start m g w) (sym p))
-    start_asks (mme.Is m) tmgi.Absent w p = absurd (let z : ◌≡◌ {A = ℕ} 0 1 = cc in omega arith)
-    start_asks mme.Absent i w p = absurd (let z : ◌≡◌ {A = ℕ} 0 1 = cc in omega arith)
+    start_asks : (x : Option MmeId) (i : Option Tmgi) (w : Option ℕ) → start_of x i w ≡ Some what.request → (m : MmeId) × (g : Tmgi) × (y : Option ℕ) × Asks (judged e s) (request.Start m g y)
+    start_asks (Some m) (Some g) w p = (m, g, w, asks_for (request.Start m g w) (sym p))
+    start_asks (Some m) None w p = cc
+    start_asks None i w p = cc
 
-    stop_asks : (x : Mme) (y : Mce) → stop_of x y ≡ wanted.Is what.request → (m : MmeId) × (z : MceId) × Asks (judged e s) (request.Stop m z)
-    stop_asks (mme.Is m) (mce.Is z) p = (m, z, asks_for (request.Stop m z) (sym p))
-    stop_asks (mme.Is m) mce.Absent p = absurd (let z : ◌≡◌ {A = ℕ} 0 1 = cc in omega arith)
-    stop_asks mme.Absent y p = absurd (let z : ◌≡◌ {A = ℕ} 0 1 = cc in omega arith)
+    stop_asks : (x : Option MmeId) (y : Option MceId) → stop_of x y ≡ Some what.request → (m : MmeId) × (z : MceId) × Asks (judged e s) (request.Stop m z)
+    stop_asks (Some m) (Some z) p = (m, z, asks_for (request.Stop m z) (sym p))
+    stop_asks (Some m) None p = cc
+    stop_asks None y p = cc
 
-    starts : v.what.message ≡ message.StartRequest → (m : MmeId) × (g : Tmgi) × (y : Session) × Asks (judged e s) (request.Start m g y)
+    starts : v.what.message ≡ message.StartRequest → (m : MmeId) × (g : Tmgi) × (y : Option ℕ) × Asks (judged e s) (request.Start m g y)
     starts p = let x : Seen = seen v.what.values in start_asks x.mme x.tmgi x.session (named_is p)
 
     stops : v.what.message ≡ message.StopRequest → (m : MmeId) × (z : MceId) × Asks (judged e s) (request.Stop m z)
     stops p = let x : Seen = seen v.what.values in stop_asks x.mme x.mce (named_is p)
 
-    partial : v.what.message ≡ message.Reset → (seen v.what.values).reset ≡ reset.Part → (items : List Item) × PartialReset (judged e s) items
+    partial : v.what.message ≡ message.Reset → (seen v.what.values).reset ≡ Some extent.Part → (items : List Item) × PartialReset (judged e s) items
     unfolding accepted asks_for
     partial p k = (what.items, record { asks = asks_for request.Part (sym (named_is p) ∙ ap reset_of k); items = refl })
 

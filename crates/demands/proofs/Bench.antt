@@ -9,7 +9,7 @@ use borrow.Author.Tests.{le-leb}
 use lib.Dec.{leb}
 use lib.ListN.{length, drop}
 use Rattle.packed.specs.Packed.{bits_of, packed_in}
-use Rattle.octets.specs.Read.{◌>>=◌, cut_short, no_meaning, left_over, extended}
+use Rattle.octets.specs.Read.{cut_short, no_meaning, left_over, extended}
 use Rattle.octets.specs.Field.{flag_at, plain_at, choice_at, pad_at, number_at, same_at, long_length_at, length_at, open_at, ends_at}
 use Rattle.octets.specs.Write.{number_octets, length_octets}
 use Rattle.octets.specs.Many as several
@@ -78,7 +78,7 @@ silently l s v g a r t d =
     ∙ settled_silently (unit_octets (opened l)) d (decided_on Release18 (opened l) (of s)) a r t
 
 pub bench_calls : BenchCalls
-unfolding decided_on setup_answer decided judged_by unit_octets read_of frame_at kind_at container_at count_at opened_at extensions_at elements_at elements.judged_of front find read_into unknown_of missing_of scan_at heads_at envelope_at criticality_at legible_at reset_at cause_at wait_at read_as value_in values_in seen lists_of printed first_of named_by flag_at plain_at choice_at pad_at number_at open_at length_at long_length_at ends_at same_at bits_of cut_short no_meaning left_over extended ◌>>=◌ number_octets reply_octets encoded replied list_only value_of elements_good elements_octets message_octets inside_octets how_many length_octets packed_in items_at several.many item_element_at item_at item_marks_at without named has_octets octets_of items_octets item_element_octets item_octets
+unfolding decided_on setup_answer decided judged_by unit_octets read_of frame_at kind_at container_at count_at opened_at extensions_at elements_at elements.judged_of front find read_into unknown_of missing_of scan_at heads_at envelope_at criticality_at legible_at reset_at cause_at wait_at read_as value_in values_in seen lists_of printed first_of named_by flag_at plain_at choice_at pad_at number_at open_at length_at long_length_at ends_at same_at bits_of cut_short no_meaning left_over extended number_octets reply_octets encoded replied list_only value_of elements_good elements_octets message_octets inside_octets how_many length_octets packed_in items_at several.many item_element_at item_at item_marks_at without named has_octets octets_of items_octets item_element_octets item_octets
 bench_calls = record {
   named = does (pair 1 2 ∷ []) partial_reset [] (one_good 1 2 (omega arith) (omega arith)) refl refl refl;
   unknown = does [] partial_reset [] none_good refl refl refl;

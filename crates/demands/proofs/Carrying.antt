@@ -1,6 +1,7 @@
 -- There are messages: for 1 to 256 items a partial reset that carries them, for an association a start of it, and for a pair of identities a stop.
 -- Their elements suit their tables, so they are read back as what they say: one line for each edition and message.
 -- Assumes nothing.
+use Rattle.std.specs.Prelude.{None, Ok, Option, Some}
 use Prim.Native.Nat.{ℕ, ◌<◌}
 use mathlib.Core.Path.{◌≡◌, refl, ap, subst, ◌∙◌}
 use mathlib.Core.Bool.{true}
@@ -13,8 +14,6 @@ use Rattle.octets.proofs.Back.{length_number}
 use Rattle.identity.specs.declared.MmeId.{MmeId}
 use Rattle.identity.specs.declared.MceId.{MceId}
 use Rattle.identity.specs.declared.Tmgi.{Tmgi}
-use Rattle.identity.specs.declared.Session.{Session}
-use Rattle.identity.specs.declared.Session.TheVariants as session
 use Rattle.identity.specs.declared.Item.{Item}
 use Rattle.values.specs.declared.Cause.{Cause}
 use Rattle.values.specs.Written.{tmgi_octets, GoodCause}
@@ -39,10 +38,9 @@ use Rattle.verdicts.specs.Verdict.{Understood, understood}
 use Rattle.requests.specs.declared.Ask.TheVariants as ask
 use Rattle.requests.specs.declared.Request.{Request}
 use Rattle.requests.specs.declared.Request.TheVariants as request
-use Rattle.requests.specs.declared.Wanted.TheVariants as wanted
 use Rattle.requests.specs.Requests.{ask_of, asks, request_of, seen, items_in}
 use Rattle.replies.specs.Replies.{Element, ◌is◌, value_of, saying}
-use Rattle.calls.specs.Judged.{Accepted, accepts, judged_by, judged}
+use Rattle.calls.specs.Judged.{Accepted, judged_by, judged}
 use Rattle.demands.specs.Words.{Asks, PartialReset, reset_message}
 use Rattle.demands.proofs.AllOctets.{all_none, all_more}
 use Rattle.demands.proofs.Taken.{Takes, Taken, taken_none, taken_more, takes_value, takes_absent, taken_back}
@@ -52,16 +50,16 @@ use Rattle.demands.proofs.Verdicts.{judged_as_read}
 use Rattle.demands.proofs.MessageOctets.{AllElement, message_octets_lem, value_cause, value_part, value_mme, value_mce, value_tmgi, value_one, value_carried}
 
 -- what is read back and asks is accepted, with the request that it says
-asked_so : (e : Edition) (os : List ℕ) (w : Said) (q : Request) → ReadAs e os w → asks w.message ≡ true → request_of (ask_of w.message) (seen w.values) ≡ wanted.Is q
+asked_so : (e : Edition) (os : List ℕ) (w : Said) (q : Request) → ReadAs e os w → asks w.message ≡ true → request_of (ask_of w.message) (seen w.values) ≡ Some q
     → (a : Asks (judged e os) q) × (a.what.items ≡ (lists_of w.values).items)
 unfolding judged_by
 asked_so e os w q b a h =
     let u : Understood = b.what in
     let k = asking os u.what w b.said in
     let v = judged_as_read e asks os u (ap asks k.message ∙ a) b.read in
-    let r : request_of (ask_of u.what.message) (seen u.what.values) ≡ wanted.Is q = (λ i. request_of (ask_of (k.message i)) (k.seen i)) ∙ h in
+    let r : request_of (ask_of u.what.message) (seen u.what.values) ≡ Some q = (λ i. request_of (ask_of (k.message i)) (k.seen i)) ∙ h in
     let x : Accepted = record { request = q; items = items_in u.what; frame = u.frame; noted = u.noted } in
-    let j : judged_by e (understood u) ≡ accepts x = rw (b.accepted, r) in
+    let j : judged_by e (understood u) ≡ Ok x = rw (b.accepted, r) in
     (record { what = x; accepted = ap (judged_by e) v ∙ j; request = refl }, k.items)
 
 -- ---- partial resets
@@ -77,7 +75,7 @@ reset_suits k items g h =
     (taken_more (takes_value (value.reset (part items)) 2306 refl h.2 (counted_good (length items) h.0 h.1) (omega arith)) taken_none)
 
 reset_asks : (k : Cause) (items : List Item)
-    → (request_of ask.Reset (seen (saying Release18 message.Reset (reset_elements k items)).values) ≡ wanted.Is request.Part) × ((lists_of (saying Release18 message.Reset (reset_elements k items)).values).items ≡ items)
+    → (request_of ask.Reset (seen (saying Release18 message.Reset (reset_elements k items)).values) ≡ Some request.Part) × ((lists_of (saying Release18 message.Reset (reset_elements k items)).values).items ≡ items)
 unfolding printed value_of seen lists_of
 reset_asks k items = (refl, refl)
 
@@ -100,13 +98,13 @@ module _ (e : Edition) (k : Cause) (items : List Item) (g : GoodCause k) where
 -- ---- starts
 
 -- a Session Identity, if it is there, is an octet
-abbrev pub GoodSession : Session → Type 0
-GoodSession (session.Is v) = v < 256
-GoodSession session.Absent = Unit
+abbrev pub GoodSession : Option ℕ → Type 0
+GoodSession (Some v) = v < 256
+GoodSession None = Unit
 
-abbrev session_if : Session → List Element
-session_if (session.Is v) = id_mbms_session_id is value.one v ∷ []
-session_if session.Absent = []
+abbrev session_if : Option ℕ → List Element
+session_if (Some v) = id_mbms_session_id is value.one v ∷ []
+session_if None = []
 
 takes_one : {r : Row} (v : ℕ) → kind.OneOctet ≡ r.kind → v < 256 → Takes r (given (value.one v)) 6
 unfolding has_octets octets_of
@@ -122,7 +120,7 @@ takes_tmgi t k h = takes_value (value.tmgi t) 7 k h refl (omega arith)
 
 module _ (m : MmeId) (t : Tmgi) where
   -- with one octet for each mandatory element that is carried
-  abbrev start_elements : Session → List Element
+  abbrev start_elements : Option ℕ → List Element
   start_elements v =
       id_mme_mbms_m3ap_id is value.mme m
       ∷ id_tmgi is value.tmgi t
@@ -132,29 +130,29 @@ module _ (m : MmeId) (t : Tmgi) where
       ∷ id_minimum_time_to_mbms_data_transfer is value.carried (0 ∷ [])
       ∷ id_tnl_information is value.carried (0 ∷ []) ∷ session_if v
 
-  start_suits : (v : Session) → m.0 < 65536 → InRange (value.tmgi t) → GoodSession v
+  start_suits : (v : Option ℕ) → m.0 < 65536 → InRange (value.tmgi t) → GoodSession v
       → Taken (table_of Release18 message.StartRequest) (saying Release18 message.StartRequest (start_elements v)).values 55
   unfolding printed value_of
-  start_suits (session.Is v) g h f =
+  start_suits (Some v) g h f =
       taken_more (takes_mme m refl g) (taken_more (takes_tmgi t refl h) (taken_more (takes_one v refl f)
       (taken_more (takes_carried refl) (taken_more (takes_carried refl) (taken_more (takes_carried refl) (taken_more (takes_carried refl) (taken_more (takes_carried refl)
       (taken_more (takes_absent 0 refl) (taken_more (takes_absent 0 refl) (taken_more (takes_absent 0 refl) (taken_more (takes_absent 0 refl) taken_none)))))))))))
-  start_suits session.Absent g h f =
+  start_suits None g h f =
       taken_more (takes_mme m refl g) (taken_more (takes_tmgi t refl h) (taken_more (takes_absent 6 refl)
       (taken_more (takes_carried refl) (taken_more (takes_carried refl) (taken_more (takes_carried refl) (taken_more (takes_carried refl) (taken_more (takes_carried refl)
       (taken_more (takes_absent 0 refl) (taken_more (takes_absent 0 refl) (taken_more (takes_absent 0 refl) (taken_more (takes_absent 0 refl) taken_none)))))))))))
 
-  start_asks : (v : Session)
-      → request_of ask.Start (seen (saying Release18 message.StartRequest (start_elements v)).values) ≡ wanted.Is (request.Start m t v)
+  start_asks : (v : Option ℕ)
+      → request_of ask.Start (seen (saying Release18 message.StartRequest (start_elements v)).values) ≡ Some (request.Start m t v)
   unfolding printed value_of seen
-  start_asks (session.Is v) = refl
-  start_asks session.Absent = refl
+  start_asks (Some v) = refl
+  start_asks None = refl
 
-  all_session : (v : Session) → Each AllElement (session_if v)
-  all_session (session.Is v) = (value_one v, tt)
-  all_session session.Absent = tt
+  all_session : (v : Option ℕ) → Each AllElement (session_if v)
+  all_session (Some v) = (value_one v, tt)
+  all_session None = tt
 
-module _ (e : Edition) (m : MmeId) (t : Tmgi) (v : Session) where
+module _ (e : Edition) (m : MmeId) (t : Tmgi) (v : Option ℕ) where
   abbrev pub start_message : List ℕ
   start_message = message_octets e (saying e message.StartRequest (start_elements m t v))
 
@@ -165,7 +163,7 @@ module _ (e : Edition) (m : MmeId) (t : Tmgi) (v : Session) where
         message_octets_lem (start_elements m t v) (value_mme m, (value_tmgi t h, (c, (c, (c, (c, (c, all_session m t v))))))) e message.StartRequest
 
 -- in Release 18, and so in whichever edition of M3AP
-module _ (m : MmeId) (t : Tmgi) (v : Session) (g : m.0 < 65536) (h : InRange (value.tmgi t)) (f : GoodSession v) where
+module _ (m : MmeId) (t : Tmgi) (v : Option ℕ) (g : m.0 < 65536) (h : InRange (value.tmgi t)) (f : GoodSession v) where
   start_carries_18 : Asks (judged Release18 (start_message Release18 m t v)) (request.Start m t v)
   unfolding numbered_by first_of printed
   start_carries_18 =
@@ -186,7 +184,7 @@ module _ (m : MmeId) (c : MceId) where
   unfolding printed value_of
   stop_suits g h = taken_more (takes_mme m refl g) (taken_more (takes_mce c refl h) (taken_more (takes_absent 0 refl) taken_none))
 
-  stop_asks : request_of ask.Stop (seen (saying Release18 message.StopRequest stop_elements).values) ≡ wanted.Is (request.Stop m c)
+  stop_asks : request_of ask.Stop (seen (saying Release18 message.StopRequest stop_elements).values) ≡ Some (request.Stop m c)
   unfolding printed value_of seen
   stop_asks = refl
 

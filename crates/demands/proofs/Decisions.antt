@@ -1,5 +1,6 @@
 -- A decision on what is in range, over what a unit can remember: it has no reply, or one that is written; and what is then remembered is again what a unit can remember.
 -- Assumes nothing.
+use Rattle.std.specs.Prelude.{None, Option, Some, Ok, Err, ℕ}
 use Prim.Native.Nat.{◌<◌}
 use mathlib.Core.Logic.{◌⊎◌, inl, inr}
 use mathlib.Core.Path.{◌≡◌, refl}
@@ -12,11 +13,6 @@ use Rattle.lists.proofs.Tests.{on-pick}
 use Rattle.lists.proofs.Keep.{mem_keep}
 use Rattle.identity.specs.declared.MmeId.{MmeId}
 use Rattle.identity.specs.declared.MceId.{MceId}
-use Rattle.identity.specs.declared.Mme.{Mme}
-use Rattle.identity.specs.declared.Mme.TheVariants as mme
-use Rattle.identity.specs.declared.Mce.{Mce}
-use Rattle.identity.specs.declared.Mce.TheVariants as mce
-use Rattle.identity.specs.declared.Session.{Session}
 use Rattle.identity.specs.declared.Tmgi.{Tmgi}
 use Rattle.identity.specs.declared.Item.{Item}
 use Rattle.values.specs.declared.Cause.{Cause}
@@ -35,10 +31,8 @@ use Rattle.replies.specs.Replies.{abstract_syntax, falsely_constructed, has_iden
 use Rattle.units.specs.Unit as units
 use Rattle.units.specs.Unit.{GoodUnit}
 use Rattle.replies.specs.declared.Reply.{Reply}
-use Rattle.requests.specs.declared.MaybeTmgi.{MaybeTmgi}
-use Rattle.requests.specs.declared.MaybeTmgi.TheVariants as tmgi
-use Rattle.requests.specs.declared.MaybeReset.{MaybeReset}
-use Rattle.requests.specs.declared.MaybeReset.TheVariants as reset
+use Rattle.requests.specs.declared.Extent.{Extent}
+use Rattle.requests.specs.declared.Extent.TheVariants as extent
 use Rattle.requests.specs.declared.Ask.{Ask}
 use Rattle.requests.specs.declared.Ask.TheVariants as ask
 use Rattle.requests.specs.declared.Seen.{Seen}
@@ -48,9 +42,7 @@ use Rattle.requests.specs.Requests.{ask_of, start_of, stop_of, reset_of, request
 use Rattle.carry.specs.declared.Change.{Change}
 use Rattle.carry.specs.declared.Change.TheVariants as change
 use Rattle.carry.specs.declared.Decision.{Decision}
-use Rattle.carry.specs.declared.Ruling.{Ruling}
-use Rattle.carry.specs.declared.Ruling.TheVariants.{Granted, Refused}
-use Rattle.carry.specs.Carry.{start_rejected, rejection, ruled_by, ruling, started, stopped, carried_out, asked}
+use Rattle.carry.specs.Carry.{Ruling, start_rejected, rejection, ruled_by, ruling, started, stopped, carried_out, asked}
 use Rattle.calls.specs.Judged.{ruled, judged_by}
 use Rattle.calls.specs.Decided.{Decided, keeps, changes, fails, changed, decided}
 use Rattle.demands.proofs.Written.{GoodMme, GoodMce, GoodReply, Spoken, spoken}
@@ -97,9 +89,9 @@ module _ (l : State) (g : Good l) where
 
 -- ---- the rules
 
-started_rejected : (x : Mme) (why : Cause) → GoodMme x → GoodCause why → GoodReply (start_rejected x why)
-started_rejected (mme.Is m) why g k = (g, k)
-started_rejected mme.Absent why g k = (tt, tt, k)
+started_rejected : (x : Option MmeId) (why : Cause) → GoodMme x → GoodCause why → GoodReply (start_rejected x why)
+started_rejected (Some m) why g k = (g, k)
+started_rejected None why g k = (tt, tt, k)
 
 rejection_good : (a : Ask) (x : Seen) (why : Cause) → GoodSeen x → GoodCause why → GoodReply (rejection a x why)
 unfolding rejection
@@ -122,23 +114,23 @@ GoodRequest request.SetupResponse = Unit
 GoodRequest (request.SetupFailure w) = Unit
 
 abbrev pub GoodRuling : Ruling → Type 0
-GoodRuling (Granted q) = GoodRequest q
-GoodRuling (Refused r) = GoodReply r
+GoodRuling (Ok q) = GoodRequest q
+GoodRuling (Err r) = GoodReply r
 
-start_good : (x : Mme) (t : MaybeTmgi) (s : Session) (r : Reply) → GoodMme x → GoodReply r → GoodRuling (ruled_by r (start_of x t s))
-start_good (mme.Is m) (tmgi.Is t) s r g k = g
-start_good (mme.Is m) tmgi.Absent s r g k = k
-start_good mme.Absent t s r g k = k
+start_good : (x : Option MmeId) (t : Option Tmgi) (s : Option ℕ) (r : Reply) → GoodMme x → GoodReply r → GoodRuling (ruled_by r (start_of x t s))
+start_good (Some m) (Some t) s r g k = g
+start_good (Some m) None s r g k = k
+start_good None t s r g k = k
 
-stop_good : (x : Mme) (y : Mce) (r : Reply) → GoodMme x → GoodMce y → GoodReply r → GoodRuling (ruled_by r (stop_of x y))
-stop_good (mme.Is m) (mce.Is c) r g h k = (g, h)
-stop_good (mme.Is m) mce.Absent r g h k = k
-stop_good mme.Absent y r g h k = k
+stop_good : (x : Option MmeId) (y : Option MceId) (r : Reply) → GoodMme x → GoodMce y → GoodReply r → GoodRuling (ruled_by r (stop_of x y))
+stop_good (Some m) (Some c) r g h k = (g, h)
+stop_good (Some m) None r g h k = k
+stop_good None y r g h k = k
 
-reset_good_lem : (x : MaybeReset) (r : Reply) → GoodReply r → GoodRuling (ruled_by r (reset_of x))
-reset_good_lem reset.Whole r k = tt
-reset_good_lem reset.Part r k = tt
-reset_good_lem reset.Absent r k = k
+reset_good_lem : (x : Option Extent) (r : Reply) → GoodReply r → GoodRuling (ruled_by r (reset_of x))
+reset_good_lem (Some extent.Whole) r k = tt
+reset_good_lem (Some extent.Part) r k = tt
+reset_good_lem None r k = k
 
 pub asked_good : (a : Ask) (x : Seen) (r : Reply) → GoodSeen x → GoodReply r → GoodRuling (ruled_by r (request_of a x))
 asked_good ask.Start x r g k = start_good x.mme x.tmgi x.session r g.mme k
@@ -184,18 +176,18 @@ module _ (u : units.Unit) (t : GoodUnit u) where
   changed_sure e items r s (change.SetupFails w) g = (s, record { held = t.held })
 
   -- of a message that asks about two identities
-  abbrev about : Mme → Mce → Standing
+  abbrev about : Option MmeId → Option MceId → Standing
   about x y = standing (record { mme = x; mce = y }) u.held
 
   module _ (c : MceId) (o : c.0 < 65536) where
-    started_good : (m : MmeId) (i : Tmgi) (s : Session) → m.0 < 65536 → GoodDecision (started (about (mme.Is m) (mce.Is c)) c m i s)
+    started_good : (m : MmeId) (i : Tmgi) (s : Option ℕ) → m.0 < 65536 → GoodDecision (started (about (Some m) (Some c)) c m i s)
     unfolding started
     started_good m i s g =
         by_test GoodDecision (holds_mme m u.held) (λ e. ((g, omega arith), tt))
         (λ h. by_test GoodDecision (holds_mce c u.held) (λ e. (tt, tt))
         (λ k. on-pick GoodDecision (full u.held) ((g, omega arith), tt) ((g, o), starting_good u.held t.held _ (record { mme = g; mce = o }) h k)))
 
-    stopped_good : (m : MmeId) (x : MceId) → m.0 < 65536 → x.0 < 65536 → GoodDecision (stopped (about (mme.Is m) (mce.Is x)) m x)
+    stopped_good : (m : MmeId) (x : MceId) → m.0 < 65536 → x.0 < 65536 → GoodDecision (stopped (about (Some m) (Some x)) m x)
     unfolding stopped
     stopped_good m x g h = on-pick GoodDecision (holds_pair m x u.held) ((g, h), tt) ((g, h), tt)
 
@@ -210,12 +202,12 @@ module _ (u : units.Unit) (t : GoodUnit u) where
 
     ruled_sure : (e : Edition) → of_m3ap e ≡ true → (w : Understood) → Sound w → (r : Ruling) → GoodRuling r → Sure e (decided e u c (ruled e w r))
     unfolding decided
-    ruled_sure e j w z (Granted q) g =
+    ruled_sure e j w z (Ok q) g =
         let d : Decision = carried_out (standing (asked c q) u.held) c q in
         let k = carried_good q g in
         changed_sure e (items_in w.what) (replied e w.frame (keep has_identity (items_in w.what)) w.noted d.reply)
         (spoken w.frame z.frame (items_in w.what) z.items.list w.noted z.noted e j d.reply k.0) d.change k.1
-    ruled_sure e j w z (Refused r) g = spoken w.frame z.frame [] (record { few = omega arith; each = tt }) w.noted z.noted e j r g
+    ruled_sure e j w z (Err r) g = spoken w.frame z.frame [] (record { few = omega arith; each = tt }) w.noted z.noted e j r g
 
 pub decided_sure : (e : Edition) (u : units.Unit) (c : MceId) (v : Verdict) → GoodUnit u → c.0 < 65536 → ((w : Understood) → v ≡ understood w → Sound w × (of_m3ap e ≡ true)) → Sure e (decided e u c (judged_by e v))
 unfolding decided judged_by

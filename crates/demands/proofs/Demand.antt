@@ -4,7 +4,6 @@ use Prim.Native.Nat.{ℕ}
 use mathlib.Core.Path.{◌≡◌, refl}
 use mathlib.Core.Bool.{Bool, true, false}
 use mathlib.Core.List.{List, []}
-use native.Mathlib.Omega.{arith}
 use Rattle.editions.specs.declared.Edition.{Edition}
 use Rattle.meaning.specs.Value.{Said}
 use Rattle.round_trips.specs.Ties.{ReadAs}
@@ -40,7 +39,7 @@ module _ (e : Edition) where
       by no_unit q k = absurd (k refl)
 
   says_back : (r : Replied) (w : Said) → Spoken e r → r ≡ says w → ReadAs e (reply_octets e r) w
-  says_back silent w s q = let z : ◌≡◌ {A = ℕ} 0 1 = cc in absurd (omega arith)
+  says_back silent w s q = cc
   says_back (says v) w s q = let z : v ≡ w = cc in rw (← z) s.back
 
   settled_says : (t d : List ℕ) (x : Decided) (w : Said) → Sure e x → fits e d x ≡ true → replied_in x ≡ says w → ReadAs e (settled e t d x).reply w

@@ -1,5 +1,6 @@
 -- What the table call does where its answer is 0; and the rules, where they accept.
 -- Assumes nothing.
+use Rattle.std.specs.Prelude.{Option, Some}
 use Prim.Native.Nat.{ℕ, ◌<◌, ◌≤◌}
 use mathlib.Core.Path.{◌≡◌, refl, ap, sym, subst, ◌∙◌}
 use mathlib.Core.Bool.{Bool, true, false}
@@ -11,9 +12,6 @@ use Rattle.lists.specs.Lists.{keep}
 use Rattle.identity.specs.declared.MmeId.{MmeId}
 use Rattle.identity.specs.declared.MceId.{MceId}
 use Rattle.identity.specs.declared.Tmgi.{Tmgi}
-use Rattle.identity.specs.declared.Session.{Session}
-use Rattle.identity.specs.declared.Mme.TheVariants as mme
-use Rattle.identity.specs.declared.Mce.TheVariants as mce
 use Rattle.identity.specs.declared.Item.{Item}
 use Rattle.editions.specs.declared.Edition.{Edition}
 use Rattle.table.specs.declared.Association.{Association}
@@ -79,18 +77,18 @@ module _ (e : Edition) where
   abbrev pub meaning : Unit → Accepted → Decision → Decided
   meaning u w d = applied e u w.frame w.items w.noted d
 
-  abbrev pub started_on : Unit → Accepted → MceId → MmeId → Tmgi → Session → Decided
-  started_on u w x m t s = meaning u w (started (standing (record { mme = mme.Is m; mce = mce.Is x }) u.held) x m t s)
+  abbrev pub started_on : Unit → Accepted → MceId → MmeId → Tmgi → Option ℕ → Decided
+  started_on u w x m t s = meaning u w (started (standing (record { mme = Some m; mce = Some x }) u.held) x m t s)
 
   abbrev pub stopped_on : Unit → Accepted → MmeId → MceId → Decided
-  stopped_on u w m y = meaning u w (stopped (standing (record { mme = mme.Is m; mce = mce.Is y }) u.held) m y)
+  stopped_on u w m y = meaning u w (stopped (standing (record { mme = Some m; mce = Some y }) u.held) m y)
 
   module _ (u : Unit) (c : Call) where
     pub reset_decided : {items : List Item} (p : PartialReset (judged e c.message) items) → decided_on e u c ≡ changes (reset_by items u) (reply_to p.asks.what reply.AcknowledgeItems)
     unfolding decided
     reset_decided p = as_judged e u c request.Part p.asks refl ∙ rw (p.asks.accepted, p.asks.request, p.items)
 
-    pub start_decided : {m : MmeId} {t : Tmgi} {s : Session} (p : Asks (judged e c.message) (request.Start m t s)) → decided_on e u c ≡ started_on u p.what c.offered m t s
+    pub start_decided : {m : MmeId} {t : Tmgi} {s : Option ℕ} (p : Asks (judged e c.message) (request.Start m t s)) → decided_on e u c ≡ started_on u p.what c.offered m t s
     unfolding decided
     start_decided {m} {t} {s} p = as_judged e u c (request.Start m t s) p refl ∙ rw (p.accepted, p.request)
 

@@ -8,6 +8,7 @@ use native.Mathlib.Nat.{lt_of_lt_of_le}
 use lib.Dec.{eqb}
 use lib.ListN.{length}
 use Rattle.lists.proofs.Tests.{on-pick}
+use Rattle.std.specs.Prelude.{None, Option, Some}
 use Rattle.octets.specs.Stands.{Octets}
 use Rattle.packed.specs.Packed.{Field, ◌bits◌, bit, packed, Fit}
 use Rattle.octets.specs.Write.{length_octets}
@@ -22,7 +23,7 @@ use Rattle.values.specs.Written.{tmgi_octets, cause_octets, GoodCause}
 use Rattle.values.proofs.Back.{cause_octets_lem}
 use Rattle.values.proofs.Roots.{root_width, root_group}
 use Rattle.items.specs.Items.{part}
-use Rattle.items.specs.Written.{Maybe, There, None, mme_in, mce_in, is_there, maybe_octets, item_octets, item_element_octets, items_octets, reset_crit, reset_octets}
+use Rattle.items.specs.Written.{mme_in, mce_in, is_there, maybe_octets, item_octets, item_element_octets, items_octets, reset_crit, reset_octets}
 use Rattle.rows.specs.declared.Row.{Row}
 use Rattle.editions.specs.declared.Message.{Message}
 use Rattle.editions.specs.declared.Code.{Code}
@@ -58,8 +59,8 @@ all_cause k g =
     (omega arith, omega arith, (omega arith, omega arith, (omega arith, omega arith, (omega arith, lt_of_lt_of_le g (root_width k.group).1, tt)))) in
     rw (cause_octets_lem k g) (all_packed fs fit all_none)
 
-all_maybe : (x : Maybe) → All (maybe_octets x)
-all_maybe (There v) = all_number 2 v
+all_maybe : (x : Option ℕ) → All (maybe_octets x)
+all_maybe (Some v) = all_number 2 v
 all_maybe None = all_none
 
 marks_fit : (a b : Bool) → Fit 8 (bit false ∷ bit a ∷ bit b ∷ bit false ∷ [])
@@ -71,8 +72,8 @@ marks_fit false false = (omega arith, omega arith, (omega arith, omega arith, (o
 all_item : (i : Item) → All (item_octets i)
 unfolding item_octets
 all_item i =
-    let x : Maybe = mme_in i.mme in
-    let y : Maybe = mce_in i.mce in
+    let x : Option ℕ = mme_in i.mme in
+    let y : Option ℕ = mce_in i.mce in
     all_packed (bit false ∷ bit (is_there x) ∷ bit (is_there y) ∷ bit false ∷ []) (marks_fit (is_there x) (is_there y)) (all_join (all_maybe x) (all_maybe y))
 
 all_element : (i : Item) → All (item_element_octets reset_crit i)

@@ -13,11 +13,11 @@ use Rattle.packed.specs.Packed.{bits_of, packed_in}
 use Rattle.lists.specs.Lists.{some}
 use Rattle.lists.proofs.Tests.{or_left, or_right}
 use Rattle.octets.specs.Stands.{Octets}
-use Rattle.octets.specs.Read.{◌>>=◌, cut_short, no_meaning, left_over, extended}
+use Rattle.octets.specs.Read.{cut_short, no_meaning, left_over, extended}
 use Rattle.octets.specs.Field.{flag_at, plain_at, choice_at, pad_at, number_at, string_at, open_at, length_at, long_length_at, ends_at}
 use Rattle.octets.specs.Write.{number_octets, length_octets}
 use Rattle.identity.specs.declared.MceId.{MceId}
-use Rattle.values.specs.Values.{mme_at, mce_at, tmgi_at}
+use Rattle.values.specs.Values.{two_at, identity_at, tmgi_at}
 use Rattle.items.specs.Items.{reset_at}
 use Rattle.kinds.specs.Kinds.{legible_at}
 use Rattle.rows.specs.Table.{find}
@@ -133,7 +133,7 @@ room_number s k d h =
 
 -- the rest is computed
 pub every_answer : EveryAnswer
-unfolding many_held decided_on setup_answer decided judged_by rejection started stopped full read_of frame_at kind_at container_at count_at opened_at extensions_at elements_at elements.judged_of front find read_into unknown_of missing_of scan_at heads_at envelope_at criticality_at legible_at mme_at mce_at tmgi_at reset_at read_as value_in values_in seen lists_of printed first_of named_by flag_at plain_at choice_at pad_at number_at string_at open_at length_at long_length_at ends_at bits_of cut_short no_meaning left_over extended ◌>>=◌ read_unit unit_octets same rows_of rows_octets number_octets distinct_held reply_octets encoded replied list_only value_of elements_good elements_octets message_octets inside_octets how_many length_octets packed_in
+unfolding many_held decided_on setup_answer decided judged_by rejection started stopped full read_of frame_at kind_at container_at count_at opened_at extensions_at elements_at elements.judged_of front find read_into unknown_of missing_of scan_at heads_at envelope_at criticality_at legible_at two_at identity_at tmgi_at reset_at read_as value_in values_in seen lists_of printed first_of named_by flag_at plain_at choice_at pad_at number_at string_at open_at length_at long_length_at ends_at bits_of cut_short no_meaning left_over extended read_unit unit_octets same rows_of rows_octets number_octets distinct_held reply_octets encoded replied list_only value_of elements_good elements_octets message_octets inside_octets how_many length_octets packed_in
 every_answer = record {
   is_carried_out = gives [] start none_good refl refl;
   too_long = long_number;

@@ -1,5 +1,6 @@
 -- Changing places on a small unit: of the pairs 1, 11 and 2, 12 the first is reset, next to a start of 3, 13 and next to a stop of 2, 12.
 -- Assumes nothing.
+use Rattle.std.specs.Prelude.{None, Some}
 use Prim.Native.Nat.{ℕ}
 use mathlib.Core.Bool.{false}
 use mathlib.Core.Path.{◌≡◌, refl, sym, subst}
@@ -7,9 +8,6 @@ use mathlib.Core.List.Memᴰ
 use mathlib.Core.List.{List, [], ◌∷◌, Memᴰ}
 use native.Mathlib.Omega.{arith}
 use Rattle.octets.specs.Stands.{Octets}
-use Rattle.identity.specs.declared.Mme.TheVariants as mme
-use Rattle.identity.specs.declared.Mce.TheVariants as mce
-use Rattle.identity.specs.declared.Session.TheVariants as session
 use Rattle.identity.specs.declared.Item.{Item}
 use Rattle.items.specs.Written.{GoodItems}
 use Rattle.editions.specs.declared.Edition.TheVariants.{Release18}
@@ -30,7 +28,7 @@ pair m c = record {
   mme = record { 0 = m };
   mce = record { 0 = c };
   tmgi = record { plmn = record { 0 = 0; 1 = 0; 2 = 0 }; service = record { 0 = 0; 1 = 0; 2 = 0 } };
-  session = session.Absent;
+  session = None;
 }
 
 abbrev two : Unit
@@ -38,7 +36,7 @@ two = record { held = pair 1 11 ∷ pair 2 12 ∷ []; is_open = false }
 
 -- the item that names MME identity 1
 abbrev items : List Item
-items = record { mme = mme.Is (record { 0 = 1 }); mce = mce.Absent } ∷ []
+items = record { mme = Some (record { 0 = 1 }); mce = None } ∷ []
 
 -- the reset is not idle
 leaves : without items two.held ≡ pair 2 12 ∷ []
@@ -63,7 +61,7 @@ lent = unit_lent two good (in_two (λ (a : Association). Octets (row_octets a)) 
 one_item : GoodItems items
 one_item = (omega arith, omega arith, ((omega arith, tt), tt))
 
-example_start : SomeNeighbours Release18 (unit_octets two) two (request.Start (record { 0 = 3 }) (pair 3 13).tmgi session.Absent) items
+example_start : SomeNeighbours Release18 (unit_octets two) two (request.Start (record { 0 = 3 }) (pair 3 13).tmgi None) items
 unfolding named
 example_start =
     (changing_places_is_real Release18 refl).starts (unit_octets two) two (pair 3 13) items lent (record { mme = omega arith; mce = omega arith }) (row_octets_lem 3 13) (omega arith) refl refl one_item refl

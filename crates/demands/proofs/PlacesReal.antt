@@ -1,5 +1,6 @@
 -- There are neighbours: a start of any association that a unit can take, and a stop of any that it holds, next to a partial reset of any items that do not name it.
 -- Assumes nothing.
+use Rattle.std.specs.Prelude.{None, Option, Some}
 use Prim.Native.Nat.{ℕ, ◌≤◌, ◌<◌}
 use mathlib.Core.Path.{◌≡◌, refl, ap, ◌∙◌}
 use mathlib.Core.Bool.{Bool, true, false, not}
@@ -15,12 +16,6 @@ use Rattle.octets.specs.Stands.{Octets}
 use Rattle.octets.specs.Write.{number_octets}
 use Rattle.identity.specs.declared.MmeId.{MmeId}
 use Rattle.identity.specs.declared.MceId.{MceId}
-use Rattle.identity.specs.declared.Mme.{Mme}
-use Rattle.identity.specs.declared.Mme.TheVariants as mme
-use Rattle.identity.specs.declared.Mce.{Mce}
-use Rattle.identity.specs.declared.Mce.TheVariants as mce
-use Rattle.identity.specs.declared.Session.{Session}
-use Rattle.identity.specs.declared.Session.TheVariants as session
 use Rattle.identity.specs.declared.Item.{Item}
 use Rattle.items.specs.Written.{GoodItems}
 use Rattle.editions.specs.declared.Edition.{Edition}
@@ -71,19 +66,19 @@ module _ (a : Association) (o : Octets (row_octets a)) where
   unfolding number_octets
   session_range = by a.session (o 11)
     where
-      by : (v : Session) → session_octet v < 256 → GoodSession v
-      by (session.Is v) h = h
-      by session.Absent h = tt
+      by : (v : Option ℕ) → session_octet v < 256 → GoodSession v
+      by (Some v) h = h
+      by None h = tt
 
 -- items name by identities only
 pair_names : (i : Item) (a b : Association) → a.mme.0 ≡ b.mme.0 → a.mce.0 ≡ b.mce.0 → names i a ≡ names i b
 pair_names i a b q f = by i.mme i.mce
   where
-    by : (x : Mme) (y : Mce) → names (record { mme = x; mce = y }) a ≡ names (record { mme = x; mce = y }) b
-    by (mme.Is m) (mce.Is c) = rw (q, f)
-    by (mme.Is m) mce.Absent = rw q
-    by mme.Absent (mce.Is c) = rw f
-    by mme.Absent mce.Absent = refl
+    by : (x : Option MmeId) (y : Option MceId) → names (record { mme = x; mce = y }) a ≡ names (record { mme = x; mce = y }) b
+    by (Some m) (Some c) = rw (q, f)
+    by (Some m) None = rw q
+    by None (Some c) = rw f
+    by None None = refl
 
 module _ (items : List Item) (a : Association) (n : named items a ≡ false) where
   pair_named : (b : Association) → has_pair a.mme a.mce b ≡ true → named items b ≡ false

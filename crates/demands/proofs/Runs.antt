@@ -1,6 +1,7 @@
 -- A partial reset that is answered 0 leaves the unit without what its items name, and acknowledges them; so a run of them ends in the unit
 -- without what the joined items name.
 -- Assumes nothing.
+use Rattle.std.specs.Prelude.{Err, Ok}
 use Prim.Native.Nat.{ℕ}
 use mathlib.Core.Path.{◌≡◌, refl, ap, sym, ◌∙◌}
 use mathlib.Core.List.{List, []}
@@ -12,7 +13,7 @@ use Rattle.units.specs.Unit.{Unit, is_unit, read_unit, unit_octets, with_held, G
 use Rattle.units.proofs.OneForm.{one_unit}
 use Rattle.replies.specs.declared.Reply.TheVariants as reply
 use Rattle.replies.specs.Replies.{Replied, silent, reply_octets}
-use Rattle.calls.specs.Judged.{Judged, refuses, accepts, judged}
+use Rattle.calls.specs.Judged.{Judged, judged}
 use Rattle.calls.specs.Call.{Call, call}
 use Rattle.demands.specs.Answered.{number_of}
 use Rattle.demands.specs.Words.{reset_by, Resets, run, AllAccepted, PartialResets, none, more}
@@ -29,8 +30,8 @@ with_held_lem u q = ap (λ (x : State). with_held (λ y. x) u) q
 module _ (e : Edition) where
   -- the reply to a message, if that is a partial reset
   abbrev pub acknowledging : Judged → Replied
-  acknowledging (refuses a r) = silent
-  acknowledging (accepts w) = reply_to e w reply.AcknowledgeItems
+  acknowledging (Err x) = silent
+  acknowledging (Ok w) = reply_to e w reply.AcknowledgeItems
 
   abbrev pub acknowledgement : List ℕ → List ℕ
   acknowledgement s = reply_octets e (acknowledging (judged e s))

@@ -1,16 +1,13 @@
 -- What the values of a record come to: what is seen and listed does not hang on what is carried; it is in range where each value is; it has a value of
 -- each kind that is there; and a part of the interface has its items.
 -- Assumes nothing.
+use Rattle.std.specs.Prelude.{IsSome, Some}
 use Prim.Native.Nat.{ℕ, zero, suc, ◌<◌}
 use mathlib.Core.Path.{◌≡◌, ◌∙◌, refl, sym, ap}
 use mathlib.Core.List.{List, [], ◌∷◌, map}
 use native.Mathlib.Omega.{arith}
 use lib.ListN.{length, get_or}
 use Rattle.octets.specs.Many.{Each}
-use Rattle.identity.specs.declared.Mme.{Mme}
-use Rattle.identity.specs.declared.Mme.TheVariants as mme
-use Rattle.identity.specs.declared.Mce.{Mce}
-use Rattle.identity.specs.declared.Mce.TheVariants as mce
 use Rattle.items.specs.Items.{whole, part}
 use Rattle.items.specs.Written.{GoodItems, GoodReset}
 use Rattle.rows.specs.declared.Kind.{Kind}
@@ -19,10 +16,7 @@ use Rattle.meaning.specs.Value as value
 use Rattle.meaning.specs.Value.{Value, Given, given, absent, Said, Record, on_carried, on_given, octets_in, said_by}
 use Rattle.meaning.specs.Ranges.{value_kind}
 use Rattle.layout.specs.Record.{lists_of}
-use Rattle.requests.specs.declared.MaybeTmgi.{MaybeTmgi}
-use Rattle.requests.specs.declared.MaybeTmgi.TheVariants as tmgi
-use Rattle.requests.specs.declared.MaybeReset.{MaybeReset}
-use Rattle.requests.specs.declared.MaybeReset.TheVariants as reset
+use Rattle.requests.specs.declared.Extent.TheVariants as extent
 use Rattle.requests.specs.declared.Seen.{Seen}
 use Rattle.requests.specs.Requests.{seeing, seen, items_in}
 use Rattle.demands.proofs.Written.{GoodMme, GoodMce, GoodList}
@@ -139,11 +133,11 @@ module _ {C : Type 0} where
   -- items are in range, and a part of the interface has one
   pub record GoodListed (vs : List (Given C)) : Type 0 where
     pub list : GoodList (lists_of vs).items
-    pub some : (seen vs).reset ≡ reset.Part → 0 < length (lists_of vs).items
+    pub some : (seen vs).reset ≡ Some extent.Part → 0 < length (lists_of vs).items
 
   pub listed_good : (vs : List (Given C)) → Each GoodGiven vs → GoodListed vs
   unfolding seen lists_of
-  listed_good [] g = record { list = record { few = omega arith; each = tt }; some = λ q. let z : ◌≡◌ {A = ℕ} 0 1 = cc in absurd (omega arith) }
+  listed_good [] g = record { list = record { few = omega arith; each = tt }; some = λ q. cc }
   listed_good (absent ∷ vs) g = let k = listed_good vs g.1 in record { list = k.list; some = k.some }
   listed_good (given v ∷ vs) g = by v g.0 (listed_good vs g.1)
     where
@@ -157,36 +151,19 @@ module _ {C : Type 0} where
       by (value.cause c) h k = record { list = k.list; some = k.some }
       by (value.wait v) h k = record { list = k.list; some = k.some }
       by (value.name c) h k = record { list = k.list; some = k.some }
-      by (value.reset whole) h k = record { list = k.list; some = λ q. let z : ◌≡◌ {A = ℕ} 0 1 = cc in absurd (omega arith) }
+      by (value.reset whole) h k = record { list = k.list; some = λ q. cc }
       by (value.reset (part items)) h k = record { list = record { few = h.1; each = h.2 }; some = λ q. h.0 }
       by (value.list items) h k = record { list = record { few = h.1; each = h.2 }; some = λ q. h.0 }
       by (value.diagnostics t d) h k = record { list = k.list; some = k.some }
 
 -- ---- what is there is seen
 
-abbrev pub IsMme : Mme → Type 0
-IsMme (mme.Is m) = Unit
-IsMme mme.Absent = ⊥
-
-abbrev pub IsMce : Mce → Type 0
-IsMce (mce.Is c) = Unit
-IsMce mce.Absent = ⊥
-
-abbrev pub IsTmgi : MaybeTmgi → Type 0
-IsTmgi (tmgi.Is t) = Unit
-IsTmgi tmgi.Absent = ⊥
-
-abbrev pub IsReset : MaybeReset → Type 0
-IsReset reset.Whole = Unit
-IsReset reset.Part = Unit
-IsReset reset.Absent = ⊥
-
 -- a value of a kind that the rules look at
 abbrev pub Has : Kind → Seen → Type 0
-Has kind.Mme x = IsMme x.mme
-Has kind.Mce x = IsMce x.mce
-Has kind.Tmgi x = IsTmgi x.tmgi
-Has kind.ResetType x = IsReset x.reset
+Has kind.Mme x = IsSome x.mme
+Has kind.Mce x = IsSome x.mce
+Has kind.Tmgi x = IsSome x.tmgi
+Has kind.ResetType x = IsSome x.reset
 Has kind.Carried x = Unit
 Has kind.OneOctet x = Unit
 Has kind.TwoOctets x = Unit
@@ -198,10 +175,10 @@ Has (kind.Diagnostics t) x = Unit
 
 -- one value more takes nothing away
 record Kept (x y : Seen) : Type 0 where
-  mme : IsMme x.mme → IsMme y.mme
-  mce : IsMce x.mce → IsMce y.mce
-  tmgi : IsTmgi x.tmgi → IsTmgi y.tmgi
-  reset : IsReset x.reset → IsReset y.reset
+  mme : IsSome x.mme → IsSome y.mme
+  mce : IsSome x.mce → IsSome y.mce
+  tmgi : IsSome x.tmgi → IsSome y.tmgi
+  reset : IsSome x.reset → IsSome y.reset
 
 has_kept : (k : Kind) {x y : Seen} → Kept x y → Has k x → Has k y
 has_kept kind.Mme q h = q.mme h
@@ -220,38 +197,38 @@ has_kept (kind.Diagnostics t) q h = tt
 module _ {C : Type 0} where
   seeing_has : (v : Value C) (x : Seen) → Has (value_kind v) (seeing v x)
   seeing_has (value.carried c) x = tt
-  seeing_has (value.mme m) x = tt
-  seeing_has (value.mce c) x = tt
-  seeing_has (value.tmgi t) x = tt
+  seeing_has (value.mme m) x = refl
+  seeing_has (value.mce c) x = refl
+  seeing_has (value.tmgi t) x = refl
   seeing_has (value.one s) x = tt
   seeing_has (value.two s) x = tt
   seeing_has (value.cause c) x = tt
   seeing_has (value.wait v) x = tt
   seeing_has (value.name c) x = tt
-  seeing_has (value.reset whole) x = tt
-  seeing_has (value.reset (part items)) x = tt
+  seeing_has (value.reset whole) x = refl
+  seeing_has (value.reset (part items)) x = refl
   seeing_has (value.list items) x = tt
   seeing_has (value.diagnostics t d) x = tt
 
   seeing_kept : (v : Value C) (x : Seen) → Kept x (seeing v x)
   seeing_kept (value.carried c) x = record { mme = λ h. h; mce = λ h. h; tmgi = λ h. h; reset = λ h. h }
-  seeing_kept (value.mme m) x = record { mme = λ h. tt; mce = λ h. h; tmgi = λ h. h; reset = λ h. h }
-  seeing_kept (value.mce c) x = record { mme = λ h. h; mce = λ h. tt; tmgi = λ h. h; reset = λ h. h }
-  seeing_kept (value.tmgi t) x = record { mme = λ h. h; mce = λ h. h; tmgi = λ h. tt; reset = λ h. h }
+  seeing_kept (value.mme m) x = record { mme = λ h. refl; mce = λ h. h; tmgi = λ h. h; reset = λ h. h }
+  seeing_kept (value.mce c) x = record { mme = λ h. h; mce = λ h. refl; tmgi = λ h. h; reset = λ h. h }
+  seeing_kept (value.tmgi t) x = record { mme = λ h. h; mce = λ h. h; tmgi = λ h. refl; reset = λ h. h }
   seeing_kept (value.one s) x = record { mme = λ h. h; mce = λ h. h; tmgi = λ h. h; reset = λ h. h }
   seeing_kept (value.two s) x = record { mme = λ h. h; mce = λ h. h; tmgi = λ h. h; reset = λ h. h }
   seeing_kept (value.cause c) x = record { mme = λ h. h; mce = λ h. h; tmgi = λ h. h; reset = λ h. h }
   seeing_kept (value.wait v) x = record { mme = λ h. h; mce = λ h. h; tmgi = λ h. h; reset = λ h. h }
   seeing_kept (value.name c) x = record { mme = λ h. h; mce = λ h. h; tmgi = λ h. h; reset = λ h. h }
-  seeing_kept (value.reset whole) x = record { mme = λ h. h; mce = λ h. h; tmgi = λ h. h; reset = λ h. tt }
-  seeing_kept (value.reset (part items)) x = record { mme = λ h. h; mce = λ h. h; tmgi = λ h. h; reset = λ h. tt }
+  seeing_kept (value.reset whole) x = record { mme = λ h. h; mce = λ h. h; tmgi = λ h. h; reset = λ h. refl }
+  seeing_kept (value.reset (part items)) x = record { mme = λ h. h; mce = λ h. h; tmgi = λ h. h; reset = λ h. refl }
   seeing_kept (value.list items) x = record { mme = λ h. h; mce = λ h. h; tmgi = λ h. h; reset = λ h. h }
   seeing_kept (value.diagnostics t d) x = record { mme = λ h. h; mce = λ h. h; tmgi = λ h. h; reset = λ h. h }
 
   pub seen_has : (vs : List (Given C)) (i : ℕ) (v : Value C) → get_or vs i absent ≡ given v → Has (value_kind v) (seen vs)
   unfolding seen
-  seen_has [] i v q = let z : ◌≡◌ {A = ℕ} 0 1 = cc in absurd (omega arith)
-  seen_has (absent ∷ vs) zero v q = let z : ◌≡◌ {A = ℕ} 0 1 = cc in absurd (omega arith)
+  seen_has [] i v q = cc
+  seen_has (absent ∷ vs) zero v q = cc
   seen_has (given w ∷ vs) zero v q = let z : w ≡ v = cc in rw (← z) (seeing_has w (seen vs))
   seen_has (absent ∷ vs) (suc i) v q = seen_has vs i v q
   seen_has (given w ∷ vs) (suc i) v q = has_kept (value_kind v) (seeing_kept w (seen vs)) (seen_has vs i v q)

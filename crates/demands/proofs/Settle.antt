@@ -1,6 +1,7 @@
 -- What the table call does with what is decided: the answer is of 01's list, refusals leave the unit, the reply stands in front of the room,
 -- and an answer without a reply leaves the room.
 -- Assumes nothing.
+use Rattle.std.specs.Prelude.{Option, Ok, Err}
 use Prim.Native.Nat.{ℕ, ◌≤◌}
 use mathlib.Core.Path.{◌≡◌, refl, ap, ◌∙◌}
 use mathlib.Core.Bool.{Bool, true, false, not, ◌&&◌}
@@ -13,7 +14,6 @@ use Rattle.lists.proofs.Tests.{on-pick}
 use Rattle.octets.specs.declared.Stop.TheVariants.{Fault, Extension}
 use Rattle.identity.specs.declared.MmeId.{MmeId}
 use Rattle.identity.specs.declared.MceId.{MceId}
-use Rattle.identity.specs.declared.Session.{Session}
 use Rattle.identity.specs.declared.Tmgi.{Tmgi}
 use Rattle.identity.specs.declared.Item.{Item}
 use Rattle.entries.specs.declared.Entry.{Entry}
@@ -31,9 +31,7 @@ use Rattle.requests.specs.Requests.{ask_of, seen, items_in}
 use Rattle.carry.specs.declared.Answer.{Answer}
 use Rattle.carry.specs.declared.Answer.TheVariants as answer
 use Rattle.carry.specs.declared.Decision.{Decision}
-use Rattle.carry.specs.declared.Ruling.{Ruling}
-use Rattle.carry.specs.declared.Ruling.TheVariants.{Granted, Refused}
-use Rattle.carry.specs.Carry.{started, stopped, carried_out, asked, ruling}
+use Rattle.carry.specs.Carry.{Ruling, started, stopped, carried_out, asked, ruling}
 use Rattle.answers.specs.Answers.{numbered}
 use Rattle.calls.specs.Decided.{Decided, keeps, changes, fails, applied, decided}
 use Rattle.calls.specs.Judged.{ruled, judged_by, verdict, setup_answer}
@@ -138,7 +136,7 @@ module _ (e : Edition) where
     none = rw (no_record_lem f (keep has_identity items) noted) none_said
 
     module _ (k : Standing) (c : MceId) where
-      started_silent : (m : MmeId) (t : Tmgi) (s : Session) → SilentBy (started k c m t s)
+      started_silent : (m : MmeId) (t : Tmgi) (s : Option ℕ) → SilentBy (started k c m t s)
       unfolding started
       started_silent m t s = on-pick SilentBy k.mme (λ e. cc) (on-pick SilentBy k.mce (λ e. none) (on-pick SilentBy k.full (λ e. cc) (λ e. cc)))
 
@@ -157,8 +155,8 @@ module _ (e : Edition) where
 
   ruled_silent : (u : Unit) (c : MceId) (w : Understood) (r : Ruling) → Silent (decided e u c (ruled e w r))
   unfolding decided
-  ruled_silent u c w (Granted q) = carried_silent u w.frame (items_in w.what) w.noted (standing (asked c q) u.held) c q
-  ruled_silent u c w (Refused r) = λ q. cc
+  ruled_silent u c w (Ok q) = carried_silent u w.frame (items_in w.what) w.noted (standing (asked c q) u.held) c q
+  ruled_silent u c w (Err r) = λ q. cc
 
   pub decided_silent : (u : Unit) (c : MceId) (v : Verdict) → Silent (decided e u c (judged_by e v))
   unfolding judged_by decided

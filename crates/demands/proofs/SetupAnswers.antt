@@ -1,32 +1,26 @@
 -- A message that is accepted answers a setup request exactly if its request does; so 14 comes of no other, and what asks for something else is decided as it is judged.
 -- Assumes nothing.
+use Rattle.std.specs.Prelude.{None, Option, Some}
+use Rattle.identity.specs.declared.MceId.{MceId}
+use Rattle.identity.specs.declared.Tmgi.{Tmgi}
+use Rattle.identity.specs.declared.MmeId.{MmeId}
 use Prim.Native.Nat.{ℕ}
 use mathlib.Core.Path.{◌≡◌, refl, ap, sym, ◌∙◌}
 use mathlib.Core.Bool.{Bool, true, false, not, ◌&&◌}
 use mathlib.Core.List.{List}
-use native.Mathlib.Omega.{arith}
 use borrow.Author.Tests.{le-ltb}
 use lib.ListN.{length}
 use Rattle.lists.specs.Lists.{pick}
-use Rattle.identity.specs.declared.Mme.{Mme}
-use Rattle.identity.specs.declared.Mme.TheVariants as mme
-use Rattle.identity.specs.declared.Mce.{Mce}
-use Rattle.identity.specs.declared.Mce.TheVariants as mce
-use Rattle.identity.specs.declared.Session.{Session}
 use Rattle.editions.specs.declared.Edition.{Edition}
 use Rattle.verdicts.specs.Verdict.{Understood, understood}
 use Rattle.units.specs.Unit.{Unit}
-use Rattle.requests.specs.declared.MaybeTmgi.{MaybeTmgi}
-use Rattle.requests.specs.declared.MaybeTmgi.TheVariants as tmgi
-use Rattle.requests.specs.declared.MaybeReset.{MaybeReset}
-use Rattle.requests.specs.declared.MaybeReset.TheVariants as reset
+use Rattle.requests.specs.declared.Extent.{Extent}
+use Rattle.requests.specs.declared.Extent.TheVariants as extent
 use Rattle.requests.specs.declared.Ask.{Ask}
 use Rattle.requests.specs.declared.Ask.TheVariants as ask
 use Rattle.requests.specs.declared.Seen.{Seen}
 use Rattle.requests.specs.declared.Request.{Request}
 use Rattle.requests.specs.declared.Request.TheVariants as request
-use Rattle.requests.specs.declared.Wanted.{Wanted}
-use Rattle.requests.specs.declared.Wanted.TheVariants as wanted
 use Rattle.requests.specs.Requests.{ask_of, asks, answers_setup, start_of, stop_of, reset_of, request_of, seen}
 use Rattle.replies.specs.Replies.{silent}
 use Rattle.carry.specs.declared.Answer.TheVariants as answer
@@ -57,24 +51,24 @@ of_setup request.SetupResponse = true
 of_setup (request.SetupFailure w) = true
 
 -- the test of what is wanted, of which nothing lacks
-abbrev wants_setup : Bool → Wanted → Bool
-wants_setup b (wanted.Is q) = of_setup q
-wants_setup b wanted.Lacking = b
+abbrev wants_setup : Bool → Option Request → Bool
+wants_setup b (Some q) = of_setup q
+wants_setup b None = b
 
-start_wants : (x : Mme) (t : MaybeTmgi) (s : Session) → wants_setup false (start_of x t s) ≡ false
-start_wants (mme.Is m) (tmgi.Is t) s = refl
-start_wants (mme.Is m) tmgi.Absent s = refl
-start_wants mme.Absent t s = refl
+start_wants : (x : Option MmeId) (t : Option Tmgi) (s : Option ℕ) → wants_setup false (start_of x t s) ≡ false
+start_wants (Some m) (Some t) s = refl
+start_wants (Some m) None s = refl
+start_wants None t s = refl
 
-stop_wants : (x : Mme) (y : Mce) → wants_setup false (stop_of x y) ≡ false
-stop_wants (mme.Is m) (mce.Is c) = refl
-stop_wants (mme.Is m) mce.Absent = refl
-stop_wants mme.Absent y = refl
+stop_wants : (x : Option MmeId) (y : Option MceId) → wants_setup false (stop_of x y) ≡ false
+stop_wants (Some m) (Some c) = refl
+stop_wants (Some m) None = refl
+stop_wants None y = refl
 
-reset_wants : (x : MaybeReset) → wants_setup false (reset_of x) ≡ false
-reset_wants reset.Whole = refl
-reset_wants reset.Part = refl
-reset_wants reset.Absent = refl
+reset_wants : (x : Option Extent) → wants_setup false (reset_of x) ≡ false
+reset_wants (Some extent.Whole) = refl
+reset_wants (Some extent.Part) = refl
+reset_wants None = refl
 
 asked_wants : (a : Ask) (x : Seen) → wants_setup (answers_setup a) (request_of a x) ≡ answers_setup a
 asked_wants ask.Start x = start_wants x.mme x.tmgi x.session
@@ -104,7 +98,7 @@ module _ (e : Edition) where
     where
       by : (a b : Bool) → b ≡ true → pick (a && not b) (keeps answer.NoneOpen silent) (decided e u c.offered (judged e c.message)) ≡ decided e u c.offered (judged e c.message)
       by true true h = refl
-      by true false h = absurd (let y : ◌≡◌ {A = ℕ} 0 1 = cc in omega arith)
+      by true false h = cc
       by false b h = refl
 
   pub none_open : (u : Unit) (c : Call) (q : Request) → Asks (judged e c.message) q → of_setup q ≡ true → u.is_open ≡ false → decided_on e u c ≡ keeps answer.NoneOpen silent

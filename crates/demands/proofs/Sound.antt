@@ -7,7 +7,8 @@ use mathlib.Core.List.{List, [], ◌∷◌}
 use native.Mathlib.Omega.{arith}
 use lib.ListN.{take, length-take}
 use Rattle.lists.proofs.Tests.{on-pick}
-use Rattle.octets.specs.Read.{Read, got, stop, ◌>>=◌}
+use Rattle.std.specs.Prelude.{Ok, Err}
+use Rattle.octets.specs.Read.{Read}
 use Rattle.octets.specs.Field.{plain_at, choice_at, pad_at, number_at, open_at, ends_at}
 use Rattle.octets.specs.Stands.{Octets}
 use Rattle.octets.specs.declared.Span.{Span}
@@ -44,6 +45,7 @@ use Rattle.meaning.specs.Reading.{read_as, or_absent, value_in, values_in}
 use Rattle.verdicts.specs.Verdict.{Opening, Understood, understood, understood_by, read_of}
 use Rattle.editions.proofs.Tables.{Fits, rows_fit}
 use Rattle.round_trips.proofs.Accepted.{opened}
+use Rattle.round_trips.proofs.ValueAgain.{of_read}
 use Rattle.requests.specs.Requests.{seen}
 use Rattle.demands.proofs.Written.{GoodEntries, GoodFrame}
 use Rattle.demands.proofs.Seen.{GoodValue, GoodGiven, GoodSeen, seen_good, GoodListed, listed_good}
@@ -59,7 +61,7 @@ pub record Sound (u : Understood) : Type 0 where
 
 -- ---- numbers
 
-kind_good : (s : List ℕ) {v : ℕ} → got v ≡ kind_at s → v < 3
+kind_good : (s : List ℕ) {v : ℕ} → Ok v ≡ kind_at s → v < 3
 unfolding kind_at
 kind_good s q =
     let a = then_got (plain_at s 0 0) _ q in
@@ -67,7 +69,7 @@ kind_good s q =
     let c = then_got (pad_at s 0 3) _ b.2 in
     rw (same_got c.2) (choice_got s 0 3 2 1 b.1).2
 
-frame_good : (s : List ℕ) {f : Frame} → Octets s → got f ≡ frame_at s → GoodFrame f
+frame_good : (s : List ℕ) {f : Frame} → Octets s → Ok f ≡ frame_at s → GoodFrame f
 unfolding frame_at
 frame_good s {f} o q =
     let a = then_got (kind_at s) _ q in
@@ -84,16 +86,12 @@ listed_entries = listed_each GoodEntry (λ e c i r. record { crit = c; id = i; e
 
 -- ---- values of the record
 
--- what holds of each value that a reading gives holds of the value that was read
-pub of_read : {A : Type 0} (P : Value Span → Type 0) (put : A → Value Span) (r : Read A) {v : Value Span} → got v ≡ r >>= (λ x. got (put x)) → ((a : A) → got a ≡ r → P (put a)) → P v
-of_read P put r q h = let a = then_got r _ q in subst P (sym (same_got a.2)) (h a.0 a.1)
-
 module _ (s : List ℕ) (o : Octets s) where
   module _ (p : Span) where
     cut : Octets (take p.to s)
     cut = octets_front s p.to o
 
-    read_good : (k : Kind) {v : Value Span} → got v ≡ read_as k s p → GoodValue v
+    read_good : (k : Kind) {v : Value Span} → Ok v ≡ read_as k s p → GoodValue v
     unfolding read_as
     read_good kind.Carried q = subst GoodValue (sym (same_got q)) tt
     read_good kind.Mme q = of_read GoodValue value.mme (mme_at (take p.to s) p.from) q (λ a h. mme_good (take p.to s) p.from cut h)
@@ -113,8 +111,8 @@ module _ (s : List ℕ) (o : Octets s) where
     value_good k = on-pick GoodGiven (present p) (by (read_as k s p) refl) tt
       where
         by : (r : Read (Value Span)) → r ≡ read_as k s p → GoodGiven (or_absent r)
-        by (got v) q = read_good k q
-        by (stop x) q = tt
+        by (Ok v) q = read_good k q
+        by (Err x) q = tt
 
   pub values_good : (t : List Row) (l : List Span) → Each GoodGiven (values_in t s l)
   unfolding values_in

@@ -4,19 +4,17 @@ use Prim.Native.Nat.{ℕ, ◌+◌}
 use mathlib.Core.Path.{◌≡◌, ◌∙◌, refl, sym, ap}
 use mathlib.Core.Bool.{Bool, true, false}
 use mathlib.Core.List.{List, Memᴰ}
-use native.Mathlib.Omega.{arith}
 use lib.Dec.{ltb}
 use lib.ListN.{length}
 use Rattle.lists.specs.Lists.{pick}
-use Rattle.octets.specs.Read.{Read, got, stop}
+use Rattle.std.specs.Prelude.{Ok, Err, None, Option, Some}
+use Rattle.octets.specs.Read.{Read}
 use Rattle.octets.proofs.Chain.{then_got, same_got}
 use Rattle.rows.specs.declared.Row.{Row}
 use Rattle.envelopes.specs.declared.Head.{Head}
 use Rattle.envelopes.specs.Envelope.{scan_at, heads_at}
 use Rattle.elements.specs.Judge as elements
 use Rattle.editions.specs.declared.Message.{Message}
-use Rattle.editions.specs.declared.Named.{Named}
-use Rattle.editions.specs.declared.Named.TheVariants as named
 use Rattle.editions.specs.declared.Edition.{Edition}
 use Rattle.editions.specs.declared.Edition.TheVariants.{Release18, Warnings, WarningsLab}
 use Rattle.editions.specs.Editions.{messages_of, table_of, container_of, of_m3ap, named_by}
@@ -25,32 +23,28 @@ use Rattle.frames.specs.declared.Frame.{Frame}
 use Rattle.frames.specs.Frame.{frame_at, count_at}
 use Rattle.frames.specs.declared.Count.{Count}
 use Rattle.requests.specs.Requests.{asks}
-use Rattle.round_trips.proofs.Accepted.{opened}
-use Rattle.verdicts.specs.declared.Refusal.{Refusal}
+use Rattle.round_trips.proofs.Accepted.{not_refused, opened}
 use Rattle.verdicts.specs.declared.Refusal.TheVariants as refusal
 use Rattle.verdicts.specs.Verdict.{Opening, opening_by, opened_at, Understood, refused, understood, understood_by, verdict_of, every, of_those, framed, read_of}
 
 -- ---- what passes the test
 
-not_refused : {B : Type 0} {x : Refusal} {u : Understood} → refused x ≡ understood u → B
-not_refused q = let z : ◌≡◌ {A = ℕ} 0 1 = cc in absurd (omega arith)
-
 -- what is understood is of the message that was opened
 opened_message : (t : List Row) (m : Message) (f : Frame) (s : List ℕ) (o : Read Opening) (u : Understood) → verdict_of t m f s o ≡ understood u → m ≡ u.what.message
-opened_message t m f s (got o) u q = let z : understood_by t m f s o ≡ u = cc in ap (λ (x : Understood). x.what.message) z
-opened_message t m f s (stop x) u q = not_refused q
+opened_message t m f s (Ok o) u q = let z : understood_by t m f s o ≡ u = cc in ap (λ (x : Understood). x.what.message) z
+opened_message t m f s (Err x) u q = not_refused q
 
 module _ (e : Edition) (among : Message → Bool) (s : List ℕ) (u : Understood) (a : among u.what.message ≡ true) where
-  those_same : (f : Frame) (n : Named) → of_those e every s f n ≡ understood u → of_those e among s f n ≡ understood u
-  those_same f (named.Is m) q =
+  those_same : (f : Frame) (n : Option Message) → of_those e every s f n ≡ understood u → of_those e among s f n ≡ understood u
+  those_same f (Some m) q =
       let z = opened_message (table_of e m) m f s (opened_at (table_of e m) (container_of e m) s f.from) u q in
       let b : among m ≡ true = ap among z ∙ a in
       rw b q
-  those_same f named.Other q = not_refused q
+  those_same f None q = not_refused q
 
   framed_same : (r : Read Frame) → framed e every s r ≡ understood u → framed e among s r ≡ understood u
-  framed_same (got f) q = those_same f (named_by e f.kind f.code) q
-  framed_same (stop x) q = not_refused q
+  framed_same (Ok f) q = those_same f (named_by e f.kind f.code) q
+  framed_same (Err x) q = not_refused q
 
   pub judged_as_read : read_of e every s ≡ understood u → read_of e among s ≡ understood u
   unfolding read_of
@@ -68,12 +62,12 @@ module _ (e : Edition) (among : Message → Bool) (s : List ℕ) (u : Understood
   passed m f false a q = not_refused q
 
   framed_passed : (r : Read Frame) → framed e among s r ≡ understood u → among u.what.message ≡ true
-  framed_passed (got f) q = by (named_by e f.kind f.code) q
+  framed_passed (Ok f) q = by (named_by e f.kind f.code) q
     where
-      by : (n : Named) → of_those e among s f n ≡ understood u → among u.what.message ≡ true
-      by (named.Is m) q = passed m f (among m) refl q
-      by named.Other q = not_refused q
-  framed_passed (stop x) q = not_refused q
+      by : (n : Option Message) → of_those e among s f n ≡ understood u → among u.what.message ≡ true
+      by (Some m) q = passed m f (among m) refl q
+      by None q = not_refused q
+  framed_passed (Err x) q = not_refused q
 
   pub only_passed : read_of e among s ≡ understood u → among u.what.message ≡ true
   unfolding read_of
@@ -87,14 +81,14 @@ module _ (e : Edition) (among : Message → Bool) (s : List ℕ) (u : Understood
 
 pub record Judging (t : List Row) (c : Bool) (s : List ℕ) (from : ℕ) (o : Opening) : Type 0 where
   pub opens : Count
-  pub counted : got opens ≡ count_at c s from
+  pub counted : Ok opens ≡ count_at c s from
   pub end : ℕ
-  pub scan : got end ≡ scan_at t s opens.elements (from + 3)
+  pub scan : Ok end ≡ scan_at t s opens.elements (from + 3)
   pub extensions : List Head
-  pub behind : got extensions ≡ elements.extensions_at opens.container s end
+  pub behind : Ok extensions ≡ elements.extensions_at opens.container s end
   pub is : opening_by opens.elements (elements.judged_of t opens.elements (heads_at s opens.elements (from + 3)) extensions) ≡ o
 
-pub judging : (t : List Row) (c : Bool) (s : List ℕ) (from : ℕ) {o : Opening} → got o ≡ opened_at t c s from → Judging t c s from o
+pub judging : (t : List Row) (c : Bool) (s : List ℕ) (from : ℕ) {o : Opening} → Ok o ≡ opened_at t c s from → Judging t c s from o
 unfolding opened_at elements.elements_at
 judging t c s from {o} q =
     let a = then_got (count_at c s from) _ q in
@@ -114,8 +108,8 @@ judging t c s from {o} q =
 
 -- ---- only messages of M3AP ask
 
-not_asked : {A : Type 0} → false ≡ true → A
-not_asked q = let z : ◌≡◌ {A = ℕ} 0 1 = cc in absurd (omega arith)
+pub not_asked : {A : Type 0} → false ≡ true → A
+not_asked q = cc
 
 none_asks : (m : Message) → Memᴰ m (messages_of Warnings) → asks m ≡ true → ⊥
 none_asks m (Memᴰ.head h) a = not_asked (rw h at a)

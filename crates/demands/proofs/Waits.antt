@@ -1,5 +1,6 @@
 -- Only a setup that failed hands back a time to wait.
 -- Assumes nothing.
+use Rattle.std.specs.Prelude.{Option, Ok, Err}
 use Prim.Native.Nat.{ℕ}
 use mathlib.Core.Path.{◌≡◌, refl}
 use mathlib.Core.Bool.{Bool, true, false, not, ◌&&◌}
@@ -9,7 +10,6 @@ use Rattle.lists.proofs.Tests.{on-pick}
 use Rattle.octets.specs.declared.Stop.TheVariants.{Fault, Extension}
 use Rattle.identity.specs.declared.MmeId.{MmeId}
 use Rattle.identity.specs.declared.MceId.{MceId}
-use Rattle.identity.specs.declared.Session.{Session}
 use Rattle.identity.specs.declared.Tmgi.{Tmgi}
 use Rattle.identity.specs.declared.Item.{Item}
 use Rattle.entries.specs.declared.Entry.{Entry}
@@ -22,15 +22,12 @@ use Rattle.table.specs.declared.Standing.{Standing}
 use Rattle.table.specs.Table.{standing}
 use Rattle.units.specs.Unit.{Unit, MaybeUnit, is_unit, no_unit, read_unit}
 use Rattle.replies.specs.Replies.{silent}
-use Rattle.requests.specs.declared.MaybeWait.{MaybeWait}
 use Rattle.requests.specs.declared.Request.{Request}
 use Rattle.requests.specs.declared.Request.TheVariants as request
 use Rattle.requests.specs.Requests.{ask_of, seen, items_in}
 use Rattle.carry.specs.declared.Answer.TheVariants as answer
 use Rattle.carry.specs.declared.Decision.{Decision}
-use Rattle.carry.specs.declared.Ruling.{Ruling}
-use Rattle.carry.specs.declared.Ruling.TheVariants.{Granted, Refused}
-use Rattle.carry.specs.Carry.{refusal, started, stopped, carried_out, asked, ruling}
+use Rattle.carry.specs.Carry.{Ruling, refusal, started, stopped, carried_out, asked, ruling}
 use Rattle.answers.specs.Answers.{numbered}
 use Rattle.calls.specs.Judged.{ruled, judged_by, judged, verdict, setup_answer}
 use Rattle.calls.specs.Decided.{Decided, keeps, applied, decided}
@@ -51,7 +48,7 @@ module _ (e : Edition) where
     abbrev Not : Decision → Type 0
     Not d = wait_in (applied e u f items noted d) ≡ 0
 
-    start_waits : (m : MmeId) (t : Tmgi) (s : Session) → Not (started k c m t s)
+    start_waits : (m : MmeId) (t : Tmgi) (s : Option ℕ) → Not (started k c m t s)
     unfolding started
     start_waits m t s = on-pick Not k.mme refl (on-pick Not k.mce refl (on-pick Not k.full refl refl))
 
@@ -59,7 +56,7 @@ module _ (e : Edition) where
     unfolding stopped
     stop_waits m x = on-pick Not k.pair refl refl
 
-    carried_waits : (q : Request) → (Not (carried_out k c q) → ⊥) → (w : MaybeWait) × (q ≡ request.SetupFailure w)
+    carried_waits : (q : Request) → (Not (carried_out k c q) → ⊥) → (w : Option ℕ) × (q ≡ request.SetupFailure w)
     carried_waits (request.Start m t s) h = absurd (h (start_waits m t s))
     carried_waits (request.Stop m x) h = absurd (h (stop_waits m x))
     carried_waits request.Whole h = absurd (h refl)
@@ -68,21 +65,21 @@ module _ (e : Edition) where
     carried_waits request.SetupResponse h = absurd (h refl)
     carried_waits (request.SetupFailure w) h = (w, refl)
 
-  ruled_waits : (u : Unit) (c : MceId) (w : Understood) (r : Ruling) → (wait_in (decided e u c (ruled e w r)) ≡ 0 → ⊥) → (v : MaybeWait) × Asks (ruled e w r) (request.SetupFailure v)
+  ruled_waits : (u : Unit) (c : MceId) (w : Understood) (r : Ruling) → (wait_in (decided e u c (ruled e w r)) ≡ 0 → ⊥) → (v : Option ℕ) × Asks (ruled e w r) (request.SetupFailure v)
   unfolding decided
-  ruled_waits u c w (Granted q) h =
+  ruled_waits u c w (Ok q) h =
       let x = carried_waits u w.frame (items_in w.what) w.noted (standing (asked c q) u.held) c q h in
       (x.0, record { what = record { request = q; items = items_in w.what; frame = w.frame; noted = w.noted }; accepted = refl; request = x.1 })
-  ruled_waits u c w (Refused r) h = absurd (h refl)
+  ruled_waits u c w (Err r) h = absurd (h refl)
 
-  judged_waits : (u : Unit) (c : MceId) (v : Verdict) → (wait_in (decided e u c (judged_by e v)) ≡ 0 → ⊥) → (w : MaybeWait) × Asks (judged_by e v) (request.SetupFailure w)
+  judged_waits : (u : Unit) (c : MceId) (v : Verdict) → (wait_in (decided e u c (judged_by e v)) ≡ 0 → ⊥) → (w : Option ℕ) × Asks (judged_by e v) (request.SetupFailure w)
   unfolding decided judged_by
   judged_waits u c (refused x) h = absurd (h (refusal_waits x))
   judged_waits u c (understood w) h = ruled_waits u c w (ruling (ask_of w.what.message) (seen w.what.values) w.outcome) h
 
   module _ (c : Call) where
     abbrev Failed : Type 0
-    Failed = (w : MaybeWait) × Asks (judged e c.message) (request.SetupFailure w)
+    Failed = (w : Option ℕ) × Asks (judged e c.message) (request.SetupFailure w)
 
     decided_waits : (u : Unit) → (wait_in (decided_on e u c) ≡ 0 → ⊥) → Failed
     unfolding decided_on

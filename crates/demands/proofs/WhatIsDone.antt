@@ -1,5 +1,6 @@
 -- What a call that is answered 0 leaves in the unit is what was decided, request by request.
 -- Assumes nothing.
+use Rattle.std.specs.Prelude.{Option}
 use Prim.Native.Nat.{ℕ}
 use mathlib.Core.Path.{◌≡◌, refl, ap, sym, ◌∙◌}
 use mathlib.Core.Bool.{Bool, true, false}
@@ -8,13 +9,11 @@ use native.Mathlib.Omega.{arith}
 use Rattle.identity.specs.declared.MmeId.{MmeId}
 use Rattle.identity.specs.declared.MceId.{MceId}
 use Rattle.identity.specs.declared.Tmgi.{Tmgi}
-use Rattle.identity.specs.declared.Session.{Session}
 use Rattle.identity.specs.declared.Item.{Item}
 use Rattle.editions.specs.declared.Edition.{Edition}
 use Rattle.table.specs.declared.Association.{Association}
 use Rattle.table.specs.Table.{State, full, starting, stopping, without}
 use Rattle.units.specs.Unit.{Unit, is_unit, read_unit, unit_octets, with_held, with_open}
-use Rattle.requests.specs.declared.MaybeWait.{MaybeWait}
 use Rattle.requests.specs.declared.Request.{Request}
 use Rattle.requests.specs.declared.Request.TheVariants as request
 use Rattle.replies.specs.declared.Reply.TheVariants as reply
@@ -43,7 +42,7 @@ module _ (e : Edition) (t : List ℕ) (c : Call) (u : Unit) (q : read_unit t ≡
   left : {v : Unit} {r : Replied} → number_of e t c ≡ 0 → decided_on e u c ≡ changes v r → (call e t c).unit ≡ unit_octets v
   left h x = (done e t c u q h).unit ∙ ap (unit_after t) x
 
-  start : (m : MmeId) (g : Tmgi) (s : Session) → Asks (judged e c.message) (request.Start m g s) → number_of e t c ≡ 0
+  start : (m : MmeId) (g : Tmgi) (s : Option ℕ) → Asks (judged e c.message) (request.Start m g s) → number_of e t c ≡ 0
       → (call e t c).unit ≡ unit_octets (with_held (λ (l : State). l ++ (record { mme = m; mce = c.offered; tmgi = g; session = s } ∷ [])) u)
   start m g s p h =
       let a : Association = record { mme = m; mce = c.offered; tmgi = g; session = s } in
@@ -89,14 +88,14 @@ module _ (e : Edition) (t : List ℕ) (c : Call) (u : Unit) (q : read_unit t ≡
   unfolding decided replied
   setup_decided p s = open_judged e u c s ∙ rw (p.accepted, p.request)
 
-  failure_decided : (w : MaybeWait) (p : Asks (judged e c.message) (request.SetupFailure w)) → u.is_open ≡ true → decided_on e u c ≡ fails (with_open false u) w silent
+  failure_decided : (w : Option ℕ) (p : Asks (judged e c.message) (request.SetupFailure w)) → u.is_open ≡ true → decided_on e u c ≡ fails (with_open false u) w silent
   unfolding decided replied
   failure_decided w p s = open_judged e u c s ∙ rw (p.accepted, p.request)
 
   setup : Asks (judged e c.message) request.SetupResponse → number_of e t c ≡ 0 → (u.is_open ≡ true) × ((call e t c).unit ≡ unit_octets (with_open false (with_held (λ (l : State). []) u)))
   setup p h = let s = answered_open request.SetupResponse p refl h in (s, left h (setup_decided p s))
 
-  failed : (w : MaybeWait) → Asks (judged e c.message) (request.SetupFailure w) → number_of e t c ≡ 0
+  failed : (w : Option ℕ) → Asks (judged e c.message) (request.SetupFailure w) → number_of e t c ≡ 0
       → (u.is_open ≡ true) × ((call e t c).unit ≡ unit_octets (with_open false u)) × ((numbered (call e t c).answer).wait ≡ wait_of w)
   failed w p h =
       let s = answered_open (request.SetupFailure w) p refl h in

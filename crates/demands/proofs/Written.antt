@@ -1,6 +1,7 @@
 -- Every reply is written, whatever identities, items, entries and frame it is made of, if they are in range; and so its octets read back as what it says.
 -- Its elements suit the rows of its message's table: one line for each edition and reply.
 -- Assumes nothing.
+use Rattle.std.specs.Prelude.{None, Option, Some}
 use Prim.Native.Nat.{ℕ, ◌+◌, ◌*◌, ◌-◌, ◌<◌, ◌≤◌}
 use mathlib.Core.Path.{◌≡◌, ◌∙◌, refl, sym, subst}
 use mathlib.Core.Bool.{Bool, true, false}
@@ -18,10 +19,6 @@ use Rattle.octets.specs.Write.{number_octets, length_octets}
 use Rattle.octets.specs.Many.{Each, each_octets}
 use Rattle.identity.specs.declared.MmeId.{MmeId}
 use Rattle.identity.specs.declared.MceId.{MceId}
-use Rattle.identity.specs.declared.Mme.{Mme}
-use Rattle.identity.specs.declared.Mme.TheVariants as mme
-use Rattle.identity.specs.declared.Mce.{Mce}
-use Rattle.identity.specs.declared.Mce.TheVariants as mce
 use Rattle.identity.specs.declared.Item.{Item}
 use Rattle.values.specs.declared.Cause.{Cause}
 use Rattle.values.specs.Written.{GoodCause, cause_octets}
@@ -30,7 +27,6 @@ use Rattle.packed.specs.Packed.{◌bits◌, packed}
 use Rattle.items.specs.Written.{acknowledgement_crit, item_octets, item_element_octets, items_octets, mme_in, mce_in, GoodMaybe, GoodItem}
 use Rattle.entries.specs.declared.Entry.{Entry}
 use Rattle.diagnostics.specs.declared.Head.{Head}
-use Rattle.diagnostics.specs.declared.Number.TheVariants as number
 use Rattle.diagnostics.specs.Diagnostics.{Diagnostics}
 use Rattle.diagnostics.specs.Written.{head_octets, entry_list_octets, diagnostics_octets, GoodEntry, GoodDiagnostics}
 use Rattle.put_diagnostics.proofs.Sizes.{head_small, list_size}
@@ -45,7 +41,6 @@ use Rattle.editions.specs.declared.Edition.{Edition}
 use Rattle.editions.specs.declared.Edition.TheVariants.{Release18}
 use Rattle.editions.specs.Ids.{id_mme_mbms_m3ap_id, id_mce_mbms_m3ap_id, id_cause, id_criticality_diagnostics, id_mbms_service_associated_logical_m3_connection_list_res_ack}
 use Rattle.editions.specs.Editions.{printed, messages_of, table_of, number_of, of_m3ap, first_of, numbered_by}
-use Rattle.editions.specs.declared.Named.TheVariants as named
 use Rattle.editions.proofs.Names.{only_m3ap, numbered_listed}
 use Rattle.frames.specs.declared.Frame.{Frame}
 use Rattle.meaning.specs.Value as value
@@ -70,10 +65,10 @@ pub record GoodFrame (f : Frame) : Type 0 where
   pub crit : f.crit < 3
 
 -- an identity, if it is there
-abbrev pub GoodMme : Mme → Type 0
+abbrev pub GoodMme : Option MmeId → Type 0
 GoodMme x = GoodMaybe (mme_in x)
 
-abbrev pub GoodMce : Mce → Type 0
+abbrev pub GoodMce : Option MceId → Type 0
 GoodMce y = GoodMaybe (mce_in y)
 
 pub record GoodList (items : List Item) : Type 0 where
@@ -95,10 +90,10 @@ GoodReply (reply.PairNotHeld m c) = (m.0 < 65536) × (c.0 < 65536)
 
 -- what stands before the list, where there is nothing else, and of a frame
 abbrev list_head : Head
-list_head = record { code = number.Absent; trigger = number.Absent; crit = number.Absent; listed = true }
+list_head = record { code = None; trigger = None; crit = None; listed = true }
 
 abbrev frame_head : Frame → List Entry → Head
-frame_head f es = record { code = number.Is f.code; trigger = number.Is f.kind; crit = number.Is f.crit; listed = some_of es }
+frame_head f es = record { code = Some f.code; trigger = Some f.kind; crit = Some f.crit; listed = some_of es }
 
 each_small : (crit : ℕ) (items : List Item) → length (each_octets (item_element_octets crit) items) ≤ 9 * length items
 unfolding item_element_octets
@@ -222,16 +217,16 @@ record Diagnosing (d : List Element) : Type 0 where
   mce : value_of d id_mce_mbms_m3ap_id ≡ absent
   list : (r : Row) → kind.Diagnostics Three ≡ r.kind → r.mandatory ≡ false → Takes r (value_of d id_criticality_diagnostics) 778
 
-error_suits : (x : Mme) (y : Mce) (why : Cause) (d : List Element) → GoodMme x → GoodMce y → GoodCause why → Diagnosing d
+error_suits : (x : Option MmeId) (y : Option MceId) (why : Cause) (d : List Element) → GoodMme x → GoodMce y → GoodCause why → Diagnosing d
     → Suit Release18 message.ErrorIndication (mme_if x ++ (mce_if y ++ (id_cause is value.cause why ∷ d))) 798
 unfolding printed value_of
-error_suits (mme.Is m) (mce.Is c) why d g h k t =
+error_suits (Some m) (Some c) why d g h k t =
     taken_more (takes_mme m refl g) (taken_more (takes_mce c refl h) (taken_more (takes_cause why refl k) (taken_more (t.list _ refl refl) taken_none)))
-error_suits (mme.Is m) mce.Absent why d g h k t =
+error_suits (Some m) None why d g h k t =
     taken_more (takes_mme m refl g) (taken_more (takes_none 7 t.mce refl) (taken_more (takes_cause why refl k) (taken_more (t.list _ refl refl) taken_none)))
-error_suits mme.Absent (mce.Is c) why d g h k t =
+error_suits None (Some c) why d g h k t =
     taken_more (takes_none 7 t.mme refl) (taken_more (takes_mce c refl h) (taken_more (takes_cause why refl k) (taken_more (t.list _ refl refl) taken_none)))
-error_suits mme.Absent mce.Absent why d g h k t =
+error_suits None None why d g h k t =
     taken_more (takes_none 7 t.mme refl) (taken_more (takes_none 7 t.mce refl) (taken_more (takes_cause why refl k) (taken_more (t.list _ refl refl) taken_none)))
 
 frame_diagnosing : (f : Frame) (es : List Entry) → GoodFrame f → GoodEntries es → Diagnosing (of_frame f es)
@@ -258,7 +253,7 @@ kept_good : (items : List Item) → GoodList items → GoodList (keep has_identi
 kept_good items g = let k = length_keep has_identity items in let b = g.few in record { few = omega arith; each = each_keep GoodItem has_identity items g.each }
 
 -- a message of Release 18, by its number
-mine : (m : Message) → numbered_by Release18 (number_of Release18 m) ≡ named.Is m → Memᴰ m (messages_of Release18)
+mine : (m : Message) → numbered_by Release18 (number_of Release18 m) ≡ Some m → Memᴰ m (messages_of Release18)
 mine m q = numbered_listed Release18 (number_of Release18 m) m q
 
 module _ (f : Frame) (u : GoodFrame f) (items : List Item) (i : GoodList items) (es : List Entry) (n : GoodEntries es) where
@@ -276,7 +271,7 @@ module _ (f : Frame) (u : GoodFrame f) (items : List Item) (i : GoodList items) 
   spoken_18 (reply.Rejection x y why) g = written Release18 _ (mine message.ErrorIndication refl) 798 (error_suits x y why (of_frame f es) g.0 g.1 g.2 (frame_diagnosing f es u n)) (omega arith)
   spoken_18 (reply.PairNotHeld m c) g =
       written Release18 _ (mine message.ErrorIndication refl) 798
-      (error_suits (mme.Is m) (mce.Is c) unknown_pair (pick (some_of es) (of_frame f es) []) g.0 g.1 (omega arith)
+      (error_suits (Some m) (Some c) unknown_pair (pick (some_of es) (of_frame f es) []) g.0 g.1 (omega arith)
       (on-pick Diagnosing (some_of es) (frame_diagnosing f es u n) none_diagnosing)) (omega arith)
 
   -- in whichever edition of M3AP

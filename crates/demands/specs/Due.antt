@@ -1,13 +1,11 @@
 -- 01's table of answers once more, in 01's order, with 02's row 14 directly after 4: each number, when it is given, and which message is its reply. The first that is due is given;
 -- 10 takes its place where the reply does not fit. Each row's test says what 01's row says, and nothing of the other rows.
-use Rattle.std.specs.Prelude.{ℕ, ◌+◌, ◌≡◌, Bool, true, false, not, ◌&&◌, List, [], ◌∷◌, ltb, length}
+use Rattle.identity.specs.declared.MmeId.{MmeId}
+use Rattle.std.specs.Prelude.{ℕ, ◌+◌, ◌≡◌, Bool, true, false, not, ◌&&◌, List, [], ◌∷◌, ltb, length, Ok, Err, None, Option, Some}
 use Rattle.lists.specs.Lists.{pick}
-use Rattle.octets.specs.Read.{Read, got, stop}
+use Rattle.octets.specs.Read.{Read, or_none}
 use Rattle.octets.specs.declared.Stop.TheVariants.{Fault, Extension}
 use Rattle.identity.specs.declared.MceId.{MceId}
-use Rattle.identity.specs.declared.Mme.{Mme}
-use Rattle.identity.specs.declared.Mme.TheVariants as mme
-use Rattle.identity.specs.declared.Mce.TheVariants as mce
 use Rattle.rows.specs.declared.Row.{Row}
 use Rattle.envelopes.specs.declared.Head.{Head}
 use Rattle.envelopes.specs.Envelope.{heads_at}
@@ -15,8 +13,6 @@ use Rattle.elements.specs.Judge.{Found, judged_of, extensions_behind}
 use Rattle.editions.specs.declared.Edition.{Edition}
 use Rattle.editions.specs.declared.Message.{Message}
 use Rattle.editions.specs.declared.Message.TheVariants as message
-use Rattle.editions.specs.declared.Named.{Named}
-use Rattle.editions.specs.declared.Named.TheVariants as named
 use Rattle.editions.specs.Editions.{table_of, container_of, named_by}
 use Rattle.frames.specs.declared.Count.{Count}
 use Rattle.frames.specs.declared.Frame.{Frame}
@@ -35,10 +31,9 @@ use Rattle.answers.specs.Answers.{numbered}
 use Rattle.calls.specs.Call.{Call, fits, decided_on, call}
 use Rattle.demands.specs.Answered.{Handed}
 
--- which message the reply is
-pub data Reply : Type 0 where
-  none : Reply
-  sends : Message → Reply
+-- which message the reply is, if there is one
+abbrev pub Reply : Type 0
+Reply = Option Message
 
 pub record Due : Type 0 where
   pub number : ℕ
@@ -57,14 +52,14 @@ first_due last (x ∷ xs) = pick x.given x (first_due last xs)
 
 -- a fault, or an extension
 abbrev pub faulty : {A : Type 0} → Read A → Bool
-faulty (got a) = false
-faulty (stop (Fault p)) = true
-faulty (stop (Extension p)) = false
+faulty (Ok a) = false
+faulty (Err (Fault p)) = true
+faulty (Err (Extension p)) = false
 
 abbrev pub extension_met : {A : Type 0} → Read A → Bool
-extension_met (got a) = false
-extension_met (stop (Fault p)) = false
-extension_met (stop (Extension p)) = true
+extension_met (Ok a) = false
+extension_met (Err (Fault p)) = false
+extension_met (Err (Extension p)) = true
 
 -- inside the frame: which request the message is; the first fault or extension; and of the elements, as far as they can be read,
 -- what the judging comes to and which values are there
@@ -75,12 +70,11 @@ pub record Inside : Type 0 where
   pub seen : Seen
 
 abbrev pub counted_by : Read Count → Count
-counted_by (got n) = n
-counted_by (stop x) = record { elements = 0; container = false }
+counted_by (Ok n) = n
+counted_by (Err x) = record { elements = 0; container = false }
 
 abbrev pub extensions_by : Read (List Head) → List Head
-extensions_by (got xs) = xs
-extensions_by (stop x) = []
+extensions_by = or_none
 
 abbrev pub judged_in : List Row → Bool → List ℕ → ℕ → Count → Ask → Inside
 judged_in t c s from k q =
@@ -88,23 +82,22 @@ judged_in t c s from k q =
     let x : Found = judged_of t n (heads_at s n (from + 3)) (extensions_by (extensions_behind t k.container s n (from + 3))) in
     record { ask = q; opened = opened_at t c s from; outcome = outcome_by n x; seen = seen (values_in t s x.spans) }
 
-pub data MaybeInside : Type 0 where
-  inside : Inside → MaybeInside
-  nowhere : MaybeInside
+abbrev pub MaybeInside : Type 0
+MaybeInside = Option Inside
 
 module _ (e : Edition) (s : List ℕ) where
   -- of one of the messages, whether or not it asks
-  abbrev pub inside_of : Frame → Named → MaybeInside
-  inside_of f (named.Is m) = inside (judged_in (table_of e m) (container_of e m) s f.from (counted_by (count_at (container_of e m) s f.from)) (ask_of m))
-  inside_of f named.Other = nowhere
+  abbrev pub inside_of : Frame → Option Message → MaybeInside
+  inside_of f (Some m) = Some (judged_in (table_of e m) (container_of e m) s f.from (counted_by (count_at (container_of e m) s f.from)) (ask_of m))
+  inside_of f None = None
 
   abbrev pub inside_by : Read Frame → MaybeInside
-  inside_by (got f) = inside_of f (named_by e f.kind f.code)
-  inside_by (stop x) = nowhere
+  inside_by (Ok f) = inside_of f (named_by e f.kind f.code)
+  inside_by (Err x) = None
 
 abbrev pub of : (Inside → Bool) → MaybeInside → Bool
-of p (inside x) = p x
-of p nowhere = false
+of p (Some x) = p x
+of p None = false
 
 abbrev pub is_lent : MaybeUnit → Bool
 is_lent (is_unit u) = true
@@ -144,57 +137,57 @@ is_stop ask.Nothing = false
 -- ---- the replies of 0 and of 5
 
 abbrev carried_reply : Ask → Reply
-carried_reply ask.Start = sends message.StartResponse
-carried_reply ask.Stop = sends message.StopResponse
-carried_reply ask.Reset = sends message.ResetAcknowledge
-carried_reply ask.Indication = none
-carried_reply ask.SetupResponse = none
-carried_reply ask.SetupFailure = none
-carried_reply ask.Nothing = none
+carried_reply ask.Start = Some message.StartResponse
+carried_reply ask.Stop = Some message.StopResponse
+carried_reply ask.Reset = Some message.ResetAcknowledge
+carried_reply ask.Indication = None
+carried_reply ask.SetupResponse = None
+carried_reply ask.SetupFailure = None
+carried_reply ask.Nothing = None
 
 -- START FAILURE if a start's MME identity was read
-abbrev start_reply : Mme → Reply
-start_reply (mme.Is m) = sends message.StartFailure
-start_reply mme.Absent = sends message.ErrorIndication
+abbrev start_reply : Option MmeId → Reply
+start_reply (Some m) = Some message.StartFailure
+start_reply None = Some message.ErrorIndication
 
 -- none for an ERROR INDICATION; else ERROR INDICATION
 abbrev pub rejected_reply : Ask → Seen → Reply
 rejected_reply ask.Start x = start_reply x.mme
-rejected_reply ask.Stop x = sends message.ErrorIndication
-rejected_reply ask.Reset x = sends message.ErrorIndication
-rejected_reply ask.Indication x = none
-rejected_reply ask.SetupResponse x = sends message.ErrorIndication
-rejected_reply ask.SetupFailure x = sends message.ErrorIndication
-rejected_reply ask.Nothing x = none
+rejected_reply ask.Stop x = Some message.ErrorIndication
+rejected_reply ask.Reset x = Some message.ErrorIndication
+rejected_reply ask.Indication x = None
+rejected_reply ask.SetupResponse x = Some message.ErrorIndication
+rejected_reply ask.SetupFailure x = Some message.ErrorIndication
+rejected_reply ask.Nothing x = None
 
 abbrev to : (Inside → Reply) → MaybeInside → Reply
-to r (inside x) = r x
-to r nowhere = none
+to r (Some x) = r x
+to r None = None
 
 -- ---- the table: a lent unit, a message, its frame, what is inside it, and the offered identity
 
 abbrev pub refusals : MaybeUnit → List ℕ → Read Frame → MaybeInside → MceId → List Due
 refusals u s f i c =
-    21 when not (is_lent u) reply none
-    ∷ 1 when ltb 8192 (length s) reply none
-    ∷ 2 when faulty f reply none
-    ∷ 3 when extension_met f reply none
-    ∷ 4 when not (of (λ x. is_asked x.ask) i) reply none
-    ∷ 14 when of (λ x. answers_setup x.ask) i && not (is_open_in u) reply none
-    ∷ 2 when of (λ x. faulty x.opened) i reply none
-    ∷ 3 when of (λ x. extension_met x.opened) i reply none
+    21 when not (is_lent u) reply None
+    ∷ 1 when ltb 8192 (length s) reply None
+    ∷ 2 when faulty f reply None
+    ∷ 3 when extension_met f reply None
+    ∷ 4 when not (of (λ x. is_asked x.ask) i) reply None
+    ∷ 14 when of (λ x. answers_setup x.ask) i && not (is_open_in u) reply None
+    ∷ 2 when of (λ x. faulty x.opened) i reply None
+    ∷ 3 when of (λ x. extension_met x.opened) i reply None
     ∷ 5 when of (λ x. not_accepted x.outcome) i reply to (λ x. rejected_reply x.ask x.seen) i
-    ∷ 6 when of (λ x. is_start x.ask && of_held (held_by x.seen.mme mce.Absent) u) i reply sends message.StartFailure
-    ∷ 7 when of (λ x. is_start x.ask && of_held (holds_mce c) u) i reply none
-    ∷ 8 when of (λ x. is_stop x.ask && of_held (λ l. not (held_by x.seen.mme x.seen.mce l)) u) i reply sends message.ErrorIndication
-    ∷ 9 when of (λ x. is_start x.ask && of_held full u) i reply sends message.StartFailure ∷ []
+    ∷ 6 when of (λ x. is_start x.ask && of_held (held_by x.seen.mme None) u) i reply Some message.StartFailure
+    ∷ 7 when of (λ x. is_start x.ask && of_held (holds_mce c) u) i reply None
+    ∷ 8 when of (λ x. is_stop x.ask && of_held (λ l. not (held_by x.seen.mme x.seen.mce l)) u) i reply Some message.ErrorIndication
+    ∷ 9 when of (λ x. is_start x.ask && of_held full u) i reply Some message.StartFailure ∷ []
 
 -- where none is due: carried out
 abbrev pub due_for : MaybeUnit → List ℕ → Read Frame → MaybeInside → MceId → Due
 due_for u s f i c = first_due (0 when true reply to (λ x. carried_reply x.ask) i) (refusals u s f i c)
 
 abbrev pub no_room : Due
-no_room = 10 when true reply none
+no_room = 10 when true reply None
 
 module _ (e : Edition) where
   unfoldable pub due : MaybeUnit → Call → Due
@@ -217,8 +210,8 @@ module _ (e : Edition) where
 
   -- and so is its reply, as it is read back
   abbrev pub ReplyIs : List ℕ → Reply → Type 0
-  ReplyIs os none = os ≡ []
-  ReplyIs os (sends m) = (v : Understood) × (read_of e every os ≡ understood v) × (v.what.message ≡ m)
+  ReplyIs os None = os ≡ []
+  ReplyIs os (Some m) = (v : Understood) × (read_of e every os ≡ understood v) × (v.what.message ≡ m)
 
   abbrev pub RepliesAs : Type 0
   RepliesAs = (t : List ℕ) (c : Call) → Handed t c → ReplyIs (call e t c).reply (due_in t c).reply

@@ -1,7 +1,6 @@
 -- Each answer of the table call occurs: messages and units that get it. And 01's bench examples of calls.
-use Rattle.std.specs.Prelude.{ℕ, zero, suc, ◌+◌, ◌<◌, ◌≤◌, ◌≡◌, true, false, List, [], ◌∷◌, ◌++◌, map, length, drop, replicate}
+use Rattle.std.specs.Prelude.{ℕ, zero, suc, ◌+◌, ◌<◌, ◌≤◌, ◌≡◌, true, false, List, [], ◌∷◌, ◌++◌, map, length, drop, replicate, None, Some}
 use Rattle.identity.specs.declared.MceId.{MceId}
-use Rattle.identity.specs.declared.Session.TheVariants as session
 use Rattle.table.specs.declared.Association.{Association}
 use Rattle.table.specs.Table.{State, holds_mme, holds_mce}
 use Rattle.lent.specs.Lent.{Good}
@@ -10,7 +9,6 @@ use Rattle.editions.specs.declared.Edition.{Edition}
 use Rattle.editions.specs.declared.Edition.TheVariants.{Release18}
 use Rattle.round_trips.specs.Examples.{partial_reset, acknowledgement}
 use Rattle.round_trips.specs.Ties.{ReadBack, Rewritten}
-use Rattle.requests.specs.declared.MaybeWait.TheVariants as wait
 use Rattle.carry.specs.declared.Answer.TheVariants as answer
 use Rattle.answers.specs.Answers.{numbered}
 use Rattle.calls.specs.Call.{call}
@@ -35,7 +33,7 @@ pair m c = record {
   mme = record { 0 = m };
   mce = record { 0 = c };
   tmgi = record { plmn = record { 0 = 0; 1 = 0; 2 = 0 }; service = record { 0 = 0; 1 = 0; 2 = 0 } };
-  session = session.Absent;
+  session = None;
 }
 
 -- n associations, of the identities from 100 on
@@ -145,9 +143,9 @@ pub record BenchCalls : Type 0 where
   pub set_up : (d : List ℕ) → call Release18 (unit_octets (opened (pair 1 3 ∷ []))) (record { message = response; offered = offer; room = d })
       ≡ record { answer = answer.CarriedOut; reply = []; unit = unit_holding []; room = d }
   pub set_up_failed : (d : List ℕ) → call Release18 (unit_octets (opened (pair 1 3 ∷ []))) (record { message = failure; offered = offer; room = d })
-      ≡ record { answer = answer.SetupFailed (wait.Is 5); reply = []; unit = unit_holding (pair 1 3 ∷ []); room = d }
+      ≡ record { answer = answer.SetupFailed (Some 5); reply = []; unit = unit_holding (pair 1 3 ∷ []); room = d }
   -- each Time to Wait in seconds, as its name in 9.3.5 says
-  pub in_seconds : map (λ (v : ℕ). (numbered (answer.SetupFailed (wait.Is v))).wait) (0 ∷ 1 ∷ 2 ∷ 3 ∷ 4 ∷ 5 ∷ []) ≡ 1 ∷ 2 ∷ 5 ∷ 10 ∷ 20 ∷ 60 ∷ []
+  pub in_seconds : map (λ (v : ℕ). (numbered (answer.SetupFailed (Some v))).wait) (0 ∷ 1 ∷ 2 ∷ 3 ∷ 4 ∷ 5 ∷ []) ≡ 1 ∷ 2 ∷ 5 ∷ 10 ∷ 20 ∷ 60 ∷ []
   -- a reply room of 20 for the 21 octets
   pub no_room : (d : List ℕ) → length d ≡ 20 → number_given (unit_holding []) partial_reset d ≡ 10
 

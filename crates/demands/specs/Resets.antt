@@ -1,5 +1,5 @@
 -- Demand 3: partial resets may be dealt out afresh, and change places with a session's start or stop.
-use Rattle.std.specs.Prelude.{ℕ, ◌≤◌, ◌<◌, ◌≡◌, false, ◌↔◌, length}
+use Rattle.std.specs.Prelude.{ℕ, ◌≤◌, ◌<◌, ◌≡◌, false, ◌↔◌, length, Ok, Option, Some}
 use mathlib.Core.List.{List, [], ◌∷◌, Memᴰ, Permᴰ, Sublistᴰ}
 use Rattle.lists.specs.Lists.{keep}
 use Rattle.octets.specs.Stands.{Octets}
@@ -8,7 +8,6 @@ use Rattle.identity.specs.declared.Item.{Item}
 use Rattle.identity.specs.declared.MmeId.{MmeId}
 use Rattle.identity.specs.declared.MceId.{MceId}
 use Rattle.identity.specs.declared.Tmgi.{Tmgi}
-use Rattle.identity.specs.declared.Session.{Session}
 use Rattle.values.specs.declared.Cause.{Cause}
 use Rattle.values.specs.Written.{GoodCause}
 use Rattle.items.specs.Written.{GoodItems}
@@ -17,14 +16,14 @@ use Rattle.editions.specs.declared.Message.TheVariants as message
 use Rattle.verdicts.specs.Verdict.{Understood, understood}
 use Rattle.requests.specs.declared.Request.{Request}
 use Rattle.requests.specs.declared.Request.TheVariants as request
-use Rattle.requests.specs.declared.MaybeReset.TheVariants as reset
+use Rattle.requests.specs.declared.Extent.TheVariants as extent
 use Rattle.requests.specs.Requests.{seen}
 use Rattle.table.specs.Table.{State, named, without, holds_mme, holds_mce}
 use Rattle.table.specs.declared.Association.{Association}
 use Rattle.lent.specs.Lent.{row_octets, IdentitiesInRange}
 use Rattle.units.specs.Unit.{Unit, unit_octets, GoodUnit}
 use Rattle.replies.specs.Replies.{has_identity}
-use Rattle.calls.specs.Judged.{Accepted, accepts, judged, verdict}
+use Rattle.calls.specs.Judged.{Accepted, judged, verdict}
 use Rattle.calls.specs.Decided.{about}
 use Rattle.calls.specs.Call.{Call, call}
 use Rattle.demands.specs.Answered.{Handed, number_of}
@@ -77,7 +76,7 @@ module _ (e : Edition) where
   pub record Neighbours (t : List ℕ) (u : Unit) (s p p' s' : Call) (a : Accepted) (is : List Item) : Type 0 where
     pub unit : Lends t u
     pub handed : Handed t s
-    pub session : (judged e s.message ≡ accepts a) × OfSession a.request × Again s' s
+    pub session : (judged e s.message ≡ Ok a) × OfSession a.request × Again s' s
     pub reset : (Resets e p is) × Again p' p
     -- the same MCE identity is offered
     pub offered : given_mce (reset_by is u) s' ≡ given_mce u s
@@ -117,10 +116,10 @@ module _ (e : Edition) where
   -- the words leave no message out: a start, a stop and a partial reset that are answered 0 ask so
   pub record NoneLeftOut : Type 0 where
     pub starts : (t : List ℕ) (c : Call) (v : Understood) → number_of e t c ≡ 0 → verdict e c.message ≡ understood v → v.what.message ≡ message.StartRequest →
-        (m : MmeId) × (g : Tmgi) × (x : Session) × Asks (judged e c.message) (request.Start m g x)
+        (m : MmeId) × (g : Tmgi) × (x : Option ℕ) × Asks (judged e c.message) (request.Start m g x)
     pub stops : (t : List ℕ) (c : Call) (v : Understood) → number_of e t c ≡ 0 → verdict e c.message ≡ understood v → v.what.message ≡ message.StopRequest →
         (m : MmeId) × (x : MceId) × Asks (judged e c.message) (request.Stop m x)
-    pub partial : (t : List ℕ) (c : Call) (v : Understood) → number_of e t c ≡ 0 → verdict e c.message ≡ understood v → v.what.message ≡ message.Reset → (seen v.what.values).reset ≡ reset.Part →
+    pub partial : (t : List ℕ) (c : Call) (v : Understood) → number_of e t c ≡ 0 → verdict e c.message ≡ understood v → v.what.message ≡ message.Reset → (seen v.what.values).reset ≡ Some extent.Part →
         (is : List Item) × (Resets e c is)
 
   -- ==== the demand

@@ -1,16 +1,14 @@
 -- 01's "What is done", line by line, and what 02 adds to it: what a call that is answered 0 leaves in the unit. Nothing else of it changes.
-use Rattle.std.specs.Prelude.{ℕ, ◌≡◌, true, false, not, List, [], ◌∷◌, ◌++◌}
+use Rattle.std.specs.Prelude.{ℕ, ◌≡◌, true, false, not, List, [], ◌∷◌, ◌++◌, Option}
 use Rattle.lists.specs.Lists.{keep}
 use Rattle.identity.specs.declared.MmeId.{MmeId}
 use Rattle.identity.specs.declared.MceId.{MceId}
 use Rattle.identity.specs.declared.Tmgi.{Tmgi}
-use Rattle.identity.specs.declared.Session.{Session}
 use Rattle.identity.specs.declared.Item.{Item}
 use Rattle.editions.specs.declared.Edition.{Edition}
 use Rattle.table.specs.declared.Association.{Association}
 use Rattle.table.specs.Table.{State, has_pair, named}
 use Rattle.units.specs.Unit.{Unit, is_unit, read_unit, unit_octets, with_held, with_open}
-use Rattle.requests.specs.declared.MaybeWait.{MaybeWait}
 use Rattle.requests.specs.declared.Request.{Request}
 use Rattle.requests.specs.declared.Request.TheVariants as request
 use Rattle.answers.specs.Answers.{numbered, wait_of}
@@ -28,7 +26,7 @@ module _ (e : Edition) where
 
   pub record WhatIsDone : Type 0 where
     -- "Start appends one with the offered MCE identity"
-    pub start : (m : MmeId) (g : Tmgi) (s : Session) → Leaves (request.Start m g s) (λ c l. l ++ (record { mme = m; mce = c; tmgi = g; session = s } ∷ []))
+    pub start : (m : MmeId) (g : Tmgi) (s : Option ℕ) → Leaves (request.Start m g s) (λ c l. l ++ (record { mme = m; mce = c; tmgi = g; session = s } ∷ []))
     -- "Stop removes the association that has both identities"
     pub stop : (m : MmeId) (x : MceId) → Leaves (request.Stop m x) (λ c l. keep (λ (a : Association). not (has_pair m x a)) l)
     -- "Whole reset empties the table"
@@ -40,9 +38,9 @@ module _ (e : Edition) where
     pub setup : (t : List ℕ) (c : Call) (u : Unit) → read_unit t ≡ is_unit u → Asks (judged e c.message) request.SetupResponse → number_of e t c ≡ 0
         → (u.is_open ≡ true) × ((call e t c).unit ≡ unit_octets (with_open false (with_held (λ l. []) u)))
     -- "a failure keeps it and hands back Time to Wait"
-    pub failed : (t : List ℕ) (c : Call) (u : Unit) (w : MaybeWait) → read_unit t ≡ is_unit u → Asks (judged e c.message) (request.SetupFailure w) → number_of e t c ≡ 0
+    pub failed : (t : List ℕ) (c : Call) (u : Unit) (w : Option ℕ) → read_unit t ≡ is_unit u → Asks (judged e c.message) (request.SetupFailure w) → number_of e t c ≡ 0
         → (u.is_open ≡ true) × ((call e t c).unit ≡ unit_octets (with_open false u)) × ((numbered (call e t c).answer).wait ≡ wait_of w)
     -- and nothing else hands back a time to wait
-    pub waits : (t : List ℕ) (c : Call) → ((numbered (call e t c).answer).wait ≡ 0 → ⊥) → (w : MaybeWait) × Asks (judged e c.message) (request.SetupFailure w)
+    pub waits : (t : List ℕ) (c : Call) → ((numbered (call e t c).answer).wait ≡ 0 → ⊥) → (w : Option ℕ) × Asks (judged e c.message) (request.SetupFailure w)
     -- "ERROR INDICATION changes nothing and gets no reply."
     pub indication : (t : List ℕ) (c : Call) (u : Unit) → read_unit t ≡ is_unit u → Asks (judged e c.message) request.Indication → ((call e t c).unit ≡ t) × ((call e t c).reply ≡ [])

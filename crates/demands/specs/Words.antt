@@ -1,5 +1,5 @@
 -- The words in which demands on resets are stated: what a message asks for, what a reply acknowledges, units, runs of calls.
-use Rattle.std.specs.Prelude.{ℕ, ◌≡◌, Bool, List, [], ◌∷◌, ◌++◌}
+use Rattle.std.specs.Prelude.{ℕ, ◌≡◌, Bool, List, [], ◌∷◌, ◌++◌, Ok}
 use Rattle.lists.specs.Lists.{some}
 use Rattle.octets.specs.Stands.{Octets}
 use Rattle.identity.specs.declared.MceId.{MceId}
@@ -20,7 +20,7 @@ use Rattle.replies.specs.Replies.{saying, ◌is◌}
 use Rattle.table.specs.Table.{State, named, without}
 use Rattle.units.specs.Unit as units
 use Rattle.units.specs.Unit.{is_unit, read_unit, with_held}
-use Rattle.calls.specs.Judged.{Accepted, Judged, accepts, judged}
+use Rattle.calls.specs.Judged.{Accepted, Judged, judged}
 use Rattle.calls.specs.Call.{Call, call}
 use Rattle.demands.specs.Answered.{number_of}
 
@@ -44,7 +44,7 @@ some_named items l = some (named items) l
 -- it is accepted, with this request
 pub record Asks (j : Judged) (q : Request) : Type 0 where
   pub what : Accepted
-  pub accepted : j ≡ accepts what
+  pub accepted : j ≡ Ok what
   pub request : what.request ≡ q
 
 -- a partial reset with these items

@@ -8,7 +8,7 @@ use native.Mathlib.Omega.{arith}
 use borrow.Author.Tests.{lt-ltb}
 use lib.Dec.{ltb}
 use lib.ListN.{length, length-append}
-use Rattle.octets.specs.Read.{got}
+use Rattle.std.specs.Prelude.{Ok}
 use Rattle.octets.specs.Field.{number_at, ends_at}
 use Rattle.octets.specs.Write.{number_octets}
 use Rattle.octets.specs.Stands.{Stands, Octets}
@@ -35,7 +35,7 @@ module _ (s : List ℕ) (o : Octets s) where
     count : length es ≤ 256
     good : Each GoodEntry es
 
-  list_again : (at : ℕ) (b : Bool) (es : List Entry) → at ≤ length s → got es ≡ maybe_list_at b s at → List-again at b es
+  list_again : (at : ℕ) (b : Bool) (es : List Entry) → at ≤ length s → Ok es ≡ maybe_list_at b s at → List-again at b es
   unfolding list_at
   list_again at false es l q =
       let a = then_got (ends_at s at) _ q in
@@ -74,7 +74,7 @@ module _ (s : List ℕ) (o : Octets s) where
       let z = l.ends in
       (both, omega arith, record { head = g; entries = l.good; listed = l.listed; count = l.count })
 
-  pub diagnostics_again : (n at : ℕ) (d : Diagnostics) → got d ≡ diagnostics_at n s at → Again n at d
+  pub diagnostics_again : (n at : ℕ) (d : Diagnostics) → Ok d ≡ diagnostics_at n s at → Again n at d
   unfolding diagnostics_at
   diagnostics_again n at d q =
       let a = then_got (head_at n s at) _ q in

@@ -8,7 +8,7 @@ use native.Mathlib.Omega.{arith}
 use borrow.Author.Tests.{ltb-true, ltb-false}
 use lib.Dec.{ltb}
 use lib.ListN.{length, length-append, drop_of_length-le}
-use Rattle.octets.specs.Read.{got}
+use Rattle.std.specs.Prelude.{Ok}
 use Rattle.octets.specs.Write.{number_octets}
 use Rattle.octets.specs.Stands.{Stands}
 use Rattle.octets.specs.Many.{Each}
@@ -24,11 +24,11 @@ use Rattle.diagnostics.proofs.EntriesBack.{entries_length, entries_back}
 
 module _ (s : List ℕ) where
   list_back : (at : ℕ) (b : Bool) (es : List Entry) → b ≡ ltb 0 (length es) → length es ≤ 256 → Each GoodEntry es → Stands s at (entry_list_octets b es) → length s ≡ at + length (entry_list_octets b es)
-      → got es ≡ maybe_list_at b s at
+      → Ok es ≡ maybe_list_at b s at
   unfolding list_at
   list_back at false es t n g h e =
       let l = ltb-false 0 (length es) (sym t) in
-      past _ _ (ends_back s at (omega arith)) (ap (λ (x : List Entry). got x) (drop_of_length-le es {i = 0} l))
+      past _ _ (ends_back s at (omega arith)) (ap (λ (x : List Entry). Ok x) (drop_of_length-le es {i = 0} l))
   list_back at true es t n g h e =
       let l = ltb-true 0 (length es) (sym t) in
       let x = stands_split (number_octets 1 (length es - 1)) (entries_octets [] es) h in
@@ -39,7 +39,7 @@ module _ (s : List ℕ) where
       past _ _ (number_back 1 s at (length es - 1) (omega arith) x.0)
       (rw m (entries_back s (at + 1) es l g (rw d at x.1) (omega (arith, entries_length [] es))))
 
-  pub diagnostics_back : (n : ℕ) → n ≤ 4 → (at : ℕ) (d : Diagnostics) → GoodDiagnostics n d → Stands s at (diagnostics_octets d) → length s ≡ at + length (diagnostics_octets d) → got d ≡ diagnostics_at n s at
+  pub diagnostics_back : (n : ℕ) → n ≤ 4 → (at : ℕ) (d : Diagnostics) → GoodDiagnostics n d → Stands s at (diagnostics_octets d) → length s ≡ at + length (diagnostics_octets d) → Ok d ≡ diagnostics_at n s at
   unfolding diagnostics_at diagnostics_octets
   diagnostics_back n w at d g h e =
       let x = stands_split (head_octets d.head) (entry_list_octets d.head.listed d.entries) h in

@@ -9,12 +9,13 @@ use native.Mathlib.Nat.{add-zero, mod-eq_of_lt}
 use borrow.Author.Tests.{eq-eqb, ne_eqb}
 use lib.Dec.{eqb}
 use lib.ListN.{length, get_or}
-use Rattle.octets.specs.Read.{got}
+use Rattle.std.specs.Prelude.{Ok}
 use Rattle.packed.specs.Packed.{bits_of, Field, ◌bits◌, bit, widths, packed}
-use Rattle.octets.specs.Field.{pad_at, ends_at}
+use Rattle.octets.specs.Field.{plain_at, choice_at, pad_at, number_at, ends_at}
 use Rattle.octets.specs.Write.{number_octets}
 use Rattle.octets.specs.Stands.{Stands, Octets}
-use Rattle.octets.specs.Many.{Part, many, Each}
+use Rattle.octets.specs.Many.{many, Each}
+use Rattle.octets.specs.declared.Part.{Part}
 use Rattle.packed.proofs.Packed.{fields_of}
 use Rattle.octets.proofs.Chain.{then_got, same_got}
 use Rattle.octets.proofs.Got.{plain_got, choice_got, pad_got, number_got, ends_got}
@@ -33,13 +34,13 @@ module _ (s : List ℕ) (o : Octets s) where
     fields : us ≡ fields_of (get_or s at 0) 0 ws
     small : widths us ≤ 2
 
-  crit_again : (at : ℕ) (us : List Field) (v : ℕ) → Held us at → got v ≡ crit_at s at (widths us) → Stands s at (packed (us ++ crit_fields v) ∷ []) × (v < 3)
+  crit_again : (at : ℕ) (us : List Field) (v : ℕ) → Held us at → Ok v ≡ crit_at s at (widths us) → Stands s at (packed (us ++ crit_fields v) ∷ []) × (v < 3)
   unfolding crit_at
   crit_again at us v k q =
-      let a = then_got _ _ q in
-      let b = then_got _ _ a.2 in
-      let c = then_got _ _ b.2 in
-      let d = then_got _ _ c.2 in
+      let a = then_got (plain_at s at (widths us)) _ q in
+      let b = then_got (plain_at s at (widths us + 1)) _ a.2 in
+      let c = then_got (choice_at 3 2 s at (widths us + 2)) _ b.2 in
+      let d = then_got (pad_at s at (widths us + 4)) _ c.2 in
       let x : ℕ = get_or s at 0 in
       let l = k.small in
       let e : v ≡ c.0 = same_got d.2 in
@@ -66,13 +67,13 @@ module _ (s : List ℕ) (o : Octets s) where
     next : p.next ≡ at + 3
     good : GoodEntry p.value
 
-  entry_again : (from at : ℕ) (us : List Field) (p : Part Entry) → Held us at → widths us ≡ begins from at → got p ≡ entry_at s from at → Read-entry from at us p
+  entry_again : (from at : ℕ) (us : List Field) (p : Part Entry) → Held us at → widths us ≡ begins from at → Ok p ≡ entry_at s from at → Read-entry from at us p
   unfolding entry_at
   entry_again from at us p k w q =
-      let a = then_got _ _ q in
-      let b = then_got _ _ a.2 in
-      let c = then_got _ _ b.2 in
-      let d = then_got _ _ c.2 in
+      let a = then_got (crit_at s at (begins from at)) _ q in
+      let b = then_got (number_at 2 s (at + 1)) _ a.2 in
+      let c = then_got (plain_at s (at + 3) 0) _ b.2 in
+      let d = then_got (choice_at 2 1 s (at + 3) 1) _ c.2 in
       let x = crit_again at us a.0 k (rw w a.1) in
       let y = number_got s (at + 1) 2 b.1 in
       let z = choice_got s (at + 3) 2 1 1 d.1 in
@@ -96,11 +97,11 @@ module _ (s : List ℕ) (o : Octets s) where
     pub good : Each GoodEntry p.value
 
   many_again : (from n at : ℕ) (us : List Field) (p : Part (List Entry)) → from ≤ at → Held us at → widths us ≡ begins from at → (n ≡ 0 → widths us ≡ 2)
-      → got p ≡ many (entry_at s from) n at → got tt ≡ pad_at s p.next 2 → Read-entries at us n p
+      → Ok p ≡ many (entry_at s from) n at → Ok tt ≡ pad_at s p.next 2 → Read-entries at us n p
   unfolding many entries_octets
   many_again from zero at us p l k w z q pad =
       let e = same_got q in
-      let x = pad_got s at 2 (λ y. omega arith) (subst (λ (y : Part (List Entry)). got tt ≡ pad_at s y.next 2) e pad) in
+      let x = pad_got s at 2 (λ y. omega arith) (subst (λ (y : Part (List Entry)). Ok tt ≡ pad_at s y.next 2) e pad) in
       let t : widths us ≡ 2 = z refl in
       subst (Read-entries at us zero) (sym e) (record {
         octets = octet_again s o us at k.ws k.fields x.0 (omega arith) (rw t (pad_low (get_or s at 0) 2 x.1));
@@ -115,7 +116,7 @@ module _ (s : List ℕ) (o : Octets s) where
       let e = same_got b.2 in
       let f : eqb (at + 3) from ≡ false = ne_eqb (at + 3) from (λ y. omega arith) in
       let i = many_again from n (at + 3) (error_fields a.0.value.error) b.0 (omega arith) r.error (rw f) (λ y. refl) (b.1 ∙ ap (many (entry_at s from) n) r.next)
-      (subst (λ (y : Part (List Entry)). got tt ≡ pad_at s y.next 2) e pad) in
+      (subst (λ (y : Part (List Entry)). Ok tt ≡ pad_at s y.next 2) e pad) in
       let c = length_number 2 a.0.value.id in
       let d : at + 1 + length (number_octets 2 a.0.value.id) ≡ at + 3 = omega arith in
       subst (Read-entries at us (suc n)) (sym e) (record {
@@ -125,7 +126,7 @@ module _ (s : List ℕ) (o : Octets s) where
         good = (r.good, i.good);
       })
 
-  pub entries_again : (n at : ℕ) (es : List Entry) → 0 < n → got es ≡ entries_at n s at
+  pub entries_again : (n at : ℕ) (es : List Entry) → 0 < n → Ok es ≡ entries_at n s at
       → Stands s at (entries_octets [] es) × (length es ≡ n) × (length s ≤ at + 3 * n + 1) × Each GoodEntry es
   unfolding entries_at
   entries_again n at es h q =

@@ -11,7 +11,7 @@ use native.Mathlib.Nat.{add-zero, mod-eq_of_lt, mod-lt}
 use borrow.Author.Tests.{eq-eqb, ne_eqb}
 use lib.Dec.{eqb}
 use lib.ListN.{length, length-append}
-use Rattle.octets.specs.Read.{got}
+use Rattle.std.specs.Prelude.{Ok}
 use Rattle.octets.specs.Field.{pad_at}
 use Rattle.packed.specs.Packed.{Field, ◌bits◌, bit, widths, packed, Fit}
 use Rattle.octets.specs.Write.{number_octets}
@@ -41,7 +41,7 @@ entries_length us (e ∷ es) =
     omega arith
 
 module _ (s : List ℕ) where
-  crit_back : (at : ℕ) (us : List Field) (v : ℕ) → Fit 8 us → widths us ≤ 2 → v < 3 → Stands s at (packed (us ++ crit_fields v) ∷ []) → got v ≡ crit_at s at (widths us)
+  crit_back : (at : ℕ) (us : List Field) (v : ℕ) → Fit 8 us → widths us ≤ 2 → v < 3 → Stands s at (packed (us ++ crit_fields v) ∷ []) → Ok v ≡ crit_at s at (widths us)
   unfolding crit_at
   crit_back at us v ok b l h =
       let fit = crit_fit us v ok b in
@@ -72,7 +72,7 @@ module _ (s : List ℕ) where
       (x.0, y.0, rw d at y.1)
 
   entry_back : (from at : ℕ) (us : List Field) (e : Entry) (es : List Entry) → Fit 8 us → widths us ≤ 2 → widths us ≡ begins from at → GoodEntry e
-      → Stands s at (entries_octets us (e ∷ es)) → got (record { value = e; next = at + 3 }) ≡ entry_at s from at
+      → Stands s at (entries_octets us (e ∷ es)) → Ok (record { value = e; next = at + 3 }) ≡ entry_at s from at
   unfolding entry_at
   entry_back from at us e es ok b w g h =
       let x = parts at us e es h in
@@ -84,7 +84,7 @@ module _ (s : List ℕ) where
       (past _ _ (rw m at (choice_in s (at + 3) _ z.1 z.2 (bit false ∷ []) z.0 1 refl 1 (e.error % 2) 2 refl (rw m g.error))) refl)))
 
   many_entries : (from at : ℕ) (us : List Field) (es : List Entry) → from ≤ at → Fit 8 us → widths us ≤ 2 → widths us ≡ begins from at → Each GoodEntry es
-      → Stands s at (entries_octets us es) → got (record { value = es; next = at + 3 * length es }) ≡ many (entry_at s from) (length es) at
+      → Stands s at (entries_octets us es) → Ok (record { value = es; next = at + 3 * length es }) ≡ many (entry_at s from) (length es) at
   unfolding many
   many_entries from at us [] l ok b w g h = rw add-zero
   many_entries from at us (e ∷ es) l ok b w g h =
@@ -93,7 +93,7 @@ module _ (s : List ℕ) where
       past _ _ (entry_back from at us e es ok b w g.0 h)
       (past _ _ (many_entries from (at + 3) (error_fields e.error) es (omega arith) (error_fit e.error) (omega arith) (rw n) g.1 (parts at us e es h).2) (rw d))
 
-  pad_behind : (at : ℕ) (us : List Field) (es : List Entry) → Fit 8 us → widths us ≡ 2 → Stands s at (entries_octets us es) → got tt ≡ pad_at s (at + 3 * length es) 2
+  pad_behind : (at : ℕ) (us : List Field) (es : List Entry) → Fit 8 us → widths us ≡ 2 → Stands s at (entries_octets us es) → Ok tt ≡ pad_at s (at + 3 * length es) 2
   unfolding entries_octets
   pad_behind at us [] ok w h = rw add-zero (pad_in s at us ok h 2 w (omega arith))
   pad_behind at us (e ∷ es) ok w h =
@@ -101,7 +101,7 @@ module _ (s : List ℕ) where
       rw d at (pad_behind (at + 3) (error_fields e.error) es (error_fit e.error) refl (parts at us e es h).2)
 
   pub entries_back : (at : ℕ) (es : List Entry) → 0 < length es → Each GoodEntry es → Stands s at (entries_octets [] es) → length s ≡ at + 1 + 3 * length es
-      → got es ≡ entries_at (length es) s at
+      → Ok es ≡ entries_at (length es) s at
   unfolding entries_at
   entries_back at [] p g h e = absurd (omega arith)
   entries_back at (x ∷ es) p g h e =

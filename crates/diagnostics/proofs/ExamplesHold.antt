@@ -1,7 +1,6 @@
 -- The examples hold, by computing.
 -- Assumes nothing.
 use mathlib.Core.Path.{refl}
-use Rattle.octets.specs.Read.{◌>>=◌}
 use Rattle.packed.specs.Packed.{bits_of, packed_in}
 use Rattle.octets.specs.Field.{flag_at, plain_at, choice_at, pad_at, number_at, ends_at}
 use Rattle.octets.specs.Write.{number_octets}
@@ -12,6 +11,6 @@ use Rattle.diagnostics.specs.Written.{pairs, head_octets, entries_octets, diagno
 use Rattle.diagnostics.specs.Examples.{DiagnosticsHold}
 
 pub hold : DiagnosticsHold
-unfolding ◌>>=◌ bits_of flag_at plain_at choice_at pad_at number_at ends_at many marks_at code_at maybe_at head_at crit_at entry_at entries_at list_at diagnostics_at
+unfolding bits_of flag_at plain_at choice_at pad_at number_at ends_at many marks_at code_at maybe_at head_at crit_at entry_at entries_at list_at diagnostics_at
     packed_in number_octets pairs head_octets entries_octets diagnostics_octets
 hold = (refl, refl, refl, refl)

@@ -15,7 +15,7 @@ use borrow.Author.Tests.{eqb-true, eqb-false}
 use lib.Dec.{eqb}
 use lib.ListN.{length, get_or}
 use lib.Pow.{pow_pos}
-use Rattle.octets.specs.Read.{got}
+use Rattle.std.specs.Prelude.{Ok}
 use Rattle.packed.specs.Packed.{bits_of, Field, ◌bits◌, bit, widths, packed, Fit}
 use Rattle.octets.specs.Field.{flag_at, plain_at, choice_at, pad_at}
 use Rattle.octets.specs.Stands.{Stands, Octets}
@@ -83,22 +83,22 @@ module _ (s : List ℕ) (at : ℕ) (fs : List Field) (ok : Fit 8 fs) (h : Stands
     below : widths us < 8
     below = omega arith
 
-    pub flag_in : (v : Bool) → us ++ bit v ∷ ls ≡ fs → got v ≡ flag_at s at b
+    pub flag_in : (v : Bool) → us ++ bit v ∷ ls ≡ fs → Ok v ≡ flag_at s at b
     flag_in v e =
         flag_back s at us v ls (subst (Fit 8) (sym e) ok) below (subst (λ (x : List Field). Stands s at (packed x ∷ [])) (sym e) h)
         ∙ (ap (flag_at s at) w ∙ flag_mod s at b)
 
-    pub plain_in : us ++ bit false ∷ ls ≡ fs → got tt ≡ plain_at s at b
+    pub plain_in : us ++ bit false ∷ ls ≡ fs → Ok tt ≡ plain_at s at b
     plain_in e =
         plain_back s at us ls (subst (Fit 8) (sym e) ok) below (subst (λ (x : List Field). Stands s at (packed x ∷ [])) (sym e) h)
         ∙ (ap (plain_at s at) w ∙ plain_mod s at b)
 
-    pub choice_in : (k v n : ℕ) → us ++ k bits v ∷ ls ≡ fs → v < n → got v ≡ choice_at n k s at b
+    pub choice_in : (k v n : ℕ) → us ++ k bits v ∷ ls ≡ fs → v < n → Ok v ≡ choice_at n k s at b
     choice_in k v n e l =
         choice_back s at us (k bits v) ls (subst (Fit 8) (sym e) ok) below (subst (λ (x : List Field). Stands s at (packed x ∷ [])) (sym e) h) n l
         ∙ (ap (choice_at n k s at) w ∙ choice_mod s at b n k)
 
-  pub pad_in : (b : ℕ) → widths fs ≡ b % 8 → 0 < widths fs → got tt ≡ pad_at s at b
+  pub pad_in : (b : ℕ) → widths fs ≡ b % 8 → 0 < widths fs → Ok tt ≡ pad_at s at b
   pad_in b w p =
       pad_back s at fs (fit_join 8 fs ((8 - widths fs) bits 0 ∷ []) ok (omega arith, pow_pos (8 - widths fs), tt)) p (omega arith) h
       ∙ (ap (pad_at s at) w ∙ pad_mod s at b)

@@ -9,21 +9,21 @@ use native.Mathlib.Nat.{add-zero, mod-eq_of_lt, mod-one}
 use borrow.Author.Tests.{ltb-true, ltb-false, eqb-true, eqb-false}
 use lib.Dec.{ltb, eqb}
 use lib.ListN.{length, get_or, drop_of_length-le}
-use Rattle.octets.specs.Read.{got}
+use Rattle.std.specs.Prelude.{Ok, Option}
 use Rattle.packed.specs.Packed.{bits_of, Field, ◌bits◌, bit, widths, packed}
 use Rattle.octets.specs.Field.{choice_at, pad_at, number_at}
 use Rattle.octets.specs.Write.{number_octets}
 use Rattle.octets.specs.Stands.{Stands, Octets}
-use Rattle.octets.specs.Many.{Part}
+use Rattle.octets.specs.declared.Part.{Part}
 use Rattle.packed.proofs.Packed.{fields_of}
 use Rattle.octets.proofs.Chain.{then_got, same_got}
 use Rattle.octets.proofs.Got.{flag_got, plain_got, choice_got, pad_got, number_got}
 use Rattle.octets.proofs.Stood.{stands_none, stands_join}
 use Rattle.octets.proofs.Back.{length_number}
 use Rattle.octets.proofs.Again.{number_again, value_below}
-use Rattle.diagnostics.specs.declared.Number.{Number}
 use Rattle.diagnostics.specs.declared.Head.{Head}
-use Rattle.diagnostics.specs.Diagnostics.{Marks, after, behind_code, behind_trigger, behind_crit, marks_at, code_at, maybe_at, head_at}
+use Rattle.diagnostics.specs.declared.Marks.{Marks}
+use Rattle.diagnostics.specs.Diagnostics.{after, behind_code, behind_trigger, behind_crit, marks_at, code_at, maybe_at, head_at}
 use Rattle.diagnostics.specs.Written.{has_number, marks_of, marks, present_number, octet_of, pairs, with_code, head_octets, Under, GoodHead}
 use Rattle.diagnostics.proofs.Fields.{bits_mod, pair_small, fields_behind, bit_again, pad_low, octet_again}
 use Rattle.diagnostics.proofs.Pairs.{Begun, begun_none, begun_more, begun_marks, more, more_width, octet_some}
@@ -40,7 +40,7 @@ module _ (s : List ℕ) (o : Octets s) (at : ℕ) where
   held_none : (p : ℕ) → p % 8 ≡ 0 → at + p / 8 ≤ length s → Held [] p
   held_none p e h = record { begun = begun_none p e; ws = []; fields = refl; room = h }
 
-  held_end : (us : List Field) (p : ℕ) → Held us p → got tt ≡ pad_at s (at + p / 8) p → Stands s (at + p / 8) (octet_of us)
+  held_end : (us : List Field) (p : ℕ) → Held us p → Ok tt ≡ pad_at s (at + p / 8) p → Stands s (at + p / 8) (octet_of us)
   held_end us p k q = by (eqb (p % 8) 0) refl
     where
       by : (t : Bool) → eqb (p % 8) 0 ≡ t → Stands s (at + p / 8) (octet_of us)
@@ -60,14 +60,14 @@ module _ (s : List ℕ) (o : Octets s) (at : ℕ) where
   Held-then us p q vs =
       (ws : List Field) × Held ws q × ((xs : List ℕ) → Stands s (at + q / 8) (pairs ws xs) → Stands s (at + p / 8) (pairs us (vs ++ xs)))
 
-  held_number : (n : ℕ) (m : Bool) (y : Number) (us : List Field) (p : ℕ) → Held us p → got y ≡ maybe_at n m s at p
+  held_number : (n : ℕ) (m : Bool) (y : Option ℕ) (us : List Field) (p : ℕ) → Held us p → Ok y ≡ maybe_at n m s at p
       → (m ≡ has_number y) × Under n y × Held-then us p (after m 2 p) (present_number y)
   unfolding maybe_at Held-then pairs
-  held_number n false y us p k q = subst (λ (x : Number). (false ≡ has_number x) × Under n x × Held-then us p p (present_number x)) (sym (same_got q)) (refl, tt, (us, k, λ xs h. h))
+  held_number n false y us p k q = subst (λ (x : Option ℕ). (false ≡ has_number x) × Under n x × Held-then us p p (present_number x)) (sym (same_got q)) (refl, tt, (us, k, λ xs h. h))
   held_number n true y us p k q =
       let t = then_got (choice_at n 2 s (at + p / 8) p) _ q in
       let g = choice_got s (at + p / 8) n 2 p t.1 in
-      subst (λ (x : Number). (true ≡ has_number x) × Under n x × Held-then us p (p + 2) (present_number x)) (sym (same_got t.2))
+      subst (λ (x : Option ℕ). (true ≡ has_number x) × Under n x × Held-then us p (p + 2) (present_number x)) (sym (same_got t.2))
       (refl, g.2, by t.0 g.0 g.1 (ltb (widths (more us t.0)) 8) refl)
     where
       held_more : (v : ℕ) → v ≡ bits_of (get_or s (at + p / 8) 0) p 2 → more us v ≡ fields_of (get_or s (at + p / 8) 0) 0 (k.ws ++ 2 ∷ [])
@@ -104,7 +104,7 @@ module _ (s : List ℕ) (o : Octets s) (at : ℕ) where
   Six : List Field → Type 0
   Six us = (at + 1 ≤ length s) × (us ≡ fields_of (get_or s at 0) 0 (1 ∷ 1 ∷ 1 ∷ 1 ∷ 1 ∷ 1 ∷ []))
 
-  held_marks : (m : Marks) → got m ≡ marks_at s at → Six (map bit (marks m))
+  held_marks : (m : Marks) → Ok m ≡ marks_at s at → Six (map bit (marks m))
   unfolding marks_at Six
   held_marks m q =
       let a = then_got _ _ q in
@@ -125,15 +125,15 @@ module _ (s : List ℕ) (o : Octets s) (at : ℕ) where
       )
 
   -- what is held behind the marks and a code, and so written, if what follows is
-  Coded : Bool → Marks → Number → Type 0
+  Coded : Bool → Marks → Option ℕ → Type 0
   Coded b m c =
       (us : List Field) × Held us (after b 10 6) × ((xs : List ℕ) → Stands s (at + after b 10 6 / 8) (pairs us xs) → Stands s at (with_code c (map bit (marks m)) xs))
 
-  held_code : (b : Bool) (c : Number) (m : Marks) → Six (map bit (marks m)) → got c ≡ code_at b s at → (b ≡ has_number c) × Under 256 c × Coded b m c
+  held_code : (b : Bool) (c : Option ℕ) (m : Marks) → Six (map bit (marks m)) → Ok c ≡ code_at b s at → (b ≡ has_number c) × Under 256 c × Coded b m c
   unfolding code_at Six Coded
   held_code false c m x q =
       let r = x.0 in
-      subst (λ (y : Number). (false ≡ has_number y) × Under 256 y × Coded false m y) (sym (same_got q)) (
+      subst (λ (y : Option ℕ). (false ≡ has_number y) × Under 256 y × Coded false m y) (sym (same_got q)) (
         refl,
         tt,
         (
@@ -152,7 +152,7 @@ module _ (s : List ℕ) (o : Octets s) (at : ℕ) where
       let l = length_number 1 t.0 in
       let e : at + 1 + length (number_octets 1 t.0) ≡ at + 2 = omega arith in
       let r = g.0 in
-      subst (λ (y : Number). (true ≡ has_number y) × Under 256 y × Coded true m y) (sym (same_got t.2)) (
+      subst (λ (y : Option ℕ). (true ≡ has_number y) × Under 256 y × Coded true m y) (sym (same_got t.2)) (
         refl,
         rw g.1 (value_below 1 s (at + 1) o),
         (
@@ -167,9 +167,9 @@ module _ (s : List ℕ) (o : Octets s) (at : ℕ) where
   abbrev pub Again : ℕ → Part Head → Type 0
   Again n p = Stands s at (head_octets p.value) × (p.next ≡ at + length (head_octets p.value)) × GoodHead n p.value
 
-  joined : (n : ℕ) (m : Marks) (c t k : Number) → got m ≡ marks_at s at → got c ≡ code_at m.code s at
-      → got t ≡ maybe_at n m.trigger s at (behind_code m) → got k ≡ maybe_at 3 m.crit s at (behind_trigger m)
-      → got tt ≡ pad_at s (at + behind_crit m / 8) (behind_crit m)
+  joined : (n : ℕ) (m : Marks) (c t k : Option ℕ) → Ok m ≡ marks_at s at → Ok c ≡ code_at m.code s at
+      → Ok t ≡ maybe_at n m.trigger s at (behind_code m) → Ok k ≡ maybe_at 3 m.crit s at (behind_trigger m)
+      → Ok tt ≡ pad_at s (at + behind_crit m / 8) (behind_crit m)
       → Again n (record { value = record { code = c; trigger = t; crit = k; listed = m.listed }; next = at + (behind_crit m + 7) / 8 })
   unfolding head_octets Held-then Coded pairs
   joined n m c t k qm qc qt qk qp =
@@ -184,7 +184,7 @@ module _ (s : List ℕ) (o : Octets s) (at : ℕ) where
         record { code = x.1; trigger = y.1; crit = z.1 },
       )
 
-  pub head_again : (n : ℕ) (p : Part Head) → got p ≡ head_at n s at → Again n p
+  pub head_again : (n : ℕ) (p : Part Head) → Ok p ≡ head_at n s at → Again n p
   unfolding head_at
   head_again n p q =
       let a = then_got (marks_at s at) _ q in

@@ -10,7 +10,7 @@ use borrow.Author.Tests.{ltb-true, ltb-false, eqb-false}
 use lib.Dec.{ltb, eqb}
 use lib.ListN.{length, length-append}
 use Rattle.lists.specs.Lists.{pick}
-use Rattle.octets.specs.Read.{got}
+use Rattle.std.specs.Prelude.{Ok, None, Option, Some}
 use Rattle.octets.specs.Field.{pad_at}
 use Rattle.packed.specs.Packed.{Field, ◌bits◌, bit, widths, packed, Fit}
 use Rattle.octets.specs.Write.{number_octets}
@@ -18,10 +18,9 @@ use Rattle.octets.specs.Stands.{Stands}
 use Rattle.octets.proofs.Chain.{past}
 use Rattle.octets.proofs.Stood.{stands_split}
 use Rattle.octets.proofs.Back.{number_back, length_number}
-use Rattle.diagnostics.specs.declared.Number.{Number}
-use Rattle.diagnostics.specs.declared.Number.TheVariants.{Is, Absent}
 use Rattle.diagnostics.specs.declared.Head.{Head}
-use Rattle.diagnostics.specs.Diagnostics.{Marks, after, behind_crit, marks_at, code_at, maybe_at, head_at}
+use Rattle.diagnostics.specs.declared.Marks.{Marks}
+use Rattle.diagnostics.specs.Diagnostics.{after, behind_crit, marks_at, code_at, maybe_at, head_at}
 use Rattle.diagnostics.specs.Written.{has_number, marks_of, marks, present_number, octet_of, pairs, with_code, head_octets, Under, GoodHead}
 use Rattle.diagnostics.proofs.Pairs.{Begun, begun_none, begun_more, begun_marks, more, more_width, more_fit, octet_some, pairs_length}
 use Rattle.diagnostics.proofs.Fields.{bits_width, flag_in, plain_in, choice_in, pad_in}
@@ -53,19 +52,19 @@ module _ (s : List ℕ) where
     Next : ℕ → List ℕ → Type 0
     Next p vs = (us : List Field) × Begun us p × Stands s (at + p / 8) (pairs us vs)
 
-    number_next : (n : ℕ) → n ≤ 4 → (y : Number) (vs : List ℕ) (us : List Field) (p : ℕ) → Under n y → Begun us p → Stands s (at + p / 8) (pairs us (present_number y ++ vs))
-        → (got y ≡ maybe_at n (has_number y) s at p) × Next (after (has_number y) 2 p) vs
+    number_next : (n : ℕ) → n ≤ 4 → (y : Option ℕ) (vs : List ℕ) (us : List Field) (p : ℕ) → Under n y → Begun us p → Stands s (at + p / 8) (pairs us (present_number y ++ vs))
+        → (Ok y ≡ maybe_at n (has_number y) s at p) × Next (after (has_number y) 2 p) vs
     unfolding maybe_at pairs Next
-    number_next n w Absent vs us p g b h = (refl, (us, b, h))
-    number_next n w (Is v) vs us p g b h = by (ltb (widths (more us v)) 8) refl h
+    number_next n w None vs us p g b h = (refl, (us, b, h))
+    number_next n w (Some v) vs us p g b h = by (ltb (widths (more us v)) 8) refl h
       where
-        read : (fs ls : List Field) → us ++ 2 bits (v % 4) ∷ ls ≡ fs → Fit 8 fs → Stands s (at + p / 8) (packed fs ∷ []) → got (Is v) ≡ maybe_at n true s at p
+        read : (fs ls : List Field) → us ++ 2 bits (v % 4) ∷ ls ≡ fs → Fit 8 fs → Stands s (at + p / 8) (packed fs ∷ []) → Ok (Some v) ≡ maybe_at n true s at p
         read fs ls e ok k =
             let m : v % 4 ≡ v = mod-eq_of_lt (omega arith) in
             past _ v (rw m at (choice_in s (at + p / 8) fs ok k us ls p b.width 2 (v % 4) n e (rw m g))) refl
 
         by : (t : Bool) → ltb (widths (more us v)) 8 ≡ t → Stands s (at + p / 8) (pick t (pairs (more us v) vs) (packed (more us v) ∷ pairs [] vs))
-            → (got (Is v) ≡ maybe_at n true s at p) × Next (p + 2) vs
+            → (Ok (Some v) ≡ maybe_at n true s at p) × Next (p + 2) vs
         by true e k =
             let l = ltb-true (widths (more us v)) 8 e in
             let m = more_width b v in
@@ -81,11 +80,11 @@ module _ (s : List ℕ) where
             let x = stands_split (packed (more us v) ∷ []) (pairs [] vs) k in
             (read _ [] refl (more_fit b v) x.0, ([], begun_none (p + 2) (omega arith), rw d at x.1))
 
-    pad_end : (us : List Field) (p : ℕ) → Begun us p → Stands s (at + p / 8) (pairs us []) → got tt ≡ pad_at s (at + p / 8) p
+    pad_end : (us : List Field) (p : ℕ) → Begun us p → Stands s (at + p / 8) (pairs us []) → Ok tt ≡ pad_at s (at + p / 8) p
     unfolding pad_at pairs
     pad_end us p b h = by (eqb (p % 8) 0) refl
       where
-        by : (t : Bool) → eqb (p % 8) 0 ≡ t → got tt ≡ pad_at s (at + p / 8) p
+        by : (t : Bool) → eqb (p % 8) 0 ≡ t → Ok tt ≡ pad_at s (at + p / 8) p
         by true e = rw e
         by false e =
             let n = eqb-false (p % 8) 0 e in
@@ -96,7 +95,7 @@ module _ (s : List ℕ) where
 -- ---- the marks, the code, and all before the list
 
 module _ (s : List ℕ) (at : ℕ) where
-  marks_back : (m : Marks) (ls : List Field) → Fit 8 (map bit (marks m) ++ ls) → Stands s at (packed (map bit (marks m) ++ ls) ∷ []) → got m ≡ marks_at s at
+  marks_back : (m : Marks) (ls : List Field) → Fit 8 (map bit (marks m) ++ ls) → Stands s at (packed (map bit (marks m) ++ ls) ∷ []) → Ok m ≡ marks_at s at
   unfolding marks_at
   marks_back m ls ok h =
       past _ _ (plain_in s at _ ok h [] _ 0 refl refl)
@@ -107,13 +106,13 @@ module _ (s : List ℕ) (at : ℕ) where
       (past _ _ (plain_in s at _ ok h (map bit (false ∷ m.code ∷ m.trigger ∷ m.crit ∷ m.listed ∷ [])) ls 5 (bits_width (false ∷ m.code ∷ m.trigger ∷ m.crit ∷ m.listed ∷ [])) refl)
       refl)))))
 
-  code_back : (c : Number) (m : Marks) (vs : List ℕ) → Under 256 c → Stands s at (with_code c (map bit (marks m)) vs)
-      → (got m ≡ marks_at s at) × (got c ≡ code_at (has_number c) s at) × Next s at (after (has_number c) 10 6) vs
+  code_back : (c : Option ℕ) (m : Marks) (vs : List ℕ) → Under 256 c → Stands s at (with_code c (map bit (marks m)) vs)
+      → (Ok m ≡ marks_at s at) × (Ok c ≡ code_at (has_number c) s at) × Next s at (after (has_number c) 10 6) vs
   unfolding code_at Next
-  code_back Absent m vs g h =
+  code_back None m vs g h =
       let x = whole s at (map bit (marks m)) vs 6 (begun_marks m) (omega arith) h in
       (marks_back m x.0 x.1 x.2, refl, (map bit (marks m), begun_marks m, rw add-zero h))
-  code_back (Is v) m vs g h =
+  code_back (Some v) m vs g h =
       let x = stands_split (packed (map bit (marks m)) ∷ []) (number_octets 1 v ++ pairs [] vs) h in
       let y = stands_split (number_octets 1 v) (pairs [] vs) x.1 in
       let b = begun_marks m in
@@ -124,26 +123,26 @@ module _ (s : List ℕ) (at : ℕ) where
         ([], begun_none 16 refl, rw e at y.1),
       )
 
-after_two : (n : Number) (p : ℕ) → after (has_number n) 2 p ≡ p + 2 * length (present_number n)
-after_two (Is v) p = refl
-after_two Absent p = sym (add-zero p)
+after_two : (n : Option ℕ) (p : ℕ) → after (has_number n) 2 p ≡ p + 2 * length (present_number n)
+after_two (Some v) p = refl
+after_two None p = sym (add-zero p)
 
 pub head_length : (h : Head) → length (head_octets h) ≡ (behind_crit (marks_of h) + 7) / 8
 unfolding head_octets
 head_length h = by h.code (length-append (present_number h.trigger) (present_number h.crit))
   where
-    by : (c : Number) → length (present_number h.trigger ++ present_number h.crit) ≡ length (present_number h.trigger) + length (present_number h.crit)
+    by : (c : Option ℕ) → length (present_number h.trigger ++ present_number h.crit) ≡ length (present_number h.trigger) + length (present_number h.crit)
         → length (with_code c (map bit (marks (marks_of h))) (present_number h.trigger ++ present_number h.crit))
         ≡ (after (has_number h.crit) 2 (after (has_number h.trigger) 2 (after (has_number c) 10 6)) + 7) / 8
-    by (Is v) n =
+    by (Some v) n =
         let e = pairs_length [] (present_number h.trigger ++ present_number h.crit) 16 (begun_none 16 refl) in
         rw (after_two h.crit (after (has_number h.trigger) 2 16), after_two h.trigger 16, length-append, length_number) (omega arith)
-    by Absent n =
+    by None n =
         let e = pairs_length (map bit (marks (marks_of h))) (present_number h.trigger ++ present_number h.crit) 6 (begun_marks (marks_of h)) in
         rw (after_two h.crit (after (has_number h.trigger) 2 6), after_two h.trigger 6) (omega arith)
 
 pub head_back : (n : ℕ) → n ≤ 4 → (s : List ℕ) (at : ℕ) (h : Head) → GoodHead n h → Stands s at (head_octets h)
-    → got (record { value = h; next = at + length (head_octets h) }) ≡ head_at n s at
+    → Ok (record { value = h; next = at + length (head_octets h) }) ≡ head_at n s at
 unfolding head_at head_octets Next
 head_back n w s at h g k =
     let c = code_back s at h.code (marks_of h) (present_number h.trigger ++ present_number h.crit) g.code k in

@@ -13,7 +13,7 @@ use lib.Dec.{ltb}
 use lib.ListN.{length}
 use Rattle.lists.specs.Lists.{pick}
 use Rattle.packed.specs.Packed.{Field, ◌bits◌, bit, widths, packed, Fit}
-use Rattle.diagnostics.specs.Diagnostics.{Marks}
+use Rattle.diagnostics.specs.declared.Marks.{Marks}
 use Rattle.diagnostics.specs.Written.{marks, octet_of, pairs}
 use Rattle.diagnostics.proofs.Fields.{bits_width, bits_fit, widths_join, fit_join}
 

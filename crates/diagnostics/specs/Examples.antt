@@ -1,8 +1,7 @@
 -- Worked examples: Criticality Diagnostics and their octets; and octets that are none, with why and where reading them stops.
-use Rattle.std.specs.Prelude.{ℕ, true, false, ◌≡◌, List, [], ◌∷◌, map}
-use Rattle.octets.specs.Read.{got, stop, cut_short, no_meaning, extended}
+use Rattle.std.specs.Prelude.{ℕ, true, false, ◌≡◌, List, [], ◌∷◌, map, Ok, Err, None, Some}
+use Rattle.octets.specs.Read.{cut_short, no_meaning, extended}
 use Rattle.octets.specs.declared.Stop.{Stop}
-use Rattle.diagnostics.specs.declared.Number.TheVariants.{Is, Absent}
 use Rattle.diagnostics.specs.Diagnostics.{Diagnostics, empty_head, diagnostics_at}
 use Rattle.diagnostics.specs.Written.{diagnostics_octets}
 
@@ -21,13 +20,13 @@ diagnostics_examples =
     -- without a code the triggering message stands in the first octet
     ∷ record {
       octets = 0x32 ∷ 0x80 ∷ [];
-      value = record { head = record { code = Absent; trigger = Is 2; crit = Is 2; listed = false }; entries = [] };
+      value = record { head = record { code = None; trigger = Some 2; crit = Some 2; listed = false }; entries = [] };
     }
     -- the second entry shares the octet of the first one's type of error
     ∷ record {
       octets = 0x08 ∷ 0x01 ∷ 0x20 ∷ 0x00 ∷ 0x63 ∷ 0x48 ∷ 0x00 ∷ 0x64 ∷ 0x00 ∷ [];
       value = record {
-        head = record { code = Absent; trigger = Absent; crit = Absent; listed = true };
+        head = record { code = None; trigger = None; crit = None; listed = true };
         entries = record { crit = 2; id = 99; error = 1 } ∷ record { crit = 2; id = 100; error = 0 } ∷ [];
       };
     }
@@ -35,7 +34,7 @@ diagnostics_examples =
     ∷ record {
       octets = 0x78 ∷ 0x01 ∷ 0x10 ∷ 0x00 ∷ 0x20 ∷ 0x00 ∷ 0x63 ∷ 0x00 ∷ [];
       value = record {
-        head = record { code = Is 1; trigger = Is 0; crit = Is 1; listed = true };
+        head = record { code = Some 1; trigger = Some 0; crit = Some 1; listed = true };
         entries = record { crit = 2; id = 99; error = 0 } ∷ [];
       };
     }
@@ -57,6 +56,6 @@ refused_diagnostics =
 abbrev pub DiagnosticsHold : Type 0
 DiagnosticsHold =
     (map (λ (e : DiagnosticsExample). diagnostics_octets e.value) diagnostics_examples ≡ map (λ (e : DiagnosticsExample). e.octets) diagnostics_examples)
-    × (map (λ (e : DiagnosticsExample). diagnostics_at 3 e.octets 0) diagnostics_examples ≡ map (λ (e : DiagnosticsExample). got e.value) diagnostics_examples)
-    × (map (λ (r : RefusedDiagnostics). diagnostics_at 3 r.octets 0) refused_diagnostics ≡ map (λ (r : RefusedDiagnostics). stop r.reason) refused_diagnostics)
-    × (diagnostics_at 4 (0x23 ∷ []) 0 ≡ got (record { head = record { code = Absent; trigger = Is 3; crit = Absent; listed = false }; entries = [] }))
+    × (map (λ (e : DiagnosticsExample). diagnostics_at 3 e.octets 0) diagnostics_examples ≡ map (λ (e : DiagnosticsExample). Ok e.value) diagnostics_examples)
+    × (map (λ (r : RefusedDiagnostics). diagnostics_at 3 r.octets 0) refused_diagnostics ≡ map (λ (r : RefusedDiagnostics). Err r.reason) refused_diagnostics)
+    × (diagnostics_at 4 (0x23 ∷ []) 0 ≡ Ok (record { head = record { code = None; trigger = Some 3; crit = None; listed = false }; entries = [] }))

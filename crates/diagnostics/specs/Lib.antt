@@ -1,4 +1,3 @@
 pub mod Diagnostics
-pub mod Found
 pub mod Written
 pub mod Examples

@@ -1,19 +1,18 @@
 -- The octets of Criticality Diagnostics. Fields of bits follow each other from the top of an octet on, and the bits behind the last are pad,
 -- which is zero. A number is written modulo what its field holds; it fits there if the value is good.
-use Rattle.std.specs.Prelude.{ℕ, ◌-◌, ◌%◌, ◌<◌, ◌≤◌, Bool, true, false, ◌≡◌, List, [], ◌∷◌, ◌++◌, map, length, ltb}
+use Rattle.std.specs.Prelude.{ℕ, ◌-◌, ◌%◌, ◌<◌, ◌≤◌, Bool, true, false, ◌≡◌, List, [], ◌∷◌, ◌++◌, map, length, ltb, None, Option, Some}
+use Rattle.std.specs.Option.{is_some}
 use Rattle.lists.specs.Lists.{pick}
 use Rattle.octets.specs.Many.{Each}
 use Rattle.packed.specs.Packed.{Field, ◌bits◌, bit, widths, packed}
 use Rattle.octets.specs.Write.{number_octets}
 use Rattle.entries.specs.declared.Entry.{Entry}
-use Rattle.diagnostics.specs.declared.Number.{Number}
-use Rattle.diagnostics.specs.declared.Number.TheVariants.{Is, Absent}
 use Rattle.diagnostics.specs.declared.Head.{Head}
-use Rattle.diagnostics.specs.Diagnostics.{Diagnostics, Marks}
+use Rattle.diagnostics.specs.declared.Marks.{Marks}
+use Rattle.diagnostics.specs.Diagnostics.{Diagnostics}
 
-abbrev pub has_number : Number → Bool
-has_number (Is v) = true
-has_number Absent = false
+abbrev pub has_number : Option ℕ → Bool
+has_number n = is_some n
 
 abbrev pub marks_of : Head → Marks
 marks_of h = record { code = has_number h.code; trigger = has_number h.trigger; crit = has_number h.crit; listed = h.listed }
@@ -22,9 +21,9 @@ marks_of h = record { code = has_number h.code; trigger = has_number h.trigger; 
 abbrev pub marks : Marks → List Bool
 marks m = false ∷ m.code ∷ m.trigger ∷ m.crit ∷ m.listed ∷ false ∷ []
 
-abbrev pub present_number : Number → List ℕ
-present_number (Is v) = v ∷ []
-present_number Absent = []
+abbrev pub present_number : Option ℕ → List ℕ
+present_number (Some v) = v ∷ []
+present_number None = []
 
 abbrev pub octet_of : List Field → List ℕ
 octet_of [] = []
@@ -38,9 +37,9 @@ pairs us (v ∷ vs) =
     pick (ltb (widths fs) 8) (pairs fs vs) (packed fs ∷ pairs [] vs)
 
 -- a code has an octet of its own, behind the pad of the first
-abbrev pub with_code : Number → List Field → List ℕ → List ℕ
-with_code (Is v) us vs = packed us ∷ number_octets 1 v ++ pairs [] vs
-with_code Absent us vs = pairs us vs
+abbrev pub with_code : Option ℕ → List Field → List ℕ → List ℕ
+with_code (Some v) us vs = packed us ∷ number_octets 1 v ++ pairs [] vs
+with_code None us vs = pairs us vs
 
 unfoldable pub head_octets : Head → List ℕ
 head_octets h = with_code h.code (map bit (marks (marks_of h))) (present_number h.trigger ++ present_number h.crit)
@@ -68,9 +67,9 @@ diagnostics_octets d = head_octets d.head ++ entry_list_octets d.head.listed d.e
 
 -- ---- good values: each number fits its field and has a meaning, one of n for the triggering message
 
-abbrev pub Under : ℕ → Number → Type 0
-Under n (Is v) = v < n
-Under n Absent = Unit
+abbrev pub Under : ℕ → Option ℕ → Type 0
+Under n (Some v) = v < n
+Under n None = Unit
 
 pub record GoodEntry (e : Entry) : Type 0 where
   pub crit : e.crit < 3

@@ -3,130 +3,71 @@
 
 ghost use Rattle.std.specs.Prelude.{◌≡◌, ◌+◌, ◌<◌, length};
 ghost use Rattle.diagnostics.specs.Diagnostics.{after, maybe_at, code_at, marks_at, head_at};
-ghost use Rattle.diagnostics.specs.Found.{found_marks, found_number, found_head};
 
-use octets::{Flag, Gate, Octet, Stop};
-
-#[derive(Clone, Copy)]
-pub enum Number {
-    Is(u8),
-    Absent,
-}
+use octets::{Part, Stop};
 
 // The fields before the list, and whether there is one.
 #[derive(Clone, Copy)]
 pub struct Head {
-    pub code: Number,
-    pub trigger: Number,
-    pub crit: Number,
+    pub code: Option<u8>,
+    pub trigger: Option<u8>,
+    pub crit: Option<u8>,
     pub listed: bool,
 }
 
 // Which fields are there.
 #[derive(Clone, Copy)]
-struct Marks {
-    code: bool,
-    trigger: bool,
-    crit: bool,
-    listed: bool,
-}
-
-#[derive(Clone, Copy)]
-enum MarksRead {
-    Is(Marks),
-    Stop(Stop),
-}
-
-#[derive(Clone, Copy)]
-enum NumberRead {
-    Is(Number),
-    Stop(Stop),
-}
-
-// The fields before the list, and the place behind them.
-#[derive(Clone, Copy)]
-pub enum HeadRead {
-    Is(Head, usize),
-    Stop(Stop),
+pub struct Marks {
+    pub code: bool,
+    pub trigger: bool,
+    pub crit: bool,
+    pub listed: bool,
 }
 
 // The first six bits: extension, what is there, extensions present.
-fn marks_at(s: &[u8], at: usize) -> MarksRead
-    ensures { found_marks result ≡ marks_at s.now at }
+#[tactic(auto, unfolding(crate::specs::Diagnostics::marks_at))]
+fn marks_at(s: &[u8], at: usize) -> Result<Marks, Stop>
+    ensures { result ≡ marks_at s.now at }
 {
-    match octets::plain_at(s, at, 0) {
-        Gate::Pass => {}
-        Gate::Stop(x) => {
-            return MarksRead::Stop(x);
-        }
-    }
-    let code = match octets::flag_at(s, at, 1) {
-        Flag::Is(v) => v,
-        Flag::Stop(x) => {
-            return MarksRead::Stop(x);
-        }
-    };
-    let trigger = match octets::flag_at(s, at, 2) {
-        Flag::Is(v) => v,
-        Flag::Stop(x) => {
-            return MarksRead::Stop(x);
-        }
-    };
-    let crit = match octets::flag_at(s, at, 3) {
-        Flag::Is(v) => v,
-        Flag::Stop(x) => {
-            return MarksRead::Stop(x);
-        }
-    };
-    let listed = match octets::flag_at(s, at, 4) {
-        Flag::Is(v) => v,
-        Flag::Stop(x) => {
-            return MarksRead::Stop(x);
-        }
-    };
-    match octets::plain_at(s, at, 5) {
-        Gate::Pass => MarksRead::Is(Marks {
-            code: code,
-            trigger: trigger,
-            crit: crit,
-            listed: listed,
-        }),
-        Gate::Stop(x) => MarksRead::Stop(x),
-    }
+    octets::plain_at(s, at, 0)?;
+    let code = octets::flag_at(s, at, 1)?;
+    let trigger = octets::flag_at(s, at, 2)?;
+    let crit = octets::flag_at(s, at, 3)?;
+    let listed = octets::flag_at(s, at, 4)?;
+    octets::plain_at(s, at, 5)?;
+    Ok(Marks {
+        code,
+        trigger,
+        crit,
+        listed,
+    })
 }
 
 // The procedure code, if it is there: pad behind the six bits, and an octet.
-fn code_at(there: bool, s: &[u8], at: usize) -> NumberRead
+#[tactic(auto, unfolding(crate::specs::Diagnostics::code_at))]
+fn code_at(there: bool, s: &[u8], at: usize) -> Result<Option<u8>, Stop>
     requires { at < length s.now }
-    ensures { found_number result ≡ code_at there s.now at }
+    ensures { result ≡ code_at there s.now at }
 {
     if !there {
-        return NumberRead::Is(Number::Absent);
+        return Ok(None);
     }
-    match octets::pad_at(s, at, 6) {
-        Gate::Pass => {}
-        Gate::Stop(x) => {
-            return NumberRead::Stop(x);
-        }
-    }
-    match octets::octet_at(s, at + 1) {
-        Octet::Is(v) => NumberRead::Is(Number::Is(v)),
-        Octet::Stop(x) => NumberRead::Stop(x),
-    }
+    octets::pad_at(s, at, 6)?;
+    let code = octets::octet_at(s, at + 1)?;
+    Ok(Some(code))
 }
 
 // A choice among n, p bits behind the begin, if it is there.
-fn maybe_at(n: u8, there: bool, s: &[u8], at: usize, p: u8) -> NumberRead
+#[tactic(auto, unfolding(crate::specs::Diagnostics::maybe_at))]
+fn maybe_at(n: u8, there: bool, s: &[u8], at: usize, p: u8) -> Result<Option<u8>, Stop>
     requires { at < length s.now }
-    ensures { found_number result ≡ maybe_at n there s.now at p }
+    ensures { result ≡ maybe_at n there s.now at p }
 {
     if !there {
-        return NumberRead::Is(Number::Absent);
+        return Ok(None);
     }
-    match octets::choice_at(n, 2, s, at + numbers::wide(p / 8), p) {
-        Octet::Is(v) => NumberRead::Is(Number::Is(v)),
-        Octet::Stop(x) => NumberRead::Stop(x),
-    }
+    let v = octets::choice_at(n, 2, s, at + usize::from(p / 8), p)?;
+    Ok(Some(v))
 }
 
 // The bits behind a field of n bits, if it is there.
@@ -138,46 +79,25 @@ fn after_bits(there: bool, n: u8, p: u8) -> u8
 }
 
 // The fields before the list; the triggering message has n meanings.
-pub fn head_at(n: u8, s: &[u8], at: usize) -> HeadRead
-    ensures { found_head result ≡ head_at n s.now at }
+#[tactic(auto, using(crate::proofs::Bounds::after_le, crate::proofs::Bounds::marks_in_lem), unfolding(crate::specs::Diagnostics::head_at))]
+pub fn head_at(n: u8, s: &[u8], at: usize) -> Result<Part<Head>, Stop>
+    ensures { result ≡ head_at n s.now at }
 {
-    let m = match marks_at(s, at) {
-        MarksRead::Is(v) => v,
-        MarksRead::Stop(x) => {
-            return HeadRead::Stop(x);
-        }
-    };
+    let m = marks_at(s, at)?;
     let p = after_bits(m.code, 10, 6);
     let q = after_bits(m.trigger, 2, p);
     let r = after_bits(m.crit, 2, q);
-    let code = match code_at(m.code, s, at) {
-        NumberRead::Is(v) => v,
-        NumberRead::Stop(x) => {
-            return HeadRead::Stop(x);
-        }
-    };
-    let trigger = match maybe_at(n, m.trigger, s, at, p) {
-        NumberRead::Is(v) => v,
-        NumberRead::Stop(x) => {
-            return HeadRead::Stop(x);
-        }
-    };
-    let crit = match maybe_at(3, m.crit, s, at, q) {
-        NumberRead::Is(v) => v,
-        NumberRead::Stop(x) => {
-            return HeadRead::Stop(x);
-        }
-    };
-    match octets::pad_at(s, at + numbers::wide(r / 8), r) {
-        Gate::Pass => HeadRead::Is(
-            Head {
-                code: code,
-                trigger: trigger,
-                crit: crit,
-                listed: m.listed,
-            },
-            at + numbers::wide((r + 7) / 8),
-        ),
-        Gate::Stop(x) => HeadRead::Stop(x),
-    }
+    let code = code_at(m.code, s, at)?;
+    let trigger = maybe_at(n, m.trigger, s, at, p)?;
+    let crit = maybe_at(3, m.crit, s, at, q)?;
+    octets::pad_at(s, at + usize::from(r / 8), r)?;
+    Ok(Part {
+        value: Head {
+            code,
+            trigger,
+            crit,
+            listed: m.listed,
+        },
+        next: at + usize::from((r + 7) / 8),
+    })
 }

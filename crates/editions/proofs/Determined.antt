@@ -1,7 +1,8 @@
 -- For each public function: any two results that its statement allows are equal.
 -- Assumes nothing.
 use mathlib.Core.Path.{refl}
-use Rattle.lists.proofs.Unique.{Determined, ◌same◌, ◌&◌}
+use Rattle.lists.proofs.Unique.{Determined, DeterminedAs, ◌same◌, ◌&◌}
+use Rattle.rows.specs.Table.{rows_in}
 use Rattle.editions.proofs.rows_of.Kinds as rows_of'
 use Rattle.editions.proofs.rows_of.Reads as rows_of_lem
 use Rattle.editions.proofs.code_of.Kinds as code_of'
@@ -15,7 +16,7 @@ use Rattle.editions.proofs.message_of.Reads as message_of
 use Rattle.editions.proofs.numbered.Kinds as numbered'
 use Rattle.editions.proofs.numbered.Reads as numbered
 
-pub rows_of_is : Determined rows_of'.ps rows_of'.r rows_of_lem.Asked rows_of_lem.Learnt
+pub rows_of_is : DeterminedAs rows_of'.ps rows_of'.r (λ κs t. rows_in t) rows_of_lem.Asked rows_of_lem.Learnt
 rows_of_is κs a p x y e f = (e same f) & refl
 
 pub code_of_is : Determined code_of'.ps code_of'.r code_of_lem.Asked code_of_lem.Learnt

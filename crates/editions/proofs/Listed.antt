@@ -1,6 +1,7 @@
 -- Every message stands among all (listed), by computing: a line for each. So a test that none of them fails, each passes (every).
 --     first_listed      the first that passes a test is one of those it was sought among
 -- Assumes nothing.
+use Rattle.std.specs.Prelude.{Some}
 use mathlib.Core.Path.{◌≡◌, refl}
 use mathlib.Core.Bool.{Bool, true, false, not, ◌&&◌}
 use mathlib.Core.List.{List, [], ◌∷◌, ◌++◌, Memᴰ}
@@ -13,7 +14,6 @@ use Rattle.lists.proofs.Some.{none_at}
 use Rattle.editions.specs.declared.Edition.TheVariants.{Release18, Warnings}
 use Rattle.editions.specs.declared.Message.{Message}
 use Rattle.editions.specs.declared.Message.TheVariants as message
-use Rattle.editions.specs.declared.Named.TheVariants.{Is}
 use Rattle.editions.specs.Editions.{printed, messages_of, first_of}
 
 abbrev pub all_messages : List Message
@@ -23,7 +23,7 @@ all_messages = messages_of Release18 ++ messages_of Warnings
 abbrev same : Message → Message → Bool
 same m x = eqb (printed m).number (printed x).number && (eqb (printed m).code.kind (printed x).code.kind && eqb (printed m).code.code (printed x).code.code)
 
-found : (m : Message) → first_of (same m) all_messages ≡ Is m
+found : (m : Message) → first_of (same m) all_messages ≡ Some m
 unfolding first_of printed
 found message.StartRequest = refl
 found message.StartResponse = refl
@@ -41,12 +41,12 @@ found message.StopWarningResponse = refl
 found message.WarningErrorIndication = refl
 
 -- the first that passes is one of them
-pub first_listed : (p : Message → Bool) (m : Message) (ms : List Message) → first_of p ms ≡ Is m → Memᴰ m ms
+pub first_listed : (p : Message → Bool) (m : Message) (ms : List Message) → first_of p ms ≡ Some m → Memᴰ m ms
 unfolding first_of
 first_listed p m [] q = let z : ◌≡◌ {A = ℕ} 0 1 = cc in absurd (omega arith)
 first_listed p m (x ∷ ms) q = by (p x) (first_listed p m ms) q
   where
-    by : (b : Bool) → (first_of p ms ≡ Is m → Memᴰ m ms) → pick b (Is x) (first_of p ms) ≡ Is m → Memᴰ m (x ∷ ms)
+    by : (b : Bool) → (first_of p ms ≡ Some m → Memᴰ m ms) → pick b (Some x) (first_of p ms) ≡ Some m → Memᴰ m (x ∷ ms)
     by true go q = let h : m ≡ x = cc in Memᴰ.head h
     by false go q = Memᴰ.tail (go q)
 

@@ -1,18 +1,14 @@
 -- The messages of an edition. Each is one clause: its number for C, its frame (000, 9.3.3; 004, 4.4.3) and its table of elements (000, 9.3.4; 004, 4.4.4).
 -- A new message is a clause of printed_form and its name in messages_of; nothing else here asks which message it is.
-use Rattle.std.specs.Prelude.{ℕ, Bool, true, false, ◌&&◌, List, [], ◌∷◌, eqb, length}
-use Rattle.lists.specs.Lists.{pick, fill}
+use Rattle.std.specs.Prelude.{ℕ, Bool, true, false, ◌&&◌, List, [], ◌∷◌, eqb, None, Option, Some}
+use Rattle.lists.specs.Lists.{pick}
 use Rattle.rows.specs.declared.Kind.{Kind}
 use Rattle.rows.specs.declared.Kind.TheVariants.{Carried, Mme, Mce, Tmgi, OneOctet, TwoOctets, Cause, Wait, Name, ResetType, Acknowledged, Diagnostics}
 use Rattle.rows.specs.declared.Triggers.TheVariants.{Three, Four}
 use Rattle.rows.specs.declared.Row.{Row}
-use Rattle.rows.specs.declared.Rows.{Rows}
-use Rattle.rows.specs.Table.{no_row}
 use Rattle.editions.specs.declared.Message.{Message}
 use Rattle.editions.specs.declared.Message.TheVariants.{StartRequest, StartResponse, StartFailure, StopRequest, StopResponse, Reset, ResetAcknowledge, ErrorIndication, SetupRequest, SetupResponse, SetupFailure, StopWarningRequest, StopWarningResponse, WarningErrorIndication}
 use Rattle.editions.specs.declared.Code.{Code}
-use Rattle.editions.specs.declared.Named.{Named}
-use Rattle.editions.specs.declared.Named.TheVariants.{Is, Other}
 use Rattle.editions.specs.declared.Edition.{Edition}
 use Rattle.editions.specs.declared.Edition.TheVariants.{Release18, Warnings, WarningsLab}
 use Rattle.editions.specs.Ids.{id_mme_mbms_m3ap_id, id_mce_mbms_m3ap_id, id_tmgi, id_mbms_session_id, id_mbms_e_rab_qo_s_parameters, id_mbms_session_duration, id_mbms_service_area, id_tnl_information, id_criticality_diagnostics, id_cause, id_time_to_wait, id_reset_type, id_mbms_service_associated_logical_m3_connection_list_res_ack, id_minimum_time_to_mbms_data_transfer, id_global_mce_id, id_mc_ename, id_mbms_service_area_list, id_time_of_mbms_data_transfer, id_time_of_mbms_data_stop, id_reestablishment, id_alternative_tnl_information, id_mbms_cell_list}
@@ -163,18 +159,14 @@ container_of e m = (form_of e m).container
 abbrev pub number_of : Edition → Message → ℕ
 number_of e m = (form_of e m).number
 
--- a table as the code has it
-abbrev pub table_rows : Edition → Message → Rows
-table_rows e m = record { rows = fill no_row 12 (table_of e m); count = length (table_of e m) }
-
 -- the first message that passes a test
-unfoldable pub first_of : (Message → Bool) → List Message → Named
-first_of p [] = Other
-first_of p (m ∷ ms) = pick (p m) (Is m) (first_of p ms)
+unfoldable pub first_of : (Message → Bool) → List Message → Option Message
+first_of p [] = None
+first_of p (m ∷ ms) = pick (p m) (Some m) (first_of p ms)
 
 -- by kind and code of the frame; by the number for C
-unfoldable pub named_by : Edition → ℕ → ℕ → Named
+unfoldable pub named_by : Edition → ℕ → ℕ → Option Message
 named_by e kind code = first_of (λ (m : Message). eqb kind (code_of e m).kind && eqb code (code_of e m).code) (messages_of e)
 
-unfoldable pub numbered_by : Edition → ℕ → Named
+unfoldable pub numbered_by : Edition → ℕ → Option Message
 numbered_by e n = first_of (λ (m : Message). eqb n (number_of e m)) (messages_of e)

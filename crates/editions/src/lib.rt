@@ -1,11 +1,10 @@
 // The messages of an edition, with the number, the frame and the table of elements of each.
 #![tactic(auto)]
 
-ghost use Rattle.std.specs.Prelude.{◌≡◌, ◌&&◌, ◌∷◌, [], ◌<◌, eqb, length, get_or};
-ghost use Rattle.lists.specs.Lists.{fill};
-ghost use Rattle.rows.specs.Table.{no_row};
-ghost use Rattle.editions.specs.Editions.{printed_form, in_lab, form_of, messages_of, table_rows, code_of, container_of, number_of, named_by, numbered_by};
-ghost use Rattle.editions.specs.Steps.{Heads, rows_by};
+ghost use Rattle.std.specs.Prelude.{◌≡◌, ◌&&◌, eqb};
+ghost use Rattle.rows.specs.Table.{rows_in};
+ghost use Rattle.editions.specs.Editions.{printed_form, in_lab, form_of, messages_of, table_of, code_of, container_of, number_of, named_by, numbered_by};
+ghost use Rattle.editions.specs.Steps.{Heads};
 
 use rows::{Kind, Row, Rows, Triggers};
 
@@ -25,13 +24,6 @@ pub enum Message {
     StopWarningRequest,
     StopWarningResponse,
     WarningErrorIndication,
-}
-
-// One of an edition's messages, or another.
-#[derive(Clone, Copy)]
-pub enum Named {
-    Is(Message),
-    Other,
 }
 
 // What the frame of a message says: kind (0 initiating, 1 successful, 2 unsuccessful), procedure code, criticality.
@@ -55,13 +47,6 @@ const REJECT: u8 = 0;
 const IGNORE: u8 = 1;
 
 // The rows, each written out, since a check follows every step of a constant. With _R mandatory of reject, with _M mandatory of ignore.
-const NO: Row = Row {
-    id: 0,
-    crit: REJECT,
-    kind: Kind::Carried,
-    mandatory: false,
-};
-
 const MME: Row = Row {
     id: 0,
     crit: IGNORE,
@@ -328,7 +313,7 @@ const UNKNOWN_AREAS: Row = Row {
     mandatory: false,
 };
 
-const START_REQUEST: [Row; 12] = [
+static START_REQUEST: [Row; 12] = [
     MME_R,
     TMGI_R,
     SESSION,
@@ -343,7 +328,7 @@ const START_REQUEST: [Row; 12] = [
     CELLS,
 ];
 
-const STOP_WARNING_REQUEST: [Row; 12] = [
+static STOP_WARNING_REQUEST: [Row; 7] = [
     IDENTIFIER_R,
     SERIAL_R,
     TAIS,
@@ -351,35 +336,19 @@ const STOP_WARNING_REQUEST: [Row; 12] = [
     OMC,
     SEND_STOP,
     STOP_ALL,
-    NO,
-    NO,
-    NO,
-    NO,
-    NO,
 ];
 
-const STOP_WARNING_RESPONSE: [Row; 12] = [
+static STOP_WARNING_RESPONSE: [Row; 5] = [
     IDENTIFIER_R,
     SERIAL_R,
     SBC_CAUSE_R,
     SBC_DIAG,
     UNKNOWN_AREAS,
-    NO,
-    NO,
-    NO,
-    NO,
-    NO,
-    NO,
-    NO,
 ];
 
 // ---- of each message its name, its number and frame, and its table. printed_head and printed_rows are proved with no proof written, so a message is said only here.
 
-const COUNT: usize = 11;
-
-const WARNING_COUNT: usize = 3;
-
-const MESSAGES: [Message; COUNT] = [
+static MESSAGES: [Message; 11] = [
     Message::StartRequest,
     Message::StartResponse,
     Message::StartFailure,
@@ -393,7 +362,7 @@ const MESSAGES: [Message; COUNT] = [
     Message::SetupFailure,
 ];
 
-const WARNINGS: [Message; WARNING_COUNT] = [
+static WARNINGS: [Message; 3] = [
     Message::StopWarningRequest,
     Message::StopWarningResponse,
     Message::WarningErrorIndication,
@@ -424,74 +393,50 @@ fn printed_head(m: Message) -> Head
     }
 }
 
-// Who calls sees which message m is; so the contract needs no case.
-fn start_request(m: Message) -> Rows
-    requires { m ≡ Message.StartRequest }
-    ensures { result ≡ rows_by (printed_form m) }
-{
-    Rows {
-        rows: START_REQUEST,
-        count: 12,
-    }
-}
-
-fn stop_warning_request(m: Message) -> Rows
-    requires { m ≡ Message.StopWarningRequest }
-    ensures { result ≡ rows_by (printed_form m) }
-{
-    Rows {
-        rows: STOP_WARNING_REQUEST,
-        count: 7,
-    }
-}
-
-fn stop_warning_response(m: Message) -> Rows
-    requires { m ≡ Message.StopWarningResponse }
-    ensures { result ≡ rows_by (printed_form m) }
-{
-    Rows {
-        rows: STOP_WARNING_RESPONSE,
-        count: 5,
-    }
-}
-
-// A table of the first n of these rows, which x has; m is x.
-fn few(m: Message, x: Message, a: Row, b: Row, c: Row, d: Row, n: usize) -> Rows
-    requires { (m ≡ x) × (record { rows = fill no_row 12 (a ∷ b ∷ c ∷ d ∷ []); count = n } ≡ rows_by (printed_form x)) }
-    ensures { result ≡ rows_by (printed_form m) }
-{
-    Rows {
-        rows: [a, b, c, d, NO, NO, NO, NO, NO, NO, NO, NO],
-        count: n,
-    }
-}
-
-fn printed_rows(m: Message) -> Rows
-    ensures { result ≡ rows_by (printed_form m) }
+fn printed_rows(m: Message) -> Rows<'static>
+    ensures { rows_in result ≡ (printed_form m).rows }
 {
     match m {
-        Message::StartRequest => start_request(m),
-        Message::StartResponse => few(m, Message::StartResponse, MME_M, MCE_M, DIAG, NO, 3),
-        Message::StartFailure => few(m, Message::StartFailure, MME_M, CAUSE_M, DIAG, NO, 3),
-        Message::StopRequest => few(m, Message::StopRequest, MME_R, MCE_R, STOP_AT, NO, 3),
-        Message::StopResponse => few(m, Message::StopResponse, MME_M, MCE_M, DIAG, NO, 3),
-        Message::Reset => few(m, Message::Reset, CAUSE_M, RESET_R, NO, NO, 2),
-        Message::ResetAcknowledge => few(m, Message::ResetAcknowledge, ITEMS, DIAG, NO, NO, 2),
-        Message::ErrorIndication => few(m, Message::ErrorIndication, MME, MCE, CAUSE, DIAG, 4),
-        Message::SetupRequest => few(m, Message::SetupRequest, GLOBAL_ID, NAME, AREAS, NO, 3),
-        Message::SetupResponse => few(m, Message::SetupResponse, DIAG, NO, NO, NO, 1),
-        Message::SetupFailure => few(m, Message::SetupFailure, CAUSE_M, WAIT, DIAG, NO, 3),
-        Message::StopWarningRequest => stop_warning_request(m),
-        Message::StopWarningResponse => stop_warning_response(m),
-        Message::WarningErrorIndication => few(
-            m,
-            Message::WarningErrorIndication,
-            SBC_CAUSE,
-            SBC_DIAG,
-            NO,
-            NO,
-            2,
-        ),
+        Message::StartRequest => Rows {
+            rows: &START_REQUEST,
+        },
+        Message::StartResponse => Rows {
+            rows: &[MME_M, MCE_M, DIAG],
+        },
+        Message::StartFailure => Rows {
+            rows: &[MME_M, CAUSE_M, DIAG],
+        },
+        Message::StopRequest => Rows {
+            rows: &[MME_R, MCE_R, STOP_AT],
+        },
+        Message::StopResponse => Rows {
+            rows: &[MME_M, MCE_M, DIAG],
+        },
+        Message::Reset => Rows {
+            rows: &[CAUSE_M, RESET_R],
+        },
+        Message::ResetAcknowledge => Rows {
+            rows: &[ITEMS, DIAG],
+        },
+        Message::ErrorIndication => Rows {
+            rows: &[MME, MCE, CAUSE, DIAG],
+        },
+        Message::SetupRequest => Rows {
+            rows: &[GLOBAL_ID, NAME, AREAS],
+        },
+        Message::SetupResponse => Rows { rows: &[DIAG] },
+        Message::SetupFailure => Rows {
+            rows: &[CAUSE_M, WAIT, DIAG],
+        },
+        Message::StopWarningRequest => Rows {
+            rows: &STOP_WARNING_REQUEST,
+        },
+        Message::StopWarningResponse => Rows {
+            rows: &STOP_WARNING_RESPONSE,
+        },
+        Message::WarningErrorIndication => Rows {
+            rows: &[SBC_CAUSE, SBC_DIAG],
+        },
     }
 }
 
@@ -504,34 +449,21 @@ fn head_of(e: Edition, m: Message) -> Head
 }
 
 // Of a Stop-Warning Request the lab profile knows two rows, of the others all.
-fn lab_rows(m: Message) -> Rows
-    ensures { result ≡ rows_by (in_lab (printed_form m)) }
+fn lab_rows(m: Message) -> Rows<'static>
+    ensures { rows_in result ≡ (in_lab (printed_form m)).rows }
 {
     match m {
         Message::StopWarningRequest => Rows {
-            rows: [
-                IDENTIFIER_R,
-                SERIAL_R,
-                NO,
-                NO,
-                NO,
-                NO,
-                NO,
-                NO,
-                NO,
-                NO,
-                NO,
-                NO,
-            ],
-            count: 2,
+            rows: &[IDENTIFIER_R, SERIAL_R],
         },
         _ => printed_rows(m),
     }
 }
 
 // The table of a message.
-pub fn rows_of(e: Edition, m: Message) -> Rows
-    ensures { result ≡ table_rows e m }
+#[tactic(auto, unfolding(crate::specs::Editions::printed))]
+pub fn rows_of(e: Edition, m: Message) -> Rows<'static>
+    ensures { rows_in result ≡ table_of e m }
 {
     match e {
         Edition::Release18 => printed_rows(m),
@@ -568,25 +500,14 @@ pub fn has_container(e: Edition, m: Message) -> bool
     h.4
 }
 
-// How many messages there are, and each.
-fn message_count(e: Edition) -> usize
-    ensures { result ≡ length (messages_of e) }
+// The messages of an edition.
+fn messages_of(e: Edition) -> &'static [Message]
+    ensures { result.now ≡ messages_of e }
 {
     match e {
-        Edition::Release18 => COUNT,
-        Edition::Warnings => WARNING_COUNT,
-        Edition::WarningsLab => WARNING_COUNT,
-    }
-}
-
-fn message_at(e: Edition, i: usize) -> Message
-    requires { i < length (messages_of e) }
-    ensures { result ≡ get_or (messages_of e) i Message.StartRequest }
-{
-    match e {
-        Edition::Release18 => MESSAGES[i],
-        Edition::Warnings => WARNINGS[i],
-        Edition::WarningsLab => WARNINGS[i],
+        Edition::Release18 => &MESSAGES,
+        Edition::Warnings => &WARNINGS,
+        Edition::WarningsLab => &WARNINGS,
     }
 }
 
@@ -597,33 +518,25 @@ fn is_of(h: Head, kind: u8, code: u8) -> bool
 }
 
 // The message of a kind and a procedure code.
-pub fn message_of(e: Edition, kind: u8, code: u8) -> Named
+pub fn message_of(e: Edition, kind: u8, code: u8) -> Option<Message>
     ensures { result ≡ named_by e kind code }
 {
-    let n = message_count(e);
-    let mut i: usize = 0;
-    while i < n {
-        let m = message_at(e, i);
-        if is_of(head_of(e, m), kind, code) {
-            return Named::Is(m);
+    for m in messages_of(e) {
+        if is_of(head_of(e, *m), kind, code) {
+            return Some(*m);
         }
-        i += 1;
     }
-    Named::Other
+    None
 }
 
 // The message of a number.
-pub fn numbered(e: Edition, n: u8) -> Named
+pub fn numbered(e: Edition, n: u8) -> Option<Message>
     ensures { result ≡ numbered_by e n }
 {
-    let count = message_count(e);
-    let mut i: usize = 0;
-    while i < count {
-        let m = message_at(e, i);
-        if n == number_of(e, m) {
-            return Named::Is(m);
+    for m in messages_of(e) {
+        if n == number_of(e, *m) {
+            return Some(*m);
         }
-        i += 1;
     }
-    Named::Other
+    None
 }

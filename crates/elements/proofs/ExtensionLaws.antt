@@ -10,7 +10,7 @@ use mathlib.Core.List.{List, [], ◌∷◌, ◌++◌, map, append-nil}
 use borrow.Author.Tests.{eq-eqb, ne_eqb}
 use lib.ListN.{length}
 use Rattle.lists.specs.Lists.{pick, keep}
-use Rattle.octets.specs.Read.{got}
+use Rattle.std.specs.Prelude.{Ok}
 use Rattle.octets.specs.Field.{below_at, ends_at}
 use Rattle.octets.specs.Many.{Each}
 use Rattle.octets.proofs.Chain.{then_got, same_got}
@@ -49,7 +49,7 @@ extensions_judged t n hs xs =
     }
 
 module _ (P : Head → Type 0) (s : List ℕ) (each : (n at : ℕ) → Each P (heads_at s n at)) where
-  pub each_extension : (container : Bool) (at : ℕ) {xs : List Head} → got xs ≡ extensions_at container s at → Each P xs
+  pub each_extension : (container : Bool) (at : ℕ) {xs : List Head} → Ok xs ≡ extensions_at container s at → Each P xs
   unfolding extensions_at
   each_extension false at q = subst (Each P) (sym (same_got (then_got (ends_at s at) _ q).2)) tt
   each_extension true at q =

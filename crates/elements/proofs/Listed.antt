@@ -10,7 +10,8 @@ use native.Mathlib.Omega.{arith}
 use lib.Dec.{ltb, eqb}
 use lib.ListN.{length, take}
 use Rattle.lists.proofs.Tests.{on-pick}
-use Rattle.octets.specs.Read.{Read, got, stop}
+use Rattle.std.specs.Prelude.{Ok, Err}
+use Rattle.octets.specs.Read.{Read}
 use Rattle.octets.specs.Field.{choice_at, pad_at, number_at, open_at}
 use Rattle.octets.specs.Stands.{Octets}
 use Rattle.octets.specs.declared.Span.{Span}
@@ -48,7 +49,7 @@ pub record HeadFits (h : Head) : Type 0 where
   pub id : h.id < 65536
   pub crit : h.crit < 3
 
-pub criticality_below : (s : List ℕ) (at : ℕ) {v : ℕ} → got v ≡ criticality_at s at → v < 3
+pub criticality_below : (s : List ℕ) (at : ℕ) {v : ℕ} → Ok v ≡ criticality_at s at → v < 3
 unfolding criticality_at
 criticality_below s at q =
     let a = then_got (choice_at 3 2 s at 0) _ q in
@@ -56,7 +57,7 @@ criticality_below s at q =
     rw (same_got b.2) (choice_got s at 3 2 0 a.1).2
 
 module _ (s : List ℕ) (o : Octets s) where
-  head_fits : (at : ℕ) {h : Head} → got h ≡ envelope_at s at → HeadFits h
+  head_fits : (at : ℕ) {h : Head} → Ok h ≡ envelope_at s at → HeadFits h
   unfolding envelope_at
   head_fits at q =
       let a = then_got (number_at 2 s at) _ q in
@@ -71,8 +72,8 @@ module _ (s : List ℕ) (o : Octets s) where
   heads_fit (suc n) at = by (envelope_at s at) refl (heads_fit n)
     where
       by : (r : Read Head) → r ≡ envelope_at s at → ((to : ℕ) → Each HeadFits (heads_at s n to)) → Each HeadFits (on_head (λ h. heads_at s n h.value.to) r)
-      by (got h) q go = (head_fits at q, go h.value.to)
-      by (stop x) q go = tt
+      by (Ok h) q go = (head_fits at q, go h.value.to)
+      by (Err x) q go = tt
 
 -- what holds of each element holds of those in front
 pub front_each : (P : Head → Type 0) (t : List Row) (row : ℕ) (hs : List Head) → Each P hs → Each P (front t row hs)

@@ -1,7 +1,7 @@
 -- Judging elements, over any table.
-use Rattle.std.specs.Prelude.{ℕ, ◌+◌, Bool, true, false, List, [], ◌∷◌, ◌++◌, ltb, eqb, length, set, replicate}
+use Rattle.std.specs.Prelude.{ℕ, ◌+◌, Bool, true, false, List, [], ◌∷◌, ◌++◌, ltb, eqb, length, set, replicate, Ok}
 use Rattle.lists.specs.Lists.{pick}
-use Rattle.octets.specs.Read.{Read, got, ◌>>=◌, ◌>>◌}
+use Rattle.octets.specs.Read.{Read, ◌>>=◌, ◌>>◌}
 use Rattle.octets.specs.Field.{below_at, ends_at}
 use Rattle.octets.specs.declared.Span.{Span}
 use Rattle.octets.specs.Span.{no_span, present}
@@ -70,11 +70,11 @@ abbrev pub counted_extensions_at : List ℕ → ℕ → ℕ → Read (List Head)
 counted_extensions_at s n at = do
   to ← scan_at [] s n at
   ends_at s to
-  got (heads_at s n at)
+  Ok (heads_at s n at)
 
 -- what stands behind the elements, up to the end: nothing, or a container, which is the number of extensions less 1, 0 to 65,534, and the extensions
 unfoldable pub extensions_at : Bool → List ℕ → ℕ → Read (List Head)
-extensions_at false s at = ends_at s at >> got []
+extensions_at false s at = ends_at s at >> Ok []
 extensions_at true s at = do
   n ← below_at 65535 s at
   counted_extensions_at s (n + 1) (at + 2)
@@ -89,4 +89,4 @@ extensions_behind t container s n at = do
 unfoldable pub elements_at : List Row → Bool → List ℕ → ℕ → ℕ → Read Found
 elements_at t container s n at = do
   xs ← extensions_behind t container s n at
-  got (judged_of t n (heads_at s n at) xs)
+  Ok (judged_of t n (heads_at s n at) xs)

@@ -9,8 +9,8 @@ use native.Mathlib.Numerals.{add-one}
 use native.Mathlib.Omega.{arith}
 use borrow.Author.Tests.{le-leb}
 use lib.Dec.{ltb}
-use lib.ListN.{length, get_or, drop}
-use lib.Seq.{drop-drop, get_or-drop}
+use lib.ListN.{length, drop}
+use lib.Seq.{drop-drop}
 use Rattle.lists.specs.Lists.{some}
 use Rattle.lists.proofs.Some.{some_append}
 use Rattle.octets.specs.Field.{value_at}
@@ -60,27 +60,14 @@ said_few s = omega (arith, said_count s)
 pub said_all : (s : List ℕ) {n : ℕ} → n ≡ length (lists_in s).entries → each_row row_entry 4 n (drop 1638 s) ≡ (lists_in s).entries
 said_all s {n} e = ap (λ (m : ℕ). each_row row_entry 4 m (drop 1638 s)) (e ∙ said_count s)
 
--- a row by its octets
-module _ (s : List ℕ) (at : ℕ) where
-  pub row_is : {a b c d : ℕ} → a ≡ get_or s at 0 → b ≡ get_or s (at + 1) 0 → c ≡ get_or s (at + 2) 0 → d ≡ get_or s (at + 3) 0 → {v : ℕ} → v ≡ b * 256 + c
-      → record { id = v; crit = a; error = d } ≡ row_entry (drop at s)
-  row_is {a} {b} {c} {d} p q r t {v} e =
-      let x : a ≡ get_or (drop at s) 0 0 = p ∙ sym (get_or-drop at s 0 0 ∙ ap (λ (k : ℕ). get_or s k 0) (add-zero at)) in
-      let y : v ≡ value_at 2 (drop at s) 1 = rw (get_or-drop at s 1 0, get_or-drop at s 2 0) (omega (arith, e, q, r)) in
-      let z : d ≡ get_or (drop at s) 3 0 = t ∙ sym (get_or-drop at s 3 0) in
-      λ i. record { id = y i; crit = x i; error = z i }
-
-  pub good_is : {a d : ℕ} → a ≡ get_or s at 0 → d ≡ get_or s (at + 3) 0 → (ltb a 3 && ltb d 2) ≡ entry_good (row_entry (drop at s))
-  good_is p t = rw (p, t, get_or-drop at s 0 0, add-zero at, get_or-drop at s 3 0)
-
 abbrev bad : Entry → Bool
 bad e = not (entry_good e)
 
 pub good_more : (es : List Entry) (e : Entry) {g : Bool} → g ≡ not (some (λ (x : Entry). not (entry_good x)) es)
-    → (entry_good e && g) ≡ not (some (λ (x : Entry). not (entry_good x)) (es ++ e ∷ []))
+    → (g && entry_good e) ≡ not (some (λ (x : Entry). not (entry_good x)) (es ++ e ∷ []))
 good_more es e {g} q = rw (q, some_append bad es (e ∷ [])) (by (entry_good e) (some bad es))
   where
-    by : (a b : Bool) → (a && not b) ≡ not (b || (not a || false))
+    by : (a b : Bool) → (not b && a) ≡ not (b || (not a || false))
     by true true = refl
     by true false = refl
     by false true = refl

@@ -6,8 +6,10 @@ use Prim.Native.Nat.{ℕ, ◌+◌, ◌-◌, ◌<◌, ◌≤◌}
 use native.Mathlib.Omega.{arith}
 use native.Mathlib.Nat.{sub-zero}
 use lib.ListN.{length, length-append}
-use Rattle.octets.specs.Read.{Read, got, stop}
-use Rattle.octets.specs.Many.{Part, many}
+use Rattle.std.specs.Prelude.{Ok, Err}
+use Rattle.octets.specs.Read.{Read}
+use Rattle.octets.specs.Many.{many}
+use Rattle.octets.specs.declared.Part.{Part}
 use Rattle.octets.specs.declared.Stop.{Stop}
 use Rattle.octets.proofs.ManyLaws.{before, before_none, many_none, many_one, many_stop}
 
@@ -21,13 +23,13 @@ module _ {A : Type 0} {one : ℕ → Read (Part A)} {n from : ℕ} where
   reading_none = record { within = omega arith; count = refl; rest = rw sub-zero (before_none _) }
 
   module _ {list : List A} {i at : ℕ} (g : Reading one n from list i at) where
-    pub reading_more : (p : Part A) → i < n → got p ≡ one at → Reading one n from (list ++ p.value ∷ []) (i + 1) p.next
+    pub reading_more : (p : Part A) → i < n → Ok p ≡ one at → Reading one n from (list ++ p.value ∷ []) (i + 1) p.next
     reading_more p h q =
         let k : n - (i + 1) ≡ n - i - 1 = omega arith in
         record { within = omega arith; count = rw length-append (omega (arith, g.count)); rest = rw k (many_one one list (n - i) at (λ e. omega arith) p q ∙ g.rest) }
 
-    pub reading_stop : (x : Stop) → i < n → stop x ≡ one at → stop x ≡ many one n from
+    pub reading_stop : (x : Stop) → i < n → Err x ≡ one at → Err x ≡ many one n from
     reading_stop x h q = many_stop one list (n - i) at (λ e. omega arith) x q ∙ g.rest
 
-    pub reading_all : n ≤ i → got (record { value = list; next = at }) ≡ many one n from
+    pub reading_all : n ≤ i → Ok (record { value = list; next = at }) ≡ many one n from
     reading_all h = many_none one list (n - i) at (omega arith) ∙ g.rest

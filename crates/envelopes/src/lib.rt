@@ -2,11 +2,10 @@
 #![tactic(auto)]
 
 ghost use Rattle.std.specs.Prelude.{◌≡◌};
-ghost use Rattle.octets.specs.Found.{found_octet};
 ghost use Rattle.rows.specs.Table.{rows_in};
-ghost use Rattle.envelopes.specs.Envelope.{found_envelope, found_end, criticality_at, envelope_at, scan_at};
+ghost use Rattle.envelopes.specs.Envelope.{criticality_at, envelope_at, scan_at};
 
-use octets::{Gate, Octet, Open, Span, Stop, Two};
+use octets::{Span, Stop};
 use rows::Rows;
 
 // An element: its id and criticality, and where its value stands.
@@ -17,84 +16,37 @@ pub struct Head {
     pub value: Span,
 }
 
-#[derive(Clone, Copy)]
-pub enum Envelope {
-    Is(Head),
-    Stop(Stop),
-}
-
-// Where elements end.
-#[derive(Clone, Copy)]
-pub enum End {
-    Is(usize),
-    Stop(Stop),
-}
-
 // Two criticality bits and pad.
-pub fn criticality_at(s: &[u8], at: usize) -> Octet
-    ensures { found_octet result ≡ criticality_at s.now at }
+#[tactic(auto, unfolding(crate::specs::Envelope::criticality_at))]
+pub fn criticality_at(s: &[u8], at: usize) -> Result<u8, Stop>
+    ensures { result ≡ criticality_at s.now at }
 {
-    let crit = match octets::choice_at(3, 2, s, at, 0) {
-        Octet::Is(v) => v,
-        Octet::Stop(x) => {
-            return Octet::Stop(x);
-        }
-    };
-    match octets::pad_at(s, at, 2) {
-        Gate::Pass => Octet::Is(crit),
-        Gate::Stop(x) => Octet::Stop(x),
-    }
+    let crit = octets::choice_at(3, 2, s, at, 0)?;
+    octets::pad_at(s, at, 2)?;
+    Ok(crit)
 }
 
 // An element in its envelope.
-pub fn envelope_at(s: &[u8], at: usize) -> Envelope
-    ensures { found_envelope result ≡ envelope_at s.now at }
+#[tactic(auto, unfolding(crate::specs::Envelope::envelope_at))]
+pub fn envelope_at(s: &[u8], at: usize) -> Result<Head, Stop>
+    ensures { result ≡ envelope_at s.now at }
 {
-    let id = match octets::two_at(s, at) {
-        Two::Is(v) => v,
-        Two::Stop(x) => {
-            return Envelope::Stop(x);
-        }
-    };
-    let crit = match criticality_at(s, at + 2) {
-        Octet::Is(v) => v,
-        Octet::Stop(x) => {
-            return Envelope::Stop(x);
-        }
-    };
-    match octets::open_at(s, at + 3) {
-        Open::Is(v) => Envelope::Is(Head {
-            id: id,
-            crit: crit,
-            value: v,
-        }),
-        Open::Stop(x) => Envelope::Stop(x),
-    }
+    let id = octets::two_at(s, at)?;
+    let crit = criticality_at(s, at + 2)?;
+    let value = octets::open_at(s, at + 3)?;
+    Ok(Head { id, crit, value })
 }
 
 // Where n elements end, or the first fault: in an envelope, or in a value that is read.
-pub fn scan(t: Rows, s: &[u8], n: usize, from: usize) -> End
-    ensures { found_end result ≡ scan_at (rows_in t) s.now n from }
+pub fn scan(t: Rows, s: &[u8], n: usize, from: usize) -> Result<usize, Stop>
+    ensures { result ≡ scan_at (rows_in t.entry) s.now n from }
 {
-    let mut left = n;
     let mut at = from;
-    while 0 < left {
-        match envelope_at(s, at) {
-            Envelope::Is(h) => {
-                let to = h.value.to;
-                match kinds::value_at(rows::kind_of(t, h.id), &s[..to], h.value.from) {
-                    Gate::Pass => {}
-                    Gate::Stop(x) => {
-                        return End::Stop(x);
-                    }
-                }
-                at = to;
-                left -= 1;
-            }
-            Envelope::Stop(x) => {
-                return End::Stop(x);
-            }
-        }
+    for _ in 0..n {
+        let h = envelope_at(s, at)?;
+        let to = h.value.to;
+        kinds::value_at(rows::kind_of(t, h.id), &s[..to], h.value.from)?;
+        at = to;
     }
-    End::Is(at)
+    Ok(at)
 }

@@ -1,5 +1,4 @@
--- For each public function: any two results that its statement allows are equal, with all that is left in the unit, the room and the array.
--- Assumes nothing.
+-- For each public function: any two results that its statement allows are equal, with all that is left in the unit, the room and the turns.
 use mathlib.Core.Path.{refl}
 use Rattle.lists.proofs.Unique.{Determined, ◌same◌, ◌&◌}
 use Rattle.evening.proofs.play.Kinds as play'
@@ -7,5 +6,5 @@ use Rattle.evening.proofs.play.Reads as play
 
 pub play_is : Determined play'.ps play'.r play.Asked play.Learnt
 play_is κs a p x y e f =
-    (λ i. record { entries = (e.entries same f.entries) i; octets = (e.octets same f.octets) i })
-    & refl & (e.unit same f.unit) & (e.room same f.room) & (e.out same f.out) & refl
+    (λ i. record { entries = (e.0.entries same f.0.entries) i; octets = (e.0.octets same f.0.octets) i })
+    & refl & (e.0.unit same f.0.unit) & (e.0.room same f.0.room) & (e.0.turns same f.0.turns) & refl

@@ -1,5 +1,4 @@
 -- Laws of the play: in two parts it is the play whole; nothing that is whole is left over; and what stood in the room does not matter.
--- Assumes nothing.
 use Prim.Native.Nat.{ℕ, zero, suc, ◌+◌, ◌≤◌}
 use mathlib.Core.Path.{◌≡◌, refl, sym, ap, subst, ◌∙◌}
 use mathlib.Core.Bool.{Bool, true, false}
@@ -16,8 +15,7 @@ use Rattle.calls.specs.Decided.{Decided}
 use Rattle.answers.specs.Answers.{numbered}
 use Rattle.calls.specs.Call.{Back, decided_on, reply_of, settled_if, fits, settled, on_unit, call}
 use Rattle.evening.specs.declared.Turn.{Turn}
-use Rattle.evening.specs.declared.Played as own
-use Rattle.evening.specs.Capture.{size_in, is_whole, call_in, held_in, turn_of, Played, played_after, no_turns, played_in, captured, Plays}
+use Rattle.evening.specs.Capture.{size_in, is_whole, call_in, held_in, turn_of, Played, played_after, no_turns, played_in, captured}
 use Rattle.evening.proofs.Playing.{four, not_whole, within, behind_behind, behind_none, played_more, played_not}
 
 -- what is played of s behind a first part
@@ -72,9 +70,6 @@ inside (suc k) s t d = by (is_whole s) refl (inside k (drop (size_in s) s) (call
     by : (w : Bool) → is_whole s ≡ w → p.octets ≤ length (drop (size_in s) s) → (played_in (suc k) s t d).octets ≤ length s
     by false w r = rw (played_not (suc k) s t d w) (omega arith)
     by true w r = rw (played_more k s t d w) (omega (arith, within s w, length-drop (size_in s) s))
-
-pub plays_inside : (k : ℕ) (s t d : List ℕ) {o : List ℕ} {r : own.Played} {u v e : List ℕ} → Plays (played_in k s t d) o r u v e → r.octets ≤ length s
-plays_inside k s t d h = rw h.octets (inside k s t d)
 
 -- ---- rooms of one length
 pub record Same (b c : Back) : Type 0 where

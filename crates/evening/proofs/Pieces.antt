@@ -1,5 +1,4 @@
 -- A capture that is read in pieces: what is whole in a piece is played, and the next piece stands behind what is left over. It is the capture whole.
--- Assumes nothing.
 use Prim.Native.Nat.{ℕ, zero, suc, ◌+◌, ◌-◌, ◌≤◌, ◌<◌}
 use mathlib.Core.Path.{◌≡◌, refl, sym, ap, ◌∙◌}
 use mathlib.Core.Bool.{Bool, true, false}

@@ -1,6 +1,6 @@
 -- A capture: entries one after another, each an offered identity (two octets, high first), a length (likewise), and a message of that length.
 -- A message of any length is handed to the call, which gives one over 8,192 octets its answer 1.
-use Rattle.std.specs.Prelude.{ℕ, zero, suc, ◌+◌, ◌*◌, ◌≡◌, Bool, List, [], ◌∷◌, ◌++◌, leb, ltb, length, drop, replicate}
+use Rattle.std.specs.Prelude.{ℕ, zero, suc, ◌+◌, ◌≡◌, Bool, List, [], ◌∷◌, ◌++◌, leb, ltb, length, drop, replicate}
 use Rattle.std.proofs.Math.Seq.{slice}
 use Rattle.lists.specs.Lists.{pick}
 use Rattle.octets.specs.Field.{value_at}
@@ -60,21 +60,16 @@ captured s = played_in (length s) s (unit_octets fresh) (replicate 8192 0)
 abbrev pub cut : List ℕ → Bool
 cut s = ltb (captured s).octets (length s)
 
--- three numbers an entry
-unfoldable pub turn_numbers : List Turn → List ℕ
-turn_numbers [] = []
-turn_numbers (x ∷ l) = x.answer ∷ x.reply ∷ x.held ∷ turn_numbers l
-
 -- one call, as the code hands it back
 pub record Turned (b : Back) (x : Turn) (t d : List ℕ) : Type 0 where
   pub turn : x ≡ turn_of b
   pub unit : t ≡ b.unit
   pub room : d ≡ b.room
 
--- as the code hands it back: the numbers stand in the front of the array o, and what is behind them is kept
-pub record Plays (p : Played) (o : List ℕ) (r : own.Played) (t d e : List ℕ) : Type 0 where
+-- as the code hands it back: what each entry gave stands in the front of the turns o, and what is behind is kept
+pub record Plays (p : Played) (o : List Turn) (r : own.Played) (t d : List ℕ) (e : List Turn) : Type 0 where
   pub entries : r.entries ≡ length p.turns
   pub octets : r.octets ≡ p.octets
   pub unit : t ≡ p.unit
   pub room : d ≡ p.room
-  pub out : e ≡ turn_numbers p.turns ++ drop (3 * length p.turns) o
+  pub turns : e ≡ p.turns ++ drop (length p.turns) o

@@ -1,8 +1,7 @@
 // The capture: whole entries played one after another on a lent unit. Reading them in and writing lines is the program's.
 #![tactic(auto)]
 
-ghost use Rattle.std.specs.Prelude.{◌≡◌, true, [], ◌∷◌, ◌+◌, ◌*◌, ◌/◌, ◌≤◌, length};
-ghost use Rattle.std.proofs.lemmas.List.Edits.{sets};
+ghost use Rattle.std.specs.Prelude.{◌≡◌, true, ◌+◌, ◌≤◌, length, Some, None};
 ghost use Rattle.lists.specs.Lists.{pick};
 ghost use Rattle.octets.specs.Field.{value_at};
 ghost use Rattle.editions.specs.declared.Edition.TheVariants.{Release18};
@@ -32,82 +31,70 @@ fn two(s: &[u8], at: usize) -> u16
     requires { at + 2 ≤ length s.now }
     ensures { result ≡ value_at 2 s.now at }
 {
-    numbers::two(s[at], s[at + 1])
+    u16::from_be_bytes([s[at], s[at + 1]])
 }
 
+#[tactic(auto, unfolding(crate::specs::Capture::held_in))]
 fn held(unit: &[u8]) -> usize
     ensures { result ≡ held_in unit.now }
 {
     if unit.len() < 2 {
         return 0;
     }
-    numbers::wide16(two(unit, 0))
+    usize::from(two(unit, 0))
 }
 
-// The octets of the entry at the front, and 0 where it is not whole.
-fn size(s: &[u8]) -> usize
-    ensures { result ≡ pick (is_whole s.now) (size_in s.now) 0 }
+// The octets of the entry at the front, if it is whole.
+#[tactic(auto, unfolding(crate::specs::Capture::is_whole, crate::specs::Capture::size_in))]
+fn size(s: &[u8]) -> Option<usize>
+    ensures { result ≡ pick (is_whole s.now) (Some (size_in s.now)) None }
 {
     if s.len() < 4 {
-        return 0;
+        return None;
     }
-    let n = 4 + numbers::wide16(two(s, 2));
+    let n = 4 + usize::from(two(s, 2));
     if s.len() < n {
-        return 0;
+        return None;
     }
-    n
+    Some(n)
 }
 
 // The entry at the front, of n octets.
+#[tactic(auto, using(crate::proofs::Playing::within, crate::proofs::Playing::four))]
 fn take_turn(s: &[u8], n: usize, unit: &mut [u8], room: &mut [u8]) -> Turn
     requires { (n ≡ size_in s.now) × (is_whole s.now ≡ true) }
     ensures { Turned (call Release18 unit.old (call_in s.now room.old)) result unit.new room.new }
 {
     let offered = two(s, 0);
     let b = unit::call(Edition::Release18, unit, &s[4..n], MceId(offered), room);
-    let a = b.answer;
-    let answer = answers::number_of(a) as usize;
-    let now_held = held(unit);
     Turn {
-        answer: answer,
+        answer: answers::number_of(b.answer) as usize,
         reply: b.octets,
-        held: now_held,
+        held: held(unit),
     }
 }
 
-// The numbers of the entry i.
-fn store(out: &mut [usize], i: usize, x: Turn)
-    requires { 3 * i + 3 ≤ length out.old }
-    ensures { out.new ≡ sets out.old (3 * i) (x.answer ∷ x.reply ∷ x.held ∷ []) }
+// Plays whole entries at the front of s, as many as turns are lent; what each gave stands in the front of the turns.
+pub fn play(s: &[u8], unit: &mut [u8], room: &mut [u8], turns: &mut [Turn]) -> Played
+    ensures plays { Plays (played_in (length turns.old) s.now unit.old room.old) turns.old result unit.new room.new turns.new }
+    ensures entries { result.entries ≤ length turns.old }
+    ensures octets { result.octets ≤ length s.now }
 {
-    let at = 3 * i;
-    out[at] = x.answer;
-    out[at + 1] = x.reply;
-    out[at + 2] = x.held;
-}
-
-// Plays whole entries at the front of s for as long as there is room for three numbers each: answer, reply, held.
-pub fn play(s: &[u8], unit: &mut [u8], room: &mut [u8], out: &mut [usize]) -> Played
-    ensures { Plays (played_in (length out.old / 3) s.now unit.old room.old) out.old result unit.new room.new out.new }
-{
-    let most = out.len() / 3;
+    let most = turns.len();
     let mut at: usize = 0;
-    let mut i: usize = 0;
-    while i < most {
-        let n = size(&s[at..]);
-        if n == 0 {
+    for i in 0..most {
+        let Some(n) = size(&s[at..]) else {
             return Played {
                 entries: i,
                 octets: at,
             };
-        }
+        };
         let x = take_turn(&s[at..], n, unit, room);
-        store(out, i, x);
+        turns[i] = x;
         at += n;
-        i += 1;
     }
     Played {
-        entries: i,
+        entries: most,
         octets: at,
     }
 }

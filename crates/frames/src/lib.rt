@@ -3,10 +3,9 @@
 
 ghost use Rattle.std.specs.Prelude.{◌≡◌};
 ghost use Rattle.lists.specs.Lists.{pick};
-ghost use Rattle.octets.specs.Found.{found_flag, found_octet};
-ghost use Rattle.frames.specs.Frame.{found_count, found_frame, kind_at, frame_at, container_at, count_at};
+ghost use Rattle.frames.specs.Frame.{kind_at, frame_at, container_at, count_at};
 
-use octets::{Flag, Gate, Octet, Open, Stop, Two};
+use octets::Stop;
 
 // What the frame says, and where the message in it begins.
 #[derive(Clone, Copy)]
@@ -17,12 +16,6 @@ pub struct Frame {
     pub from: usize,
 }
 
-#[derive(Clone, Copy)]
-pub enum FrameRead {
-    Is(Frame),
-    Stop(Stop),
-}
-
 // How many elements a message has, and whether a container stands behind them.
 #[derive(Clone, Copy)]
 pub struct Count {
@@ -30,81 +23,44 @@ pub struct Count {
     pub container: bool,
 }
 
-#[derive(Clone, Copy)]
-pub enum CountRead {
-    Is(Count),
-    Stop(Stop),
-}
-
 // The first octet of a frame: extension bit, kind, pad.
-fn kind_at(s: &[u8]) -> Octet
-    ensures { found_octet result ≡ kind_at s.now }
+#[tactic(auto, unfolding(crate::specs::Frame::kind_at))]
+fn kind_at(s: &[u8]) -> Result<u8, Stop>
+    ensures { result ≡ kind_at s.now }
 {
-    match octets::plain_at(s, 0, 0) {
-        Gate::Pass => {}
-        Gate::Stop(x) => {
-            return Octet::Stop(x);
-        }
-    }
-    let kind = match octets::choice_at(3, 2, s, 0, 1) {
-        Octet::Is(v) => v,
-        Octet::Stop(x) => {
-            return Octet::Stop(x);
-        }
-    };
-    match octets::pad_at(s, 0, 3) {
-        Gate::Pass => Octet::Is(kind),
-        Gate::Stop(x) => Octet::Stop(x),
-    }
+    octets::plain_at(s, 0, 0)?;
+    let kind = octets::choice_at(3, 2, s, 0, 1)?;
+    octets::pad_at(s, 0, 3)?;
+    Ok(kind)
 }
 
 // The frame, from its first octet to the end of what was handed in.
-pub fn frame_at(s: &[u8]) -> FrameRead
-    ensures { found_frame result ≡ frame_at s.now }
+#[tactic(auto, unfolding(crate::specs::Frame::frame_at))]
+pub fn frame_at(s: &[u8]) -> Result<Frame, Stop>
+    ensures { result ≡ frame_at s.now }
 {
-    let kind = match kind_at(s) {
-        Octet::Is(v) => v,
-        Octet::Stop(x) => {
-            return FrameRead::Stop(x);
-        }
-    };
-    let code = match octets::octet_at(s, 1) {
-        Octet::Is(v) => v,
-        Octet::Stop(x) => {
-            return FrameRead::Stop(x);
-        }
-    };
-    let crit = match envelopes::criticality_at(s, 2) {
-        Octet::Is(v) => v,
-        Octet::Stop(x) => {
-            return FrameRead::Stop(x);
-        }
-    };
-    let v = match octets::open_at(s, 3) {
-        Open::Is(v) => v,
-        Open::Stop(x) => {
-            return FrameRead::Stop(x);
-        }
-    };
-    match octets::ends_at(s, v.to) {
-        Gate::Pass => FrameRead::Is(Frame {
-            kind: kind,
-            code: code,
-            crit: crit,
-            from: v.from,
-        }),
-        Gate::Stop(x) => FrameRead::Stop(x),
-    }
+    let kind = kind_at(s)?;
+    let code = octets::octet_at(s, 1)?;
+    let crit = envelopes::criticality_at(s, 2)?;
+    let v = octets::open_at(s, 3)?;
+    octets::ends_at(s, v.to)?;
+    Ok(Frame {
+        kind,
+        code,
+        crit,
+        from: v.from,
+    })
 }
 
 // Whether a container stands beside the elements, in a message that can have one.
-fn container_at(c: bool, s: &[u8], from: usize) -> Flag
-    ensures { found_flag result ≡ container_at c s.now from }
+#[tactic(auto, unfolding(crate::specs::Frame::container_at))]
+fn container_at(c: bool, s: &[u8], from: usize) -> Result<bool, Stop>
+    ensures { result ≡ container_at c s.now from }
 {
     if c {
         return octets::flag_at(s, from, 1);
     }
-    Flag::Is(false)
+    Ok(false)
 }
 
 // How many bits a message opens with: the extension bit, and that of the container where it can have one.
@@ -115,32 +71,16 @@ fn opening_bits(c: bool) -> u8
 }
 
 // How a message opens: the bits, pad, two octets; c: it can have a container.
-pub fn count_at(c: bool, s: &[u8], from: usize) -> CountRead
-    ensures { found_count result ≡ count_at c s.now from }
+#[tactic(auto, unfolding(crate::specs::Frame::count_at))]
+pub fn count_at(c: bool, s: &[u8], from: usize) -> Result<Count, Stop>
+    ensures { result ≡ count_at c s.now from }
 {
-    match octets::plain_at(s, from, 0) {
-        Gate::Pass => {}
-        Gate::Stop(x) => {
-            return CountRead::Stop(x);
-        }
-    }
-    let container = match container_at(c, s, from) {
-        Flag::Is(v) => v,
-        Flag::Stop(x) => {
-            return CountRead::Stop(x);
-        }
-    };
-    match octets::pad_at(s, from, opening_bits(c)) {
-        Gate::Pass => {}
-        Gate::Stop(x) => {
-            return CountRead::Stop(x);
-        }
-    }
-    match octets::two_at(s, from + 1) {
-        Two::Is(n) => CountRead::Is(Count {
-            elements: n,
-            container: container,
-        }),
-        Two::Stop(x) => CountRead::Stop(x),
-    }
+    octets::plain_at(s, from, 0)?;
+    let container = container_at(c, s, from)?;
+    octets::pad_at(s, from, opening_bits(c))?;
+    let elements = octets::two_at(s, from + 1)?;
+    Ok(Count {
+        elements,
+        container,
+    })
 }

@@ -1,31 +1,23 @@
 -- A reset item, and its envelope.
-use Rattle.std.specs.Prelude.{ℕ, ◌+◌, Bool, true, false, List, take}
-use Rattle.octets.specs.Read.{Read, got, ◌>>=◌, ◌>>◌}
+use Rattle.identity.specs.declared.MceId.{MceId}
+use Rattle.identity.specs.declared.MmeId.{MmeId}
+use Rattle.std.specs.Prelude.{ℕ, ◌+◌, Bool, true, false, List, take, Ok, None, Option, Some}
+use Rattle.octets.specs.Read.{Read, ◌>>=◌, ◌>>◌}
 use Rattle.octets.specs.Field.{flag_at, plain_at, choice_at, pad_at, number_at, same_at, open_at, ends_at}
-use Rattle.octets.specs.Many.{Part}
-use Rattle.identity.specs.declared.Mme.{Mme}
-use Rattle.identity.specs.declared.Mme.TheVariants as mme
-use Rattle.identity.specs.declared.Mce.{Mce}
-use Rattle.identity.specs.declared.Mce.TheVariants as mce
+use Rattle.octets.specs.declared.Part.{Part}
 use Rattle.identity.specs.declared.Item.{Item}
 use Rattle.item.specs.declared.Marks.{Marks}
 
--- an identity of two octets that is there or not, made of its number in its series
-abbrev pub maybe_identity_at : {A : Type 0} → (ℕ → A) → A → Bool → List ℕ → ℕ → Read A
-maybe_identity_at is absent false s at = got absent
-maybe_identity_at is absent true s at = number_at 2 s at >>= λ v. got (is v)
+-- an identity of two octets that is there or not, made of its number as its series does
+abbrev pub maybe_identity_at : {I : Type 0} → (ℕ → I) → Bool → List ℕ → ℕ → Read (Option I)
+maybe_identity_at numbered false s at = Ok None
+maybe_identity_at numbered true s at = number_at 2 s at >>= λ v. Ok (Some (numbered v))
 
-abbrev pub mme_is : ℕ → Mme
-mme_is v = mme.Is (record { 0 = v })
+abbrev pub maybe_mme_at : Bool → List ℕ → ℕ → Read (Option MmeId)
+maybe_mme_at = maybe_identity_at (λ v. record { 0 = v })
 
-abbrev pub mce_is : ℕ → Mce
-mce_is v = mce.Is (record { 0 = v })
-
-abbrev pub maybe_mme_at : Bool → List ℕ → ℕ → Read Mme
-maybe_mme_at there s at = maybe_identity_at mme_is mme.Absent there s at
-
-abbrev pub maybe_mce_at : Bool → List ℕ → ℕ → Read Mce
-maybe_mce_at there s at = maybe_identity_at mce_is mce.Absent there s at
+abbrev pub maybe_mce_at : Bool → List ℕ → ℕ → Read (Option MceId)
+maybe_mce_at = maybe_identity_at (λ v. record { 0 = v })
 
 -- the place behind it
 abbrev pub behind : Bool → ℕ → ℕ
@@ -40,7 +32,7 @@ item_marks_at s at = do
   c ← flag_at s at 2
   plain_at s at 3
   pad_at s at 4
-  got (record { mme = m; mce = c })
+  Ok (record { mme = m; mce = c })
 
 unfoldable pub item_at : List ℕ → ℕ → Read Item
 item_at s at = do
@@ -48,7 +40,7 @@ item_at s at = do
   x ← maybe_mme_at h.mme s (at + 1)
   y ← maybe_mce_at h.mce s (behind h.mme (at + 1))
   ends_at s (behind h.mce (behind h.mme (at + 1)))
-  got (record { mme = x; mce = y })
+  Ok (record { mme = x; mce = y })
 
 -- an item in its envelope: id 14, or it is at fault; a criticality that is not looked at further; the item
 unfoldable pub item_element_at : List ℕ → ℕ → Read (Part Item)
@@ -58,4 +50,4 @@ item_element_at s at = do
   pad_at s (at + 2) 2
   v ← open_at s (at + 3)
   i ← item_at (take v.to s) v.from
-  got (record { value = i; next = v.to })
+  Ok (record { value = i; next = v.to })

@@ -1,6 +1,7 @@
 -- Octets are those of the items that they say exactly if each identity has a flag of 1, or zeros, and zeros stand behind the rows:
 -- row by row, a row of octets is the row of the item that it says exactly if its flags are so.
 -- Assumes nothing.
+use Rattle.std.specs.Prelude.{None, Some}
 use mathlib.Core.Path.{◌≡◌, ◌∙◌, refl, sym, ap}
 use mathlib.Core.Bool.{Bool, true, false, ◌&&◌, ◌||◌, and-true, and_assoc, or-false}
 use mathlib.Core.List.{List, [], ◌∷◌, ◌++◌, append_assoc}
@@ -22,8 +23,6 @@ use Rattle.octets.proofs.Back.{length_number}
 use Rattle.octets.proofs.Writing.{number_two}
 use Rattle.octets.proofs.Stood.{octets_front}
 use Rattle.octets.proofs.EachWritten.{each_size}
-use Rattle.identity.specs.declared.Mme.TheVariants as mme
-use Rattle.identity.specs.declared.Mce.TheVariants as mce
 use Rattle.identity.specs.declared.Item.{Item}
 use Rattle.lent.specs.Lent.{same}
 use Rattle.lent.specs.Tests.{zeros}
@@ -68,7 +67,7 @@ half_same : (p : List ℕ) → Octets p → same (mme_row (row_mme p)) (three p)
 unfolding same
 half_same p o = by (eqb (get_or p 0 0) 0) refl
   where
-    by : (b : Bool) → eqb (get_or p 0 0) 0 ≡ b → same (mme_row (pick b mme.Absent (mme.Is (record { 0 = value_at 2 p 1 })))) (three p) ≡ (eqb (get_or p 0 0) 1 || (b && eqb (get_or p 1 0) 0 && eqb (get_or p 2 0) 0))
+    by : (b : Bool) → eqb (get_or p 0 0) 0 ≡ b → same (mme_row (pick b None (Some (record { 0 = value_at 2 p 1 })))) (three p) ≡ (eqb (get_or p 0 0) 1 || (b && eqb (get_or p 1 0) 0 && eqb (get_or p 2 0) 0))
     by true e =
         let f : get_or p 0 0 ≡ 0 = eqb-true (get_or p 0 0) 0 e in
         rw (f, eqb_turn 0 (get_or p 1 0), eqb_turn 0 (get_or p 2 0), and-true (eqb (get_or p 2 0) 0))
@@ -85,7 +84,7 @@ half_same p o = by (eqb (get_or p 0 0) 0) refl
 series_same : (p : List ℕ) → mce_row (row_mce p) ≡ mme_row (row_mme p)
 series_same p = by (eqb (get_or p 0 0) 0)
   where
-    by : (b : Bool) → mce_row (pick b mce.Absent (mce.Is (record { 0 = value_at 2 p 1 }))) ≡ mme_row (pick b mme.Absent (mme.Is (record { 0 = value_at 2 p 1 })))
+    by : (b : Bool) → mce_row (pick b None (Some (record { 0 = value_at 2 p 1 }))) ≡ mme_row (pick b None (Some (record { 0 = value_at 2 p 1 })))
     by true = refl
     by false = refl
 
@@ -93,7 +92,7 @@ length_half : (p : List ℕ) → length (mme_row (row_mme p)) ≡ 3
 unfolding number_octets
 length_half p = by (eqb (get_or p 0 0) 0)
   where
-    by : (b : Bool) → length (mme_row (pick b mme.Absent (mme.Is (record { 0 = value_at 2 p 1 })))) ≡ 3
+    by : (b : Bool) → length (mme_row (pick b None (Some (record { 0 = value_at 2 p 1 })))) ≡ 3
     by true = refl
     by false = refl
 
@@ -208,26 +207,27 @@ items_short s is h b =
 -- ---- a loop over the rows
 
 -- i of n rows are passed, and good says whether all of them were good
-pub record GoodTo (p : List ℕ) (n : ℕ) (good : Bool) (at i : ℕ) : Type 0 where
+pub record GoodTo (p : List ℕ) (n : ℕ) (good : Bool) (i : ℕ) : Type 0 where
   pub within : i ≤ n
-  pub place : at ≡ 6 * i
-  pub rest : (good && item_rows_good (n - i) (drop at p)) ≡ item_rows_good n p
+  pub rest : (good && item_rows_good (n - i) (drop (6 * i) p)) ≡ item_rows_good n p
 
-pub good_none : (p : List ℕ) (n : ℕ) → GoodTo p n true 0 0
-good_none p n = record { within = omega arith; place = refl; rest = rw (sub-zero n) }
+pub good_none : (p : List ℕ) (n : ℕ) → GoodTo p n true 0
+good_none p n = record { within = omega arith; rest = rw (sub-zero n) }
 
-module _ {p : List ℕ} {n : ℕ} {good : Bool} {at i : ℕ} (g : GoodTo p n good at i) where
-  pub good_more : {x y : Bool} → i < n → x ≡ half_good (get_or p at 0) (get_or p (at + 1) 0) (get_or p (at + 2) 0) → y ≡ half_good (get_or p (at + 3) 0) (get_or p (at + 4) 0) (get_or p (at + 5) 0)
-      → GoodTo p n (good && (x && y)) (at + 6) (i + 1)
+module _ {p : List ℕ} {n : ℕ} {good : Bool} {i : ℕ} (g : GoodTo p n good i) where
+  pub good_more : {x y : Bool} → i < n → x ≡ half_good (get_or p (6 * i) 0) (get_or p (6 * i + 1) 0) (get_or p (6 * i + 2) 0)
+      → y ≡ half_good (get_or p (6 * i + 3) 0) (get_or p (6 * i + 4) 0) (get_or p (6 * i + 5) 0) → GoodTo p n (good && (x && y)) (i + 1)
   unfolding item_rows_good
   good_more {x} {y} h e f =
       let s : n - i ≡ suc (n - (i + 1)) = omega arith in
-      let d : get_or (drop at p) 0 0 ≡ get_or p at 0 = get_or-drop at p 0 0 ∙ ap (λ (k : ℕ). get_or p k 0) (add-zero at) in
-      let r : (x && y) ≡ item_row_good (drop at p) = rw (d, get_or-drop at p 1 0, get_or-drop at p 2 0, get_or-drop at p 3 0, get_or-drop at p 4 0, get_or-drop at p 5 0, e, f) in
+      let k : 6 * (i + 1) ≡ 6 * i + 6 = omega arith in
+      let d : get_or (drop (6 * i) p) 0 0 ≡ get_or p (6 * i) 0 = get_or-drop (6 * i) p 0 0 ∙ ap (λ (k : ℕ). get_or p k 0) (add-zero (6 * i)) in
+      let r : (x && y) ≡ item_row_good (drop (6 * i) p) =
+      rw (d, get_or-drop (6 * i) p 1 0, get_or-drop (6 * i) p 2 0, get_or-drop (6 * i) p 3 0, get_or-drop (6 * i) p 4 0, get_or-drop (6 * i) p 5 0, e, f) in
+      let t : drop (6 * (i + 1)) p ≡ drop 6 (drop (6 * i) p) = rw k (sym (drop-drop 6 (6 * i) p)) in
       record {
         within = omega arith;
-        place = omega (arith, g.place);
-        rest = and_assoc good (x && y) (item_rows_good (n - (i + 1)) (drop (at + 6) p)) ∙ ((rw (r, ← drop-drop 6 at p)) ∙ (rw s at g.rest));
+        rest = and_assoc good (x && y) (item_rows_good (n - (i + 1)) (drop (6 * (i + 1)) p)) ∙ ((rw (r, t)) ∙ (rw s at g.rest));
       }
 
   pub good_all : n ≤ i → good ≡ item_rows_good n p

@@ -1,5 +1,7 @@
 -- Rows put one by one. What was put before reading stopped is put over: octets put at a place over fewer at that place leave those alone.
 -- Assumes nothing.
+use Rattle.identity.specs.declared.MceId.{MceId}
+use Rattle.identity.specs.declared.MmeId.{MmeId}
 use mathlib.Core.Path.{◌≡◌, ◌∙◌, refl, sym, ap, subst}
 use mathlib.Core.Bool.{Bool, true, false}
 use mathlib.Core.List.{List, [], ◌∷◌, ◌++◌, append_assoc, append-nil}
@@ -10,7 +12,8 @@ use lib.Dec.{eqb}
 use lib.ListN.{length, length-append, length-replicate, replicate, set}
 use lib.Seq.{sets, set-set, set_comm}
 use Rattle.lists.specs.Lists.{pick}
-use Rattle.octets.specs.Read.{Read, got, stop, or_none}
+use Rattle.std.specs.Prelude.{Ok, Err, None, Option, Some}
+use Rattle.octets.specs.Read.{Read, or_none}
 use Rattle.octets.specs.Field.{number_at}
 use Rattle.octets.specs.declared.Stop.{Stop}
 use Rattle.octets.proofs.Got.{number_got}
@@ -21,10 +24,6 @@ use Rattle.octets.specs.Stands.{Octets}
 use Rattle.octets.proofs.Back.{length_number}
 use Rattle.octets.proofs.Writing.{wrote_length, number_two}
 use Rattle.octets.proofs.EachWritten.{each_size}
-use Rattle.identity.specs.declared.Mme.{Mme}
-use Rattle.identity.specs.declared.Mme.TheVariants as mme
-use Rattle.identity.specs.declared.Mce.{Mce}
-use Rattle.identity.specs.declared.Mce.TheVariants as mce
 use Rattle.identity.specs.declared.Item.{Item}
 use Rattle.items.specs.Written.{GoodItem}
 use Rattle.layout.specs.Rows.{mme_row, mce_row, item_row, list_octets}
@@ -62,7 +61,7 @@ half_octets_lem n h = rw (ne_eqb n 0 h, number_two ((n - 1) % 65536) (omega arit
 series_row : (n : ℕ) → mce_row (mce_by n) ≡ mme_row (mme_by n)
 series_row n = by (eqb n 0)
   where
-    by : (b : Bool) → mce_row (pick b mce.Absent (mce.Is (record { 0 = (n - 1) % 65536 }))) ≡ mme_row (pick b mme.Absent (mme.Is (record { 0 = (n - 1) % 65536 })))
+    by : (b : Bool) → mce_row (pick b None (Some (record { 0 = (n - 1) % 65536 }))) ≡ mme_row (pick b None (Some (record { 0 = (n - 1) % 65536 })))
     by true = refl
     by false = refl
 
@@ -78,11 +77,11 @@ pub length_row : (i : Item) → length (item_row i) ≡ 6
 unfolding number_octets
 length_row i = by i.mme i.mce
   where
-    by : (m : Mme) (c : Mce) → length (mme_row m ++ mce_row c) ≡ 6
-    by (mme.Is v) (mce.Is w) = refl
-    by (mme.Is v) mce.Absent = refl
-    by mme.Absent (mce.Is w) = refl
-    by mme.Absent mce.Absent = refl
+    by : (m : Option MmeId) (c : Option MceId) → length (mme_row m ++ mce_row c) ≡ 6
+    by (Some v) (Some w) = refl
+    by (Some v) None = refl
+    by None (Some w) = refl
+    by None None = refl
 
 pub rows_small : (is : List Item) {i n : ℕ} → i ≡ length is → i ≤ n → n ≤ 256 → length (number_octets 2 n ++ each_octets word_row is) ≤ length (replicate {A = ℕ} 1538 0)
 rows_small is {i} {n} e h b =
@@ -111,12 +110,12 @@ rows_more is v {w} e = more is ∙ ap (λ (x : ℕ). each_octets word_row is ++ 
 -- ---- what was read, as it stands in the room
 
 module _ {l m : List ℕ} {at r : ℕ} {q : Read (List Item)} where
-  pub out_none : {x : Stop} → stop x ≡ q → Wrote l at (replicate 1538 0) m r → Wrote l at (list_octets 1536 item_row (or_none q)) m r
+  pub out_none : {x : Stop} → Err x ≡ q → Wrote l at (replicate 1538 0) m r → Wrote l at (list_octets 1536 item_row (or_none q)) m r
   out_none e w = subst (λ (vs : List ℕ). Wrote l at vs m r) (none_octets ∙ ap (λ (y : Read (List Item)). list_octets 1536 item_row (or_none y)) e) w
 
-  pub out_all : (is : List Item) {n : ℕ} → got is ≡ q → n ≡ length is → Each GoodItem is
+  pub out_all : (is : List Item) {n : ℕ} → Ok is ≡ q → n ≡ length is → Each GoodItem is
       → Wrote l at (number_octets 2 n ++ (each_octets word_row is ++ replicate (1536 - 6 * n) 0)) m r → Wrote l at (list_octets 1536 item_row (or_none q)) m r
   out_all is e k g w = subst (λ (vs : List ℕ). Wrote l at vs m r) (sym (list_octets_lem is k g) ∙ ap (λ (y : Read (List Item)). list_octets 1536 item_row (or_none y)) e) w
 
-pub octet_small : (s : List ℕ) (at : ℕ) {v : ℕ} → Octets s → got v ≡ number_at 1 s at → v < 256
+pub octet_small : (s : List ℕ) (at : ℕ) {v : ℕ} → Octets s → Ok v ≡ number_at 1 s at → v < 256
 octet_small s at o q = rw (number_got s at 1 q).1 (value_below 1 s at o)

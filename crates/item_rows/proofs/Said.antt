@@ -4,6 +4,7 @@
 --     row_item_lem, row_word       the item that such a word says is the row's
 --     said_octets, sized_row   their octets in a message
 -- Assumes nothing.
+use Rattle.std.specs.Prelude.{None, Some}
 use mathlib.Core.Path.{◌≡◌, ◌∙◌, refl, sym, ap}
 use mathlib.Core.Bool.{Bool, true, false}
 use mathlib.Core.List.{List, [], ◌∷◌, ◌++◌}
@@ -20,8 +21,6 @@ use Rattle.octets.specs.Stands.{Octets}
 use Rattle.octets.proofs.Again.{value_below}
 use Rattle.octets.proofs.Writing.{number_one}
 use Rattle.octets.proofs.EachWritten.{each_take}
-use Rattle.identity.specs.declared.Mme.TheVariants as mme
-use Rattle.identity.specs.declared.Mce.TheVariants as mce
 use Rattle.identity.specs.declared.Item.{Item}
 use Rattle.identity.specs.Items.{empty_item}
 use Rattle.items.specs.Written.{mme_in, mce_in, GoodMaybe, GoodItem, item_element_octets, items_octets}
@@ -61,7 +60,7 @@ module _ (s : List ℕ) (at : ℕ) where
   pub half_said : {a b : ℕ} → a ≡ at + 1 → b ≡ at + 2 → half_of (get_or s at 0) (get_or s a 0) (get_or s b 0) ≡ mme_number (row_mme (drop at s))
   half_said e f = rw (e, f, first_drop, get_or-drop at s 1 0, get_or-drop at s 2 0) (by (eqb (get_or s at 0) 0) (get_or s (at + 1) 0) (get_or s (at + 2) 0))
     where
-      by : (b : Bool) (h l : ℕ) → pick b 0 (h * 256 + l + 1) ≡ mme_number (pick b mme.Absent (mme.Is (record { 0 = h * 256 ^ 1 + (l * 256 ^ 0 + 0) })))
+      by : (b : Bool) (h l : ℕ) → pick b 0 (h * 256 + l + 1) ≡ mme_number (pick b None (Some (record { 0 = h * 256 ^ 1 + (l * 256 ^ 0 + 0) })))
       by true h l = refl
       by false h l = omega arith
 
@@ -72,7 +71,7 @@ module _ (s : List ℕ) (at : ℕ) where
 pub series_alike : (p : List ℕ) → mce_number (row_mce p) ≡ mme_number (row_mme p)
 series_alike p = by (eqb (get_or p 0 0) 0)
   where
-    by : (b : Bool) → mce_number (pick b mce.Absent (mce.Is (record { 0 = value_at 2 p 1 }))) ≡ mme_number (pick b mme.Absent (mme.Is (record { 0 = value_at 2 p 1 })))
+    by : (b : Bool) → mce_number (pick b None (Some (record { 0 = value_at 2 p 1 }))) ≡ mme_number (pick b None (Some (record { 0 = value_at 2 p 1 })))
     by true = refl
     by false = refl
 
@@ -85,11 +84,11 @@ word_said s at {m} {c} e f =
 good_row : (p : List ℕ) → Octets p → GoodItem (row_item p)
 good_row p o = (mme_good (eqb (get_or p 0 0) 0), mce_good (eqb (get_or (drop 3 p) 0 0) 0))
   where
-    mme_good : (b : Bool) → GoodMaybe (mme_in (pick b mme.Absent (mme.Is (record { 0 = value_at 2 p 1 }))))
+    mme_good : (b : Bool) → GoodMaybe (mme_in (pick b None (Some (record { 0 = value_at 2 p 1 }))))
     mme_good true = tt
     mme_good false = value_below 2 p 1 o
 
-    mce_good : (b : Bool) → GoodMaybe (mce_in (pick b mce.Absent (mce.Is (record { 0 = value_at 2 (drop 3 p) 1 }))))
+    mce_good : (b : Bool) → GoodMaybe (mce_in (pick b None (Some (record { 0 = value_at 2 (drop 3 p) 1 }))))
     mce_good true = tt
     mce_good false = value_below 2 (drop 3 p) 1 (octets_drop p 3 o)
 

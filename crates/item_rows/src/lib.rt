@@ -16,13 +16,12 @@ ghost use Rattle.layout.specs.Record.{lists_in};
 ghost use Rattle.item_words.specs.Words.{mme_number, word_of, mme_by, item_of};
 ghost use Rattle.item_rows.specs.Tests.{half_good, item_rows_good, half_of};
 
-use item_words::WordRead;
-use octets::{Gate, Octet};
 use put_values::Criticality;
 
 // ---- put
 
 // A half of a word: 1 and the identity, or zeros.
+#[tactic(auto, using(crate::proofs::Out::half_octets_lem))]
 fn half_out(room: &mut [u8], at: usize, n: u64) -> usize
     ensures { Wrote room.old at (mme_row (mme_by n)) room.new result }
 {
@@ -46,35 +45,30 @@ pub fn items_out(room: &mut [u8], at: usize, s: &[u8], from: usize) -> usize
     ensures { Wrote room.old at (list_octets 1536 item_row (or_none (items_at s.now from))) room.new result }
 {
     let n = match octets::octet_at(s, from) {
-        Octet::Is(v) => v as usize + 1,
-        Octet::Stop(_) => {
-            return octets::put_zeros(room, at, 1538);
-        }
+        Ok(v) => v as usize + 1,
+        Err(_) => return octets::put_zeros(room, at, 1538),
     };
     let mut to = octets::put_two(room, at, n as u16);
     let mut next = from + 1;
-    let mut i: usize = 0;
-    while i < n {
+    for i in 0..n {
         match item_words::word_element_at(s, next) {
-            WordRead::Is(w, e) => {
-                to = row_out(room, to, w);
-                next = e;
+            Ok(p) => {
+                to = row_out(room, to, p.value);
+                next = p.next;
             }
-            WordRead::Stop(_) => {
-                return octets::put_zeros(room, at, 1538);
-            }
+            Err(_) => return octets::put_zeros(room, at, 1538),
         }
-        i += 1;
     }
     match octets::ends_at(s, next) {
-        Gate::Pass => octets::put_zeros(room, to, 1536 - 6 * n),
-        Gate::Stop(_) => octets::put_zeros(room, at, 1538),
+        Ok(()) => octets::put_zeros(room, to, 1536 - 6 * n),
+        Err(_) => octets::put_zeros(room, at, 1538),
     }
 }
 
 // ---- judged
 
 // 1 and any identity, or zeros.
+#[tactic(auto, using(lent::proofs::Zeros::or_zero))]
 fn half_good(flag: u8, high: u8, low: u8) -> bool
     ensures { result ≡ half_good flag high low }
 {
@@ -82,35 +76,19 @@ fn half_good(flag: u8, high: u8, low: u8) -> bool
 }
 
 // The first n rows are those of items. The loop has no exit, so that the compiler takes several rows at a time.
+#[tactic(auto, using(crate::proofs::Judged::good_more, crate::proofs::Judged::good_all))]
 fn rows_good(p: &[u8], n: usize) -> bool
     requires { 6 * n ≤ length p.now }
     ensures { result ≡ item_rows_good n p.now }
 {
     let mut good = true;
-    let mut at: usize = 0;
-    let mut i: usize = 0;
-    while i < n {
+    for i in 0..n {
+        let at = 6 * i;
         let mme = half_good(p[at], p[at + 1], p[at + 2]);
         let mce = half_good(p[at + 3], p[at + 4], p[at + 5]);
-        good = good & (mme & mce);
-        at += 6;
-        i += 1;
+        good &= mme & mce;
     }
     good
-}
-
-// All octets from a place on are zero.
-fn zeros_from(p: &[u8], at: usize) -> bool
-    requires { at ≤ length p.now }
-    ensures { result ≡ zeros (drop at p.now) }
-{
-    let mut all: u8 = 0;
-    let mut i = at;
-    while i < p.len() {
-        all = all | p[i];
-        i += 1;
-    }
-    all == 0
 }
 
 // Octets are n rows of items and zeros behind them.
@@ -118,10 +96,7 @@ fn are_rows(p: &[u8], n: usize) -> bool
     requires { 6 * n ≤ length p.now }
     ensures { result ≡ (item_rows_good n p.now && zeros (drop (6 * n) p.now)) }
 {
-    if rows_good(p, n) {
-        return zeros_from(p, 6 * n);
-    }
-    false
+    rows_good(p, n) && lent::all_zero(&p[6 * n..])
 }
 
 // The octets of a record where its items stand are those of the items that they say.
@@ -131,34 +106,18 @@ pub fn are_items(s: &[u8]) -> bool
     if s.len() < 1636 {
         return false;
     }
-    let n = numbers::wide16(numbers::two(s[98], s[99]));
-    if 256 < n {
-        return false;
-    }
-    are_rows(&s[100..1636], n)
+    let n = usize::from(u16::from_be_bytes([s[98], s[99]]));
+    n <= 256 && are_rows(&s[100..1636], n)
 }
 
 // No items stand there: zeros.
 pub fn no_items(s: &[u8]) -> bool
     ensures { result ≡ same (list_octets 1536 item_row []) (slice 98 1636 s.now) }
 {
-    if s.len() < 1636 {
-        return false;
-    }
-    zeros_from(&s[98..1636], 0)
+    1636 <= s.len() && lent::all_zero(&s[98..1636])
 }
 
 // ---- taken
-
-// An octet; one that is missing is taken for 0.
-fn octet_in(s: &[u8], at: usize) -> u8
-    ensures { result ≡ get_or s.now at 0 }
-{
-    if at < s.len() {
-        return s[at];
-    }
-    0
-}
 
 // The half of a word that three octets say.
 fn half_of(flag: u8, high: u8, low: u8) -> u64
@@ -167,14 +126,18 @@ fn half_of(flag: u8, high: u8, low: u8) -> u64
     if flag == 0 {
         return 0;
     }
-    numbers::two(high, low) as u64 + 1
+    u16::from_be_bytes([high, low]) as u64 + 1
 }
 
 fn half_in(s: &[u8], at: usize) -> u64
     requires { at ≤ 2000 }
     ensures { (result ≡ mme_number (row_mme (drop at s.now))) × (result ≤ 65536) }
 {
-    half_of(octet_in(s, at), octet_in(s, at + 1), octet_in(s, at + 2))
+    half_of(
+        octets::octet_in(s, at),
+        octets::octet_in(s, at + 1),
+        octets::octet_in(s, at + 2),
+    )
 }
 
 // The word of the item that a row says; the row is looked for once where all of it is there.
@@ -195,45 +158,41 @@ fn row_size(s: &[u8], at: usize) -> usize
     requires { at ≤ 1900 }
     ensures { ((crit : ℕ) → result ≡ length (item_element_octets crit (row_item (drop at s.now)))) × (result ≤ 9) }
 {
-    let a = item_words::there(octet_in(s, at) as u64);
-    let b = item_words::there(octet_in(s, at + 3) as u64);
-    numbers::wide(5 + 2 * a + 2 * b)
+    let a = item_words::there(octets::octet_in(s, at) as u64);
+    let b = item_words::there(octets::octet_in(s, at + 3) as u64);
+    usize::from(5 + 2 * a + 2 * b)
 }
 
 // How many items octets say, which need not be a record's.
+#[tactic(auto, using(crate::proofs::Said::count_by))]
 pub fn said_items(s: &[u8]) -> usize
     ensures { result ≡ length (lists_in s.now).items }
 {
-    numbers::lesser(
-        numbers::wide16(numbers::two(octet_in(s, 98), octet_in(s, 99))),
-        256,
-    )
+    (usize::from(u16::from_be_bytes([octets::octet_in(s, 98), octets::octet_in(s, 99)]))).min(256)
 }
 
 // The octets of their list in a message, of whatever criticality.
+#[tactic(auto, using(crate::proofs::Said::said_small))]
 pub fn said_size(s: &[u8]) -> usize
     ensures { (crit : ℕ) → result ≡ length (items_octets crit (lists_in s.now).items) }
 {
     let n = said_items(s);
-    let mut size: usize = 1;
-    let mut i: usize = 0;
-    while i < n {
+    let mut size = 1;
+    for i in 0..n {
         size += row_size(s, 100 + 6 * i);
-        i += 1;
     }
     size
 }
 
 // Their list, as in a message.
+#[tactic(auto, using(crate::proofs::Said::said_small))]
 pub fn put_said(room: &mut [u8], at: usize, crit: Criticality, s: &[u8]) -> usize
     ensures { Wrote room.old at (items_octets (crit_of crit) (lists_in s.now).items) room.new result }
 {
     let n = said_items(s);
     let mut next = octets::put_octet(room, at, numbers::less_one(n));
-    let mut i: usize = 0;
-    while i < n {
+    for i in 0..n {
         next = item_words::put_word_element(room, next, crit, word_in(s, 100 + 6 * i));
-        i += 1;
     }
     next
 }

@@ -2,8 +2,6 @@
 -- Assumes nothing.
 use mathlib.Core.Path.{refl}
 use Rattle.lists.proofs.Unique.{Determined, ◌same◌, ◌&◌}
-use Rattle.octets.proofs.OneFound.{one_gate}
-use Rattle.item_words.proofs.OneFound.{one_word}
 use Rattle.item_words.proofs.word_of.Kinds as word_of'
 use Rattle.item_words.proofs.word_of.Reads as word_of
 use Rattle.item_words.proofs.item_of.Kinds as item_of'
@@ -36,13 +34,13 @@ pub item_of_is : Determined item_of'.ps item_of'.r item_of.Asked item_of.Learnt
 item_of_is κs a p x y e f = (e same f) & refl
 
 pub word_element_at_is : Determined word_element_at'.ps word_element_at'.r word_element_at.Asked word_element_at.Learnt
-word_element_at_is κs a p x y e f = one_word (e same f) & refl
+word_element_at_is κs a p x y e f = (e same f) & refl
 
 pub items_gate_is : Determined items_gate'.ps items_gate'.r items_gate.Asked items_gate.Learnt
-items_gate_is κs a p x y e f = one_gate (e same f) & refl
+items_gate_is κs a p x y e f = (e same f) & refl
 
 pub reset_gate_is : Determined reset_gate'.ps reset_gate'.r reset_gate.Asked reset_gate.Learnt
-reset_gate_is κs a p x y e f = one_gate (e same f) & refl
+reset_gate_is κs a p x y e f = (e same f) & refl
 
 pub items_into_is : Determined items_into'.ps items_into'.r items_into.Asked items_into.Learnt
 items_into_is κs a p x y e f = (e.0 same f.0) & refl & refl & (e.1 same f.1) & refl

@@ -2,5 +2,4 @@ pub mod Back
 pub mod Reading
 pub mod Full
 pub mod Written
-pub mod OneFound
 pub mod Determined

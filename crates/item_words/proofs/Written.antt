@@ -1,5 +1,6 @@
 -- The octets of the item that a word says, from the word's halves: whichever identities are there, the item's octets are these runs. And lists of them.
 -- Assumes nothing.
+use Rattle.std.specs.Prelude.{None, Some}
 use mathlib.Core.Path.{◌≡◌, ◌∙◌, refl, sym, ap, subst}
 use mathlib.Core.Bool.{Bool, true, false, not}
 use mathlib.Core.List.{List, [], ◌∷◌, ◌++◌, map}
@@ -17,8 +18,6 @@ use Rattle.octets.specs.Write.{number_octets, length_octets, Wrote}
 use Rattle.octets.specs.Many.{each_octets}
 use Rattle.octets.proofs.EachWritten.{each_take}
 use Rattle.octets.proofs.Writing.{wrote_then, number_two}
-use Rattle.identity.specs.declared.Mme.TheVariants as mme
-use Rattle.identity.specs.declared.Mce.TheVariants as mce
 use Rattle.identity.specs.declared.Item.{Item}
 use Rattle.items.specs.Written.{item_octets, item_element_octets, items_octets}
 use Rattle.item_words.specs.Words.{item_of, identified, there_in, half_octets, IfNine, full_octets}
@@ -26,7 +25,7 @@ use Rattle.item_words.specs.Words.{item_of, identified, there_in, half_octets, I
 -- by which identities are there
 module _ (crit u v : ℕ) where
   abbrev pub pieces : Bool → Bool → Item
-  pieces p q = record { mme = pick p mme.Absent (mme.Is (record { 0 = u })); mce = pick q mce.Absent (mce.Is (record { 0 = v })) }
+  pieces p q = record { mme = pick p None (Some (record { 0 = u })); mce = pick q None (Some (record { 0 = v })) }
 
   by_halves : (p q : Bool)
       → ((((0 ∷ 14 ∷ packed (2 bits crit ∷ []) ∷ []) ++ (1 + 2 * pick p 0 1 + 2 * pick q 0 1) ∷ []) ++ (64 * pick p 0 1 + 32 * pick q 0 1) ∷ []) ++ pick p [] (number_octets 2 u)) ++ pick q [] (number_octets 2 v)
@@ -51,20 +50,6 @@ module _ (crit w : ℕ) {a b : ℕ} (e : a ≡ there_in (w % 4294967296)) (f : b
 
   pub word_length : 5 + 2 * a + 2 * b ≡ length (item_element_octets crit (item_of w))
   word_length = rw (e, f) (size_by_halves crit ((w % 4294967296 - 1) % 65536) ((w / 4294967296 - 1) % 65536) (eqb (w % 4294967296) 0) (eqb (w / 4294967296) 0))
-
--- nine stores in a row
-pub stored_nine : (l : List ℕ) (at x m c : ℕ) → at + 9 ≤ length l
-    → Wrote l at (full_octets x m c) (set (set (set (set (set (set (set (set (set l at 0) (at + 1) 14) (at + 2) x) (at + 3) 5) (at + 4) 96) (at + 5) (m / 256)) (at + 6) (m % 256)) (at + 7) (c / 256)) (at + 8) (c % 256)) (at + 9)
-stored_nine l at x m c h =
-    let a : at + 1 ≡ suc at = omega arith in
-    let b : at + 2 ≡ suc (suc at) = omega arith in
-    let d : at + 3 ≡ suc (suc (suc at)) = omega arith in
-    let e : at + 4 ≡ suc (suc (suc (suc at))) = omega arith in
-    let f : at + 5 ≡ suc (suc (suc (suc (suc at)))) = omega arith in
-    let g : at + 6 ≡ suc (suc (suc (suc (suc (suc at))))) = omega arith in
-    let i : at + 7 ≡ suc (suc (suc (suc (suc (suc (suc at)))))) = omega arith in
-    let j : at + 8 ≡ suc (suc (suc (suc (suc (suc (suc (suc at))))))) = omega arith in
-    record { octets = rw (a, b, d, e, f, g, i, j); next = omega arith }
 
 -- an item with both identities
 pub full_octets_lem : (crit w : ℕ) {x : ℕ} → 0 < w % 4294967296 → 0 < w / 4294967296 → x ≡ packed (2 bits crit ∷ [])

@@ -1,48 +1,38 @@
 -- Scaffolding: no demand speaks of it. Items read as words, and what stands in lent words after a list was read into them.
-use Rattle.std.specs.Prelude.{ℕ, ◌+◌, ◌%◌, ◌<◌, ◌≤◌, ◌≡◌, Bool, true, false, List, [], map, length, get_or}
+use Rattle.std.specs.Prelude.{ℕ, ◌+◌, ◌%◌, ◌<◌, ◌≤◌, ◌≡◌, Bool, true, false, List, [], map, length, get_or, Option, None, Some, Ok, Err}
 use Rattle.std.proofs.lemmas.List.Edits.{sets}
-use Rattle.octets.specs.Read.{Read, got, stop, or_none}
-use Rattle.octets.specs.Many.{Part}
+use Rattle.octets.specs.Read.{Read, ◌>>=◌, or_none}
+use Rattle.octets.specs.declared.Part.{Part}
 use Rattle.octets.specs.Write.{Wrote}
 use Rattle.identity.specs.declared.Item.{Item}
 use Rattle.items.specs.Items.{ResetType, whole, part}
 use Rattle.item_words.specs.Words.{word_of}
-use Rattle.item_words.specs.declared.WordRead.{WordRead}
-use Rattle.item_words.specs.declared.WordRead.TheVariants as word_read
-use Rattle.item_words.specs.declared.Taken.{Taken}
-use Rattle.item_words.specs.declared.Taken.TheVariants as taken
-use Rattle.item_words.specs.declared.ResetTaken.{ResetTaken}
-use Rattle.item_words.specs.declared.ResetTaken.TheVariants as reset_taken
-
--- the answer as a reading, and the reading that it stands for
-abbrev pub found_word : WordRead → Read (Part ℕ)
-found_word (word_read.Is w n) = got (record { value = w; next = n })
-found_word (word_read.Stop x) = stop x
 
 abbrev pub worded : Read (Part Item) → Read (Part ℕ)
-worded (got p) = got (record { value = word_of p.value; next = p.next })
-worded (stop x) = stop x
+worded (Ok p) = Ok (record { value = word_of p.value; next = p.next })
+worded (Err x) = Err x
 
 -- the items of a part of the interface
 abbrev pub part_items : Read ResetType → List Item
-part_items (got whole) = []
-part_items (got (part is)) = is
-part_items (stop x) = []
+part_items (Ok whole) = []
+part_items (Ok (part is)) = is
+part_items (Err x) = []
 
-abbrev pub taken_of : Read (List Item) → Taken
-taken_of (got is) = taken.Is (length is)
-taken_of (stop x) = taken.Stop x
+-- how many items were read
+abbrev pub taken_of : Read (List Item) → Read ℕ
+taken_of q = q >>= λ is. Ok (length is)
 
-abbrev pub reset_taken_of : Read ResetType → ResetTaken
-reset_taken_of (got whole) = reset_taken.Whole
-reset_taken_of (got (part is)) = reset_taken.Part (length is)
-reset_taken_of (stop x) = reset_taken.Stop x
+-- and of a part of the interface; none for the whole
+abbrev pub reset_taken_of : Read ResetType → Read (Option ℕ)
+reset_taken_of (Ok whole) = Ok None
+reset_taken_of (Ok (part is)) = Ok (Some (length is))
+reset_taken_of (Err x) = Err x
 
 -- l and m are the words before and after, r is the answer; where nothing is put in, m is l
-abbrev pub Taking : Read (List Item) → List ℕ → Taken → List ℕ → Type 0
+abbrev pub Taking : Read (List Item) → List ℕ → Read ℕ → List ℕ → Type 0
 Taking q l r m = (r ≡ taken_of q) × (m ≡ sets l 0 (map word_of (or_none q)))
 
-abbrev pub ResetTaking : Read ResetType → List ℕ → ResetTaken → List ℕ → Type 0
+abbrev pub ResetTaking : Read ResetType → List ℕ → Read (Option ℕ) → List ℕ → Type 0
 ResetTaking q l r m = (r ≡ reset_taken_of q) × (m ≡ sets l 0 (map word_of (part_items q)))
 
 -- ---- inside the reader
@@ -64,5 +54,5 @@ IfFull false s at = Unit
 
 -- said where the items can be read: r is the place behind the last word
 abbrev pub Filling : Read (Part (List Item)) → List ℕ → List ℕ → ℕ → Type 0
-Filling (got p) l m r = Wrote l 0 (map word_of p.value) m r
-Filling (stop x) l m r = Unit
+Filling (Ok p) l m r = Wrote l 0 (map word_of p.value) m r
+Filling (Err x) l m r = Unit

@@ -1,31 +1,34 @@
 -- Scaffolding: no demand speaks of it. Items as words. A word of 0 is the item without an identity.
-use Rattle.std.specs.Prelude.{ℕ, ◌+◌, ◌-◌, ◌*◌, ◌/◌, ◌%◌, ◌<◌, ◌≤◌, Bool, true, false, not, List, [], ◌∷◌, eqb}
+use Rattle.identity.specs.declared.MceId.{MceId}
+use Rattle.identity.specs.declared.MmeId.{MmeId}
+use Rattle.std.specs.Prelude.{ℕ, ◌+◌, ◌-◌, ◌*◌, ◌/◌, ◌%◌, ◌<◌, ◌≤◌, Bool, true, false, not, List, [], ◌∷◌, eqb, None, Option, Some}
 use Rattle.lists.specs.Lists.{pick, keep}
 use Rattle.octets.specs.Write.{number_octets}
-use Rattle.identity.specs.declared.Mme.{Mme}
-use Rattle.identity.specs.declared.Mme.TheVariants as mme
-use Rattle.identity.specs.declared.Mce.{Mce}
-use Rattle.identity.specs.declared.Mce.TheVariants as mce
 use Rattle.identity.specs.declared.Item.{Item}
 
 -- one more than the identity, or 0
-abbrev pub mme_number : Mme → ℕ
-mme_number (mme.Is v) = v.0 + 1
-mme_number mme.Absent = 0
+abbrev pub identity_number : {I : Type 0} → (I → ℕ) → Option I → ℕ
+identity_number number (Some v) = number v + 1
+identity_number number None = 0
 
-abbrev pub mce_number : Mce → ℕ
-mce_number (mce.Is v) = v.0 + 1
-mce_number mce.Absent = 0
+abbrev pub mme_number : Option MmeId → ℕ
+mme_number = identity_number (λ v. v.0)
+
+abbrev pub mce_number : Option MceId → ℕ
+mce_number = identity_number (λ v. v.0)
 
 abbrev pub word_of : Item → ℕ
 word_of i = mme_number i.mme + mce_number i.mce * 4294967296
 
 -- what any number says
-abbrev pub mme_by : ℕ → Mme
-mme_by n = pick (eqb n 0) mme.Absent (mme.Is (record { 0 = (n - 1) % 65536 }))
+abbrev pub identity_by : {I : Type 0} → (ℕ → I) → ℕ → Option I
+identity_by numbered n = pick (eqb n 0) None (Some (numbered ((n - 1) % 65536)))
 
-abbrev pub mce_by : ℕ → Mce
-mce_by n = pick (eqb n 0) mce.Absent (mce.Is (record { 0 = (n - 1) % 65536 }))
+abbrev pub mme_by : ℕ → Option MmeId
+mme_by = identity_by (λ v. record { 0 = v })
+
+abbrev pub mce_by : ℕ → Option MceId
+mce_by = identity_by (λ v. record { 0 = v })
 
 abbrev pub item_of : ℕ → Item
 item_of w = record { mme = mme_by (w % 4294967296); mce = mce_by (w / 4294967296) }

@@ -1,12 +1,12 @@
 -- Reading what was written gives the value; an item, a list and a Reset Type end with what encloses them.
 -- Assumes nothing.
-use mathlib.Core.Path.{◌≡◌, refl}
+use mathlib.Core.Path.{◌≡◌, refl, sym, ap}
 use mathlib.Core.Bool.{Bool, true, false}
 use mathlib.Core.List.{List, [], ◌∷◌, ◌++◌}
 use Prim.Native.Nat.{ℕ, ◌+◌, ◌-◌, ◌<◌, ◌≤◌}
 use native.Mathlib.Omega.{arith}
 use lib.ListN.{length, take, length-append}
-use Rattle.octets.specs.Read.{got}
+use Rattle.std.specs.Prelude.{Ok, None, Option, Some}
 use Rattle.packed.specs.Packed.{◌bits◌, bit, packed, Fit}
 use Rattle.octets.specs.Write.{number_octets, length_octets}
 use Rattle.octets.specs.Stands.{Stands, Fills}
@@ -15,14 +15,11 @@ use Rattle.octets.proofs.Stood.{stands_split, fills_front}
 use Rattle.octets.proofs.Back.{length_number, number_back, same_back, flag_back, choice_back, plain_back, rest_back, open_back, ends_back}
 use Rattle.octets.specs.Many.{each_octets}
 use Rattle.octets.proofs.ManyLaws.{many_back}
-use Rattle.identity.specs.declared.Mme.{Mme}
-use Rattle.identity.specs.declared.Mme.TheVariants as mme
-use Rattle.identity.specs.declared.Mce.{Mce}
-use Rattle.identity.specs.declared.Mce.TheVariants as mce
+use Rattle.identity.specs.Identity.{Numbering, mme_numbering, mce_numbering}
 use Rattle.identity.specs.declared.Item.{Item}
-use Rattle.item.specs.Item.{maybe_identity_at, mme_is, mce_is, behind, item_marks_at, item_at, item_element_at}
+use Rattle.item.specs.Item.{maybe_identity_at, behind, item_marks_at, item_at, item_element_at}
 use Rattle.items.specs.Items.{items_at, ResetType, whole, part, reset_at}
-use Rattle.items.specs.Written.{Maybe, There, None, mme_in, mce_in, is_there, maybe_octets, item_octets, item_element_octets, items_octets, reset_crit, reset_octets, GoodMaybe, GoodItem, GoodItems, GoodReset}
+use Rattle.items.specs.Written.{identity_in, mme_in, mce_in, is_there, maybe_octets, item_octets, item_element_octets, items_octets, reset_crit, reset_octets, GoodMaybe, GoodItem, GoodItems, GoodReset}
 
 -- ---- an item
 
@@ -36,7 +33,7 @@ bits_fit true false = (omega arith, omega arith, (omega arith, omega arith, (ome
 bits_fit false true = (omega arith, omega arith, (omega arith, omega arith, (omega arith, omega arith, (omega arith, omega arith, tt))))
 bits_fit false false = (omega arith, omega arith, (omega arith, omega arith, (omega arith, omega arith, (omega arith, omega arith, tt))))
 
-marks_back : (s : List ℕ) (at : ℕ) (m c : Bool) → Stands s at (packed (bit false ∷ bit m ∷ bit c ∷ bit false ∷ []) ∷ []) → got (record { mme = m; mce = c }) ≡ item_marks_at s at
+marks_back : (s : List ℕ) (at : ℕ) (m c : Bool) → Stands s at (packed (bit false ∷ bit m ∷ bit c ∷ bit false ∷ []) ∷ []) → Ok (record { mme = m; mce = c }) ≡ item_marks_at s at
 unfolding item_marks_at
 marks_back s at m c h =
     let p = bit_width m in
@@ -47,64 +44,50 @@ marks_back s at m c h =
     (past _ tt (rw (p, q) at (plain_back s at (bit false ∷ bit m ∷ bit c ∷ []) [] (bits_fit m c) (omega arith) h))
     (past _ tt (rw (p, q) at (rest_back s at (bit false ∷ bit m ∷ bit c ∷ bit false ∷ []) (bits_fit m c) (omega arith) (omega arith) h)) refl))))
 
--- an identity is read where its number stands: once for both series, over how they make it of a number
-module _ {A : Type 0} (is : ℕ → A) (absent : A) where
-  abbrev pub of_number : Maybe → A
-  of_number (There v) = is v
-  of_number None = absent
-
-  maybe_back : (s : List ℕ) (at : ℕ) (x : Maybe) → GoodMaybe x → Stands s at (maybe_octets x) → got (of_number x) ≡ maybe_identity_at is absent (is_there x) s at
-  maybe_back s at (There v) b h = past _ v (number_back 2 s at v b h) refl
-  maybe_back s at None b h = refl
+-- an identity is read where its number stands, of the one that the series makes of it
+maybe_back : {I : Type 0} {numbered : ℕ → I} {number : I → ℕ} → Numbering numbered number → (s : List ℕ) (at : ℕ) (x : Option I) → GoodMaybe (identity_in number x)
+    → Stands s at (maybe_octets (identity_in number x)) → Ok x ≡ maybe_identity_at numbered (is_there (identity_in number x)) s at
+maybe_back {number = number} n s at (Some v) b h = past _ (number v) (number_back 2 s at (number v) b h) (ap (λ y. Ok (Some y)) (sym (n.again v)))
+maybe_back n s at None b h = refl
 
 -- the place behind a number, by its octets
-pub behind_octets : (x : Maybe) (at : ℕ) → behind (is_there x) at ≡ at + length (maybe_octets x)
-behind_octets (There v) at = rw (length_number 2 v)
+pub behind_octets : (x : Option ℕ) (at : ℕ) → behind (is_there x) at ≡ at + length (maybe_octets x)
+behind_octets (Some v) at = rw (length_number 2 v)
 behind_octets None at = omega arith
 
--- an identity is its number in its series
-mme_in_of : (x : Mme) → of_number mme_is mme.Absent (mme_in x) ≡ x
-mme_in_of (mme.Is v) = refl
-mme_in_of mme.Absent = refl
-
-mce_in_of : (x : Mce) → of_number mce_is mce.Absent (mce_in x) ≡ x
-mce_in_of (mce.Is v) = refl
-mce_in_of mce.Absent = refl
-
-pub item_back : (s : List ℕ) (at : ℕ) (i : Item) → GoodItem i → Fills s at (item_octets i) → got i ≡ item_at s at
+pub item_back : (s : List ℕ) (at : ℕ) (i : Item) → GoodItem i → Fills s at (item_octets i) → Ok i ≡ item_at s at
 unfolding item_octets item_at
 item_back s at i g f =
-    let x : Maybe = mme_in i.mme in
-    let y : Maybe = mce_in i.mce in
+    let x : Option ℕ = mme_in i.mme in
+    let y : Option ℕ = mce_in i.mce in
     let a = stands_split (packed (bit false ∷ bit (is_there x) ∷ bit (is_there y) ∷ bit false ∷ []) ∷ []) (maybe_octets x ++ maybe_octets y) f.stands in
     let b = stands_split (maybe_octets x) (maybe_octets y) a.1 in
     let e = f.ends in
     let n = length-append (maybe_octets x) (maybe_octets y) in
     past _ _ (marks_back s at (is_there x) (is_there y) a.0)
-    (past _ (of_number mme_is mme.Absent x) (maybe_back mme_is mme.Absent s (at + 1) x g.0 b.0)
-    (past _ (of_number mce_is mce.Absent y) (maybe_back mce_is mce.Absent s (behind (is_there x) (at + 1)) y g.1 (rw (behind_octets x (at + 1)) b.1))
-    (past _ tt (ends_back s (behind (is_there y) (behind (is_there x) (at + 1))) (rw (behind_octets x (at + 1), behind_octets y) (omega arith)))
-    (rw (mme_in_of i.mme, mce_in_of i.mce)))))
+    (past _ i.mme (maybe_back mme_numbering s (at + 1) i.mme g.0 b.0)
+    (past _ i.mce (maybe_back mce_numbering s (behind (is_there x) (at + 1)) i.mce g.1 (rw (behind_octets x (at + 1)) b.1))
+    (past _ tt (ends_back s (behind (is_there y) (behind (is_there x) (at + 1))) (rw (behind_octets x (at + 1), behind_octets y) (omega arith))) refl)))
 
 -- ---- an item in its envelope, and a list
 
-pub maybe_size : (x : Maybe) → length (maybe_octets x) ≤ 2
-maybe_size (There v) = rw (length_number 2 v) (omega arith)
+pub maybe_size : (x : Option ℕ) → length (maybe_octets x) ≤ 2
+maybe_size (Some v) = rw (length_number 2 v) (omega arith)
 maybe_size None = omega arith
 
 -- an item has 1 to 5 octets
 pub item_size : (i : Item) → (0 < length (item_octets i)) × (length (item_octets i) ≤ 5)
 unfolding item_octets
 item_size i =
-    let x : Maybe = mme_in i.mme in
-    let y : Maybe = mce_in i.mce in
+    let x : Option ℕ = mme_in i.mme in
+    let y : Option ℕ = mce_in i.mce in
     let n = length-append (maybe_octets x) (maybe_octets y) in
     let a = maybe_size x in
     let b = maybe_size y in
     (omega arith, omega arith)
 
 pub item_element_back : (crit : ℕ) → crit < 3 → (s : List ℕ) (at : ℕ) (i : Item) → GoodItem i → Stands s at (item_element_octets crit i)
-    → got (record { value = i; next = at + length (item_element_octets crit i) }) ≡ item_element_at s at
+    → Ok (record { value = i; next = at + length (item_element_octets crit i) }) ≡ item_element_at s at
 unfolding item_element_octets item_element_at
 item_element_back crit c s at i g h =
     let vs : List ℕ = item_octets i in
@@ -126,7 +109,7 @@ item_element_back crit c s at i g h =
     (past _ i (item_back (take (at + 3 + length ls + length vs) s) (at + 3 + length ls) i g (fills_front v.1))
     (rw e)))))
 
-pub items_back : (crit : ℕ) → crit < 3 → (s : List ℕ) (at : ℕ) (is : List Item) → GoodItems is → Fills s at (items_octets crit is) → got is ≡ items_at s at
+pub items_back : (crit : ℕ) → crit < 3 → (s : List ℕ) (at : ℕ) (is : List Item) → GoodItems is → Fills s at (items_octets crit is) → Ok is ≡ items_at s at
 unfolding items_octets items_at
 items_back crit c s at is g f =
     let n : ℕ = length is - 1 in
@@ -142,7 +125,7 @@ items_back crit c s at is g f =
     (past _ _ (rw k at (many_back s (item_element_at s) (item_element_octets crit) GoodItem (item_element_back crit c s) is (at + 1) g.2 d))
     (past _ tt (ends_back s (at + 1 + length (each_octets (item_element_octets crit) is)) (omega arith)) refl))
 
-pub reset_back : (s : List ℕ) (at : ℕ) (r : ResetType) → GoodReset r → Fills s at (reset_octets r) → got r ≡ reset_at s at
+pub reset_back : (s : List ℕ) (at : ℕ) (r : ResetType) → GoodReset r → Fills s at (reset_octets r) → Ok r ≡ reset_at s at
 unfolding reset_octets reset_at
 reset_back s at whole g f =
     let h = f.stands in

@@ -2,7 +2,8 @@
 -- Assumes nothing.
 use Prim.Native.Nat.{ℕ, ◌<◌}
 use mathlib.Core.Path.{refl}
-use Rattle.octets.specs.Read.{got, ◌>>=◌}
+use Rattle.std.specs.Prelude.{Ok}
+use Rattle.octets.specs.Read.{◌>>=◌}
 use Rattle.octets.proofs.Chain.{past}
 use Rattle.octets.specs.Stands.{StaysDifferent}
 use Rattle.octets.proofs.Different.{stays_different, ends_different}
@@ -15,7 +16,7 @@ pub item : StaysDifferent GoodItem item_octets
 item = ends_different _ item_octets item_at item_back
 
 pub elements : (crit : ℕ) → crit < 3 → StaysDifferent GoodItem (item_element_octets crit)
-elements crit c = stays_different _ (item_element_octets crit) (λ s at. item_element_at s at >>= λ p. got p.value) (λ s at i g h. past _ _ (item_element_back crit c s at i g h) refl)
+elements crit c = stays_different _ (item_element_octets crit) (λ s at. item_element_at s at >>= λ p. Ok p.value) (λ s at i g h. past _ _ (item_element_back crit c s at i g h) refl)
 
 pub items : (crit : ℕ) → crit < 3 → StaysDifferent GoodItems (items_octets crit)
 items crit c = ends_different _ (items_octets crit) items_at (items_back crit c)

@@ -1,6 +1,6 @@
 -- Lists of reset items, and the Reset Type.
-use Rattle.std.specs.Prelude.{ℕ, ◌+◌, Bool, true, false, List}
-use Rattle.octets.specs.Read.{Read, got, ◌>>=◌, ◌>>◌}
+use Rattle.std.specs.Prelude.{ℕ, ◌+◌, Bool, true, false, List, Ok}
+use Rattle.octets.specs.Read.{Read, ◌>>=◌, ◌>>◌}
 use Rattle.octets.specs.Field.{flag_at, plain_at, pad_at, number_at, ends_at}
 use Rattle.octets.specs.Many.{many}
 use Rattle.identity.specs.declared.Item.{Item}
@@ -12,7 +12,7 @@ items_at s at = do
   n ← number_at 1 s at
   is ← many (item_element_at s) (n + 1) (at + 1)
   ends_at s is.next
-  got is.value
+  Ok is.value
 
 -- a Reset Type says: the whole interface, or these
 pub data ResetType : Type 0 where
@@ -21,8 +21,8 @@ pub data ResetType : Type 0 where
 
 -- ResetType ::= CHOICE { m3-Interface ENUMERATED { reset-all, ... }, partOfM3-Interface, ... }
 abbrev pub chosen_reset_at : Bool → List ℕ → ℕ → Read ResetType
-chosen_reset_at false s at = plain_at s at 2 >> (pad_at s at 3 >> (ends_at s (at + 1) >> got whole))
-chosen_reset_at true s at = pad_at s at 2 >> (items_at s (at + 1) >>= λ is. got (part is))
+chosen_reset_at false s at = plain_at s at 2 >> (pad_at s at 3 >> (ends_at s (at + 1) >> Ok whole))
+chosen_reset_at true s at = pad_at s at 2 >> (items_at s (at + 1) >>= λ is. Ok (part is))
 
 unfoldable pub reset_at : List ℕ → ℕ → Read ResetType
 reset_at s at = do

@@ -1,36 +1,33 @@
 -- The octets of reset items, their envelopes and lists, and of the Reset Type; and which have octets.
-use Rattle.std.specs.Prelude.{ℕ, ◌+◌, ◌-◌, ◌<◌, ◌≤◌, ◌≡◌, Bool, true, false, List, [], ◌∷◌, ◌++◌, length}
-use Rattle.octets.specs.Read.{Read, got, ◌>>=◌}
+use Rattle.identity.specs.declared.MceId.{MceId}
+use Rattle.identity.specs.declared.MmeId.{MmeId}
+use Rattle.std.specs.Prelude.{ℕ, ◌+◌, ◌-◌, ◌<◌, ◌≤◌, ◌≡◌, Bool, true, false, List, [], ◌∷◌, ◌++◌, length, Ok, None, Option, Some}
+use Rattle.octets.specs.Read.{Read, ◌>>=◌}
 use Rattle.octets.specs.Field.{choice_at, number_at, open_at}
-use Rattle.octets.specs.Many.{Part, many, each_octets, Each}
+use Rattle.octets.specs.Many.{many, each_octets, Each}
+use Rattle.octets.specs.declared.Part.{Part}
 use Rattle.packed.specs.Packed.{◌bits◌, bit, packed}
 use Rattle.octets.specs.Write.{number_octets, length_octets}
-use Rattle.identity.specs.declared.Mme.{Mme}
-use Rattle.identity.specs.declared.Mme.TheVariants as mme
-use Rattle.identity.specs.declared.Mce.{Mce}
-use Rattle.identity.specs.declared.Mce.TheVariants as mce
 use Rattle.identity.specs.declared.Item.{Item}
 use Rattle.items.specs.Items.{ResetType, whole, part}
 
 -- what of an identity is written, in either series: its number, if it is there
-pub data Maybe : Type 0 where
-  There : ℕ → Maybe
-  None : Maybe
+abbrev pub identity_in : {I : Type 0} → (I → ℕ) → Option I → Option ℕ
+identity_in number (Some v) = Some (number v)
+identity_in number None = None
 
-abbrev pub mme_in : Mme → Maybe
-mme_in (mme.Is v) = There v.0
-mme_in mme.Absent = None
+abbrev pub mme_in : Option MmeId → Option ℕ
+mme_in = identity_in (λ v. v.0)
 
-abbrev pub mce_in : Mce → Maybe
-mce_in (mce.Is v) = There v.0
-mce_in mce.Absent = None
+abbrev pub mce_in : Option MceId → Option ℕ
+mce_in = identity_in (λ v. v.0)
 
-abbrev pub is_there : Maybe → Bool
-is_there (There v) = true
+abbrev pub is_there : Option ℕ → Bool
+is_there (Some v) = true
 is_there None = false
 
-abbrev pub maybe_octets : Maybe → List ℕ
-maybe_octets (There v) = number_octets 2 v
+abbrev pub maybe_octets : Option ℕ → List ℕ
+maybe_octets (Some v) = number_octets 2 v
 maybe_octets None = []
 
 -- no extension; which identities are there; no extensions present; the identities, MME first
@@ -60,8 +57,8 @@ reset_octets whole = packed (bit false ∷ bit false ∷ bit false ∷ []) ∷ [
 reset_octets (part is) = packed (bit false ∷ bit true ∷ []) ∷ items_octets reset_crit is
 
 -- numbers of two octets; 1 to 256 items
-abbrev pub GoodMaybe : Maybe → Type 0
-GoodMaybe (There v) = v < 65536
+abbrev pub GoodMaybe : Option ℕ → Type 0
+GoodMaybe (Some v) = v < 65536
 GoodMaybe None = Unit
 
 abbrev pub GoodItem : Item → Type 0
@@ -79,17 +76,17 @@ unfoldable pub envelope_crit_at : List ℕ → ℕ → Read (Part ℕ)
 envelope_crit_at s at = do
   c ← choice_at 3 2 s (at + 2) 0
   v ← open_at s (at + 3)
-  got (record { value = c; next = v.to })
+  Ok (record { value = c; next = v.to })
 
 unfoldable pub crits_at : List ℕ → ℕ → Read (List ℕ)
 crits_at s at = do
   n ← number_at 1 s at
   cs ← many (envelope_crit_at s) (n + 1) (at + 1)
-  got cs.value
+  Ok cs.value
 
 -- each envelope of the list at the place has this criticality
 abbrev pub Marked : ℕ → List ℕ → ℕ → Type 0
-Marked crit s at = (cs : List ℕ) × (got cs ≡ crits_at s at) × Each (λ (c : ℕ). c ≡ crit) cs
+Marked crit s at = (cs : List ℕ) × (Ok cs ≡ crits_at s at) × Each (λ (c : ℕ). c ≡ crit) cs
 
 -- of a Reset Type's items: reject
 abbrev pub Rejecting : ResetType → List ℕ → ℕ → Type 0

@@ -1,18 +1,17 @@
 -- What stands behind the elements: nothing, or the extensions in a container, one after another.
---     follows_as, follows_stop, follows_none   what is the same; what cannot be read; nothing
+--     follows_as, follows_stop, follows_got, follows_none   what is the same; what cannot be read; what was read; nothing
+--     stops_there, counted_there               what stands there, by what is handed back
 --     Passing, passing-*                       the extensions passed are counted, and what is left
 -- Assumes nothing.
 use mathlib.Core.Path.{◌≡◌, ◌∙◌, refl, sym, ap, subst}
 use mathlib.Core.Bool.{false}
 use mathlib.Core.List.{List, [], ◌∷◌, ◌++◌, append-nil, append_assoc}
 use Prim.Native.Nat.{ℕ, ◌-◌}
-use Rattle.octets.specs.Read.{Read, got, stop, ◌>>=◌, ◌>>◌}
-use Rattle.octets.specs.Found.{found_gate}
+use Rattle.std.specs.Prelude.{Ok, Err}
+use Rattle.octets.specs.Read.{Read}
 use Rattle.octets.specs.Field.{ends_at}
-use Rattle.octets.specs.declared.Gate.{Gate}
-use Rattle.octets.specs.declared.Gate.TheVariants as gate
 use Rattle.octets.specs.declared.Stop.{Stop}
-use Rattle.octets.proofs.Chain.{halt, then_got, same_got, got_stop}
+use Rattle.octets.proofs.Chain.{past, halt, same_got, got_stop}
 use Rattle.kinds.proofs.Laws.{carried}
 use Rattle.entries.specs.declared.Entry.{Entry}
 use Rattle.rows.specs.Table.{find}
@@ -21,41 +20,35 @@ use Rattle.envelopes.specs.Envelope.{envelope_at, scan_at, heads_at}
 use Rattle.envelopes.proofs.ScanLaws.{scan_none, scan_cut, scan_more, heads_none, heads_one}
 use Rattle.elements.specs.Judge.{unknown_of, counted_extensions_at, extensions_at}
 use Rattle.elements.proofs.WalkLaws.{unknown_snoc}
-use Rattle.judging.specs.declared.Behind.{Behind}
 use Rattle.judging.specs.declared.Tally.{Tally}
 use Rattle.judging.specs.Judging.{tally_of, tallied, CountedBehind, Follows}
-use Rattle.judging.proofs.TallyLaws.{tally_more}
+use Rattle.judging.proofs.TallyLaws.{none_more, tally_more}
 
-pub follows_as : {x y : Read (List Head)} {before : Tally} {r : Behind} → x ≡ y → Follows x before r → Follows y before r
-follows_as {x} {y} {before} {r} q p = subst (λ (z : Read (List Head)). Follows z before r) q p
+module _ (x : Read (List Head)) (before : Tally) where
+  pub follows_as : (r : Read Tally) {y : Read (List Head)} → x ≡ y → Follows x before r → Follows y before r
+  follows_as r q p = subst (λ (z : Read (List Head)). Follows z before r) q p
 
-pub follows_stop : {x : Read (List Head)} {before after : Tally} {y : Stop} → stop y ≡ x → Follows x before (record { gate = gate.Stop y; tally = after })
-follows_stop q = record { gate = halt _ q; tally = λ xs e. got_stop (e ∙ sym q) }
+  pub follows_stop : {y : Stop} → Err y ≡ x → Follows x before (Err y)
+  follows_stop {y} q = subst (λ (z : Read (List Head)). Follows z before (Err y)) q refl
 
--- what is read behind it changes nothing
-only_passes : {A : Type 0} (x : Read Unit) (a : A) → x ≡ ((x >> got a) >> got tt)
-unfolding ◌>>=◌
-only_passes (got u) a = refl
-only_passes (stop y) a = refl
+  pub follows_got : {xs : List Head} {after : Tally} → Ok xs ≡ x → CountedBehind (unknown_of [] xs) before after → Follows x before (Ok after)
+  follows_got {after = after} q p = subst (λ (z : Read (List Head)). Follows z before (Ok after)) q (after, refl, p)
 
--- so where the gate stops, the reading does
-pub stops_there : (x : Read (List Head)) {y : Stop} → ◌≡◌ {A = Read Unit} (stop y) (x >> got tt) → stop y ≡ x
-unfolding ◌>>=◌
-stops_there (got xs) q = got_stop (sym q)
-stops_there (stop z) q = by q
+-- and what is known of what stands there, by what is handed back
+pub stops_there : (x : Read (List Head)) (before : Tally) {y : Stop} → Follows x before (Err y) → Err y ≡ x
+stops_there (Ok xs) before p = got_stop (sym p.1)
+stops_there (Err z) before p = by p
   where
-    by : {y : Stop} → ◌≡◌ {A = Read Unit} (stop y) (stop z) → ◌≡◌ {A = Read (List Head)} (stop y) (stop z)
+    by : {y : Stop} → ◌≡◌ {A = Read Tally} (Err y) (Err z) → ◌≡◌ {A = Read (List Head)} (Err y) (Err z)
     by q = cc
 
-none_more : (before : Tally) → CountedBehind [] before before
-none_more before es p = p ∙ ap tally_of (sym (append-nil es))
+pub counted_there : (x : Read (List Head)) {before after : Tally} → Follows x before (Ok after) → (xs : List Head) × (Ok xs ≡ x) × CountedBehind (unknown_of [] xs) before after
+counted_there (Ok xs) {before} p = (xs, refl, subst (λ (z : Tally). CountedBehind (unknown_of [] xs) before z) (sym (same_got p.1)) p.2)
+counted_there (Err z) p = got_stop p
 
-pub follows_none : (s : List ℕ) (at : ℕ) (before : Tally) {g : Gate} → found_gate g ≡ ends_at s at → Follows (extensions_at false s at) before (record { gate = g; tally = before })
+pub follows_none : (s : List ℕ) (at : ℕ) (before : Tally) → Ok tt ≡ ends_at s at → Follows (extensions_at false s at) before (Ok before)
 unfolding extensions_at unknown_of
-follows_none s at before q = record {
-  gate = q ∙ only_passes (ends_at s at) [];
-  tally = λ xs e. subst (λ (z : List Head). CountedBehind (unknown_of [] z) before before) (sym (same_got (then_got (ends_at s at) _ e).2)) (none_more before);
-}
+follows_none s at before q = follows_got _ _ (past _ tt q refl) (none_more refl)
 
 -- ---- extensions
 
@@ -67,13 +60,13 @@ pub record Passing (s : List ℕ) (n from : ℕ) (before : Tally) (left at : ℕ
 
 pub passing_start : (s : List ℕ) (n from : ℕ) (before : Tally) → Passing s n from before n from before
 unfolding unknown_of
-passing_start s n from before = record { done = []; heads = refl; faults = refl; counted = none_more before }
+passing_start s n from before = record { done = []; heads = refl; faults = refl; counted = none_more refl }
 
 module _ {s : List ℕ} {n from : ℕ} {before : Tally} {left at : ℕ} {tally : Tally} (p : Passing s n from before left at tally) where
-  pub passing_cut : (left ≡ 0 → ⊥) → {y : Stop} → stop y ≡ envelope_at s at → Follows (counted_extensions_at s n from) before (record { gate = gate.Stop y; tally = tally })
-  passing_cut a q = follows_stop (halt _ (scan_cut [] s left at a q ∙ p.faults))
+  pub passing_cut : (left ≡ 0 → ⊥) → {y : Stop} → Err y ≡ envelope_at s at → Follows (counted_extensions_at s n from) before (Err y)
+  passing_cut a q = follows_stop _ _ (halt _ (scan_cut [] s left at a q ∙ p.faults))
 
-  pub passing_more : (left ≡ 0 → ⊥) → (h : Head) → got h ≡ envelope_at s at → Passing s n from before (left - 1) h.value.to (tallied tally h.crit)
+  pub passing_more : (left ≡ 0 → ⊥) → (h : Head) → Ok h ≡ envelope_at s at → Passing s n from before (left - 1) h.value.to (tallied tally h.crit)
   unfolding find
   passing_more a h q =
       let d = p.done in
@@ -90,14 +83,11 @@ module _ {s : List ℕ} {n from : ℕ} {before : Tally} {left at : ℕ} {tally :
     all : heads_at s n from ≡ p.done
     all = sym p.heads ∙ (ap (λ (x : List Head). p.done ++ x) (heads_none [] s left at e) ∙ append-nil p.done)
 
-    pub passing_all : {g : Gate} → found_gate g ≡ ends_at s at → Follows (counted_extensions_at s n from) before (record { gate = g; tally = tally })
-    unfolding ◌>>=◌
-    passing_all q =
-        let ends : got at ≡ scan_at [] s n from = scan_none [] s left at e ∙ p.faults in
-        record {
-          gate = q ∙ (only_passes (ends_at s at) (heads_at s n from) ∙ ap (λ (r : Read ℕ). (r >>= λ to. ends_at s to >> got (heads_at s n from)) >> got tt) ends);
-          tally = λ xs z.
-              let t = then_got (scan_at [] s n from) _ z in
-              let u = then_got (ends_at s t.0) _ t.2 in
-              subst (λ (x : List Head). CountedBehind (unknown_of [] x) before tally) (sym (same_got u.2 ∙ all)) p.counted;
-        }
+    ends : Ok at ≡ scan_at [] s n from
+    ends = scan_none [] s left at e ∙ p.faults
+
+    pub passing_left : {y : Stop} → Err y ≡ ends_at s at → Follows (counted_extensions_at s n from) before (Err y)
+    passing_left q = follows_stop _ _ (past _ at ends (halt _ q))
+
+    pub passing_all : Ok tt ≡ ends_at s at → Follows (counted_extensions_at s n from) before (Ok tally)
+    passing_all q = follows_got _ _ (past _ at ends (past _ tt q (ap Ok (sym all)))) p.counted

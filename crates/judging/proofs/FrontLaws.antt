@@ -13,12 +13,12 @@ use lib.Dec.{ltb, eqb}
 use lib.ListN.{length, take, length-take}
 use Rattle.lists.specs.Lists.{pick, some, fill}
 use Rattle.lists.proofs.Fill.{take_fill}
-use Rattle.octets.specs.Read.{Read, got, stop}
+use Rattle.std.specs.Prelude.{Ok, Err}
+use Rattle.octets.specs.Read.{Read}
 use Rattle.octets.specs.declared.Stop.{Stop}
 use Rattle.octets.specs.declared.Span.{Span}
 use Rattle.octets.specs.Span.{no_span}
 use Rattle.octets.proofs.Chain.{past, halt, then_got, same_got}
-use Rattle.places.specs.Places.{spans_in, places_of}
 use Rattle.entries.specs.declared.Entry.{Entry}
 use Rattle.rows.specs.declared.Row.{Row}
 use Rattle.rows.specs.Table.{find, known}
@@ -32,7 +32,7 @@ use Rattle.verdicts.specs.declared.Outcome.TheVariants.{Accepted, Misplaced, Rej
 use Rattle.verdicts.specs.Verdict.{Opening, opening_by, opened_at}
 use Rattle.judging.specs.declared.Opened.{Opened}
 use Rattle.judging.specs.Judging.{opened_by, spans_by, opening_at, place_of, noted_of, NotedIn, NotedBehind, ExtensionsNoted}
-use Rattle.judging.proofs.OpenedLaws.{spans_back}
+use Rattle.judging.proofs.OpenedLaws.{got_by, stop_by}
 
 -- ---- the elements that count
 
@@ -55,8 +55,8 @@ heads_take s (suc n) at (suc k) h = by (envelope_at s at) (λ v. heads_take s n 
   where
     by : (r : Read Head) → ((v : Head) → take k (heads_at s n v.value.to) ≡ heads_at s k v.value.to)
         → take (suc k) (on_head (λ v. heads_at s n v.value.to) r) ≡ on_head (λ v. heads_at s k v.value.to) r
-    by (got v) e = ap (λ (x : List Head). v ∷ x) (e v)
-    by (stop x) e = refl
+    by (Ok v) e = ap (λ (x : List Head). v ∷ x) (e v)
+    by (Err x) e = refl
 
 heads_length : (s : List ℕ) (n at : ℕ) → length (heads_at s n at) ≤ n
 unfolding heads_at
@@ -64,8 +64,8 @@ heads_length s zero at = omega arith
 heads_length s (suc n) at = by (envelope_at s at) (λ v. heads_length s n v.value.to)
   where
     by : (r : Read Head) → ((v : Head) → length (heads_at s n v.value.to) ≤ n) → length (on_head (λ v. heads_at s n v.value.to) r) ≤ suc n
-    by (got v) e = let h = e v in omega arith
-    by (stop x) e = omega arith
+    by (Ok v) e = let h = e v in omega arith
+    by (Err x) e = omega arith
 
 module _ (t : List Row) (s : List ℕ) (n from : ℕ) where
   front_within : length (front t 0 (heads_at s n from)) ≤ n
@@ -80,8 +80,8 @@ module _ (t : List Row) (s : List ℕ) (n from : ℕ) where
 
 -- ---- what is noted of n elements, and of what stands behind them
 
-module _ (t : List Row) (container : Bool) (s : List ℕ) (n from : ℕ) {o : Opening} (q : got o ≡ opening_at t container s n from) where
-  behind : (xs : List Head) × (got xs ≡ extensions_behind t container s n from) × (opening_by n (judged_of t n (heads_at s n from) xs) ≡ o)
+module _ (t : List Row) (container : Bool) (s : List ℕ) (n from : ℕ) {o : Opening} (q : Ok o ≡ opening_at t container s n from) where
+  behind : (xs : List Head) × (Ok xs ≡ extensions_behind t container s n from) × (opening_by n (judged_of t n (heads_at s n from) xs) ≡ o)
   unfolding elements_at
   behind =
       let a = then_got (elements_at t container s n from) _ q in
@@ -130,36 +130,29 @@ empty : (l : List ℕ) (es : List Entry) → length es ≡ 0 → NotedIn l es l 
 empty l [] g = record { words = refl; count = refl }
 empty l (e ∷ es) g = absurd (omega arith)
 
-pub stop_noted : (t : List Row) (c : Bool) (s : List ℕ) (from : ℕ) {x : Stop} → stop x ≡ count_at c s from → (l : List ℕ) → NotedIn l (noted_of (opened_at t c s from)) l 0
-unfolding opened_at
-stop_noted t c s from q l = subst (λ (r : Read Opening). NotedIn l (noted_of r) l 0) (halt _ q) (empty l [] refl)
+module _ (t : List Row) (c : Bool) (s : List ℕ) (from : ℕ) where
+  pub stop_noted : {x : Stop} → Err x ≡ opened_by (opened_at t c s from) → (l : List ℕ) → NotedIn l (noted_of (opened_at t c s from)) l 0
+  stop_noted q l = subst (λ (r : Read Opening). NotedIn l (noted_of r) l 0) (stop_by (opened_at t c s from) q) (empty l [] refl)
 
-module _ (t : List Row) (c : Bool) (s : List ℕ) (from : ℕ) (o : Opened) (e : o ≡ opened_by (opened_at t c s from)) where
+  pub count_noted : {x : Stop} → Err x ≡ count_at c s from → (l : List ℕ) → NotedIn l (noted_of (opened_at t c s from)) l 0
+  unfolding opened_at
+  count_noted q l = subst (λ (r : Read Opening). NotedIn l (noted_of r) l 0) (halt _ q) (empty l [] refl)
+
+module _ (t : List Row) (c : Bool) (s : List ℕ) (from : ℕ) {o : Opened} (e : Ok o ≡ opened_by (opened_at t c s from)) where
+  inside : (x : Opening) × (Ok x ≡ opened_at t c s from) × (o ≡ record { outcome = x.outcome; noted = length x.noted })
+  inside = got_by (opened_at t c s from) e
+
   pub none_noted : o.noted ≡ 0 → (l : List ℕ) → NotedIn l (noted_of (opened_at t c s from)) l 0
-  none_noted h l = by (opened_at t c s from) (sym (ap (λ (y : Opened). y.noted) e) ∙ h)
-    where
-      by : (r : Read Opening) → (opened_by r).noted ≡ 0 → NotedIn l (noted_of r) l 0
-      by (got x) g = empty l x.noted g
-      by (stop x) g = empty l [] refl
+  none_noted h l = subst (λ (r : Read Opening). NotedIn l (noted_of r) l 0) inside.1 (empty l inside.0.noted (ap (λ (x : Opened). x.noted) (sym inside.2) ∙ h))
 
-  module _ (h : o.noted ≡ 0 → ⊥) {v : Count} (k : got v ≡ count_at c s from) {n : ℕ} (w : n ≡ v.elements) where
-    inside : (x : Opening) × (got x ≡ opened_at t c s from)
-    inside = by (opened_at t c s from) (λ g. h (ap (λ (y : Opened). y.noted) e ∙ g))
-      where
-        by : (r : Read Opening) → ((opened_by r).noted ≡ 0 → ⊥) → (x : Opening) × (got x ≡ r)
-        by (got x) g = (x, refl)
-        by (stop x) g = absurd (g refl)
-
-    opening : got inside.0 ≡ opening_at t v.container s n (from + 3)
+  module _ {v : Count} (k : Ok v ≡ count_at c s from) {n : ℕ} (w : n ≡ v.elements) where
+    opening : Ok inside.0 ≡ opening_at t v.container s n (from + 3)
     unfolding opened_at
     opening = inside.1 ∙ (sym (past _ v k refl) ∙ ap (λ (j : ℕ). opening_at t v.container s j (from + 3)) (sym w))
 
-    same : o ≡ opened_by (got inside.0)
-    same = e ∙ ap opened_by (sym inside.1)
-
     module _ {place : ℕ} (p : place ≡ place_of n o.outcome) {l m : List ℕ} {r : ℕ} (u : NotedBehind (unknown_of t (heads_at s place (from + 3))) l 0 m r) where
       which : place ≡ place_of n inside.0.outcome
-      which = p ∙ ap (λ (y : Opened). place_of n y.outcome) same
+      which = p ∙ ap (λ (y : Opened). place_of n y.outcome) inside.2
 
       -- of the elements that count
       elements : NotedIn l (take 256 (unknown_of t (heads_at s place (from + 3)))) m r
@@ -168,14 +161,14 @@ module _ (t : List Row) (c : Bool) (s : List ℕ) (from : ℕ) (o : Opened) (e :
       pub some_front : place < n → NotedIn l (noted_of (opened_at t c s from)) m r
       some_front g = subst (λ (es : List Entry). NotedIn l es m r) (noted_front t v.container s n (from + 3) opening which g ∙ ap noted_of inside.1) elements
 
-      pub some_all : length t ≤ 12 → n ≤ place → {ps : List ℕ} → ps ≡ places_of (spans_by (opened_at t c s from))
+      pub some_all : n ≤ place → {ps : List Span} → ps ≡ (spans_by (opened_at t c s from))
           → {m' m'' : List ℕ} {r' r'' : ℕ} → ExtensionsNoted (extensions_behind t v.container s n (from + 3)) m r m' r'
-          → NotedBehind (missing_of t (take (length t) (spans_in ps))) m' r' m'' r'' → NotedIn l (noted_of (opened_at t c s from)) m'' r''
-      some_all a g {ps} e {m'' = m''} {r'' = r''} x y =
+          → NotedBehind (missing_of t (take (length t) ps)) m' r' m'' r'' → NotedIn l (noted_of (opened_at t c s from)) m'' r''
+      some_all g {ps} e {m'' = m''} {r'' = r''} x y =
           let b = behind t v.container s n (from + 3) opening in
           let us = unknown_of t (heads_at s place (from + 3)) in
           subst (λ (es : List Entry). NotedIn l es m'' r'')
-          (ap (take 256) (append_assoc us (unknown_of [] b.0) (missing_of t (take (length t) (spans_in ps))))
-          ∙ (ap (λ (vs : List Span). take 256 (us ++ (unknown_of [] b.0 ++ missing_of t (take (length t) vs)))) (spans_back t c s from a e ∙ ap spans_by (sym inside.1))
+          (ap (take 256) (append_assoc us (unknown_of [] b.0) (missing_of t (take (length t) ps)))
+          ∙ (ap (λ (vs : List Span). take 256 (us ++ (unknown_of [] b.0 ++ missing_of t (take (length t) vs)))) (e ∙ ap spans_by (sym inside.1))
           ∙ (noted_all t v.container s n (from + 3) opening which g ∙ ap noted_of inside.1)))
           (y l (us ++ unknown_of [] b.0) (x b.0 b.1 l us elements))

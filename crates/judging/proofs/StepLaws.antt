@@ -16,19 +16,16 @@ use lib.ListN.{length, take, drop, set, get_or, replicate, length-append, length
 use lib.Seq.{set_out}
 use Rattle.lists.specs.Lists.{fill}
 use Rattle.lists.proofs.Fill.{fill_set}
-use Rattle.octets.specs.Read.{got, stop}
+use Rattle.std.specs.Prelude.{Ok, Err}
 use Rattle.octets.specs.declared.Stop.{Stop}
 use Rattle.octets.specs.declared.Span.{Span}
 use Rattle.octets.specs.Span.{no_span}
 use Rattle.octets.proofs.Chain.{got_stop}
-use Rattle.places.specs.Places.{places_of, with_span}
-use Rattle.places.proofs.Laws.{places_none, places_set}
 use Rattle.kinds.specs.Kinds.{legible_at}
 use Rattle.kinds.proofs.Laws.{carried}
 use Rattle.entries.specs.declared.Entry.{Entry}
 use Rattle.rows.specs.declared.Row.{Row}
-use Rattle.rows.specs.declared.Rows.{Rows}
-use Rattle.rows.specs.Table.{rows_in, no_row, find, kind_of}
+use Rattle.rows.specs.Table.{no_row, find, kind_of}
 use Rattle.rows.proofs.TableLaws.{row_here, row_past, row_kind, ended, unread}
 use Rattle.envelopes.specs.declared.Head.{Head}
 use Rattle.envelopes.specs.Envelope.{envelope_at, scan_at, heads_at}
@@ -46,35 +43,35 @@ fill_none n h =
 
 -- ---- what the walk holds
 
-pub record Step (t : List Row) (s : List ℕ) (n from row i at : ℕ) (places : List ℕ) (tally : Tally) : Type 0 where
+pub record Step (t : List Row) (s : List ℕ) (n from row i at : ℕ) (places : List Span) (tally : Tally) : Type 0 where
   pub done : List Head
   pub order : done ++ front t row (heads_at s (n - i) at) ≡ front t 0 (heads_at s n from)
   pub size : length done ≡ i
   pub count : i ≤ n
-  pub read : places ≡ places_of (fill no_span 12 (read_of t done))
+  pub read : places ≡ fill no_span 12 (read_of t done)
   pub list : tally ≡ tally_of (unknown_of t done)
   pub faults : scan_at t s (n - i) at ≡ scan_at t s n from
 
 -- an element was read, and its id stands in none of the first k rows
-pub record Sought (t : Rows) (s : List ℕ) (n from row i at : ℕ) (places : List ℕ) (tally : Tally) (h : Head) (k : ℕ) : Type 0 where
-  pub step : Step (rows_in t) s n from row i at places tally
+pub record Sought (t : List Row) (s : List ℕ) (n from row i at : ℕ) (places : List Span) (tally : Tally) (h : Head) (k : ℕ) : Type 0 where
+  pub step : Step t s n from row i at places tally
   pub more : i < n
-  pub read : got h ≡ envelope_at s at
-  pub rest : k + find h.id (drop k (rows_in t)) ≡ find h.id (rows_in t)
+  pub read : Ok h ≡ envelope_at s at
+  pub rest : k + find h.id (drop k t) ≡ find h.id t
 
 -- what an unknown element is tally as
 abbrev unknown : Head → Entry
 unknown h = record { crit = h.crit; id = h.id; error = 0 }
 
 -- it stops there
-abbrev Stops : List Row → List ℕ → ℕ → ℕ → ℕ → ℕ → List ℕ → Tally → Type 0
+abbrev Stops : List Row → List ℕ → ℕ → ℕ → ℕ → ℕ → List Span → Tally → Type 0
 Stops t s n from i at places tally = WalkedTo t s n from places (record { at = at; place = i; tally = tally })
 
-pub step_start : (t : List Row) {s : List ℕ} {n from : ℕ} → length t ≤ 12 → Step t s n from 0 0 from (replicate 24 0) (tally_of [])
+pub step_start : (t : List Row) {s : List ℕ} {n from : ℕ} → length t ≤ 12 → Step t s n from 0 0 from (replicate 12 no_span) (tally_of [])
 unfolding read_into unknown_of
-step_start t h = record { done = []; order = rw sub-zero; size = refl; count = omega arith; read = places_none ∙ ap places_of (fill_none (length t) h); list = refl; faults = rw sub-zero }
+step_start t h = record { done = []; order = rw sub-zero; size = refl; count = omega arith; read = fill_none (length t) h; list = refl; faults = rw sub-zero }
 
-module _ {t : List Row} {s : List ℕ} {n from row i at : ℕ} {places : List ℕ} {tally : Tally} (p : Step t s n from row i at places tally) where
+module _ {t : List Row} {s : List ℕ} {n from row i at : ℕ} {places : List Span} {tally : Tally} (p : Step t s n from row i at places tally) where
   -- nothing more counts
   over : front t row (heads_at s (n - i) at) ≡ [] → Stops t s n from i at places tally
   over e =
@@ -87,26 +84,26 @@ module _ {t : List Row} {s : List ℕ} {n from row i at : ℕ} {places : List �
       }
 
   -- something cannot be read
-  broken : {x : Stop} → stop x ≡ scan_at t s (n - i) at → Stops t s n from i at places tally
+  broken : {x : Stop} → Err x ≡ scan_at t s (n - i) at → Stops t s n from i at places tally
   broken q = record { within = p.count; faults = p.faults; seen = λ to g. got_stop (g ∙ sym q) }
 
   pub walk_end : n ≤ i → Stops t s n from i at places tally
   unfolding front
   walk_end h = over (rw (heads_none t s (n - i) at (omega arith)))
 
-  pub walk_cut : i < n → {x : Stop} → stop x ≡ envelope_at s at → Stops t s n from i at places tally
+  pub walk_cut : i < n → {x : Stop} → Err x ≡ envelope_at s at → Stops t s n from i at places tally
   walk_cut b {x} q = broken {x = x} (scan_cut t s (n - i) at (λ e. omega arith) q)
 
-module _ {t : Rows} {s : List ℕ} {n from row i at : ℕ} {places : List ℕ} {tally : Tally} {h : Head} {k : ℕ} (p : Sought t s n from row i at places tally h k) where
+module _ {t : List Row} {s : List ℕ} {n from row i at : ℕ} {places : List Span} {tally : Tally} {h : Head} {k : ℕ} (p : Sought t s n from row i at places tally h k) where
   left : n - i ≡ 0 → ⊥
   left e = let b = p.more in omega arith
 
   -- the element is done, and row' is the first row that may still come
-  done_with : (row' : ℕ) → front (rows_in t) row (heads_at s (n - i) at) ≡ h ∷ front (rows_in t) row' (heads_at s (n - i - 1) h.value.to)
-      → got tt ≡ legible_at (kind_of (rows_in t) h.id) (take h.value.to s) h.value.from
-      → {places' : List ℕ} → places' ≡ places_of (fill no_span 12 (read_of (rows_in t) (p.step.done ++ h ∷ [])))
-      → {after : Tally} → after ≡ tally_of (unknown_of (rows_in t) p.step.done ++ unknown_entry (rows_in t) h)
-      → Step (rows_in t) s n from row' (i + 1) h.value.to places' after
+  done_with : (row' : ℕ) → front t row (heads_at s (n - i) at) ≡ h ∷ front t row' (heads_at s (n - i - 1) h.value.to)
+      → Ok tt ≡ legible_at (kind_of t h.id) (take h.value.to s) h.value.from
+      → {places' : List Span} → places' ≡ fill no_span 12 (read_of t (p.step.done ++ h ∷ []))
+      → {after : Tally} → after ≡ tally_of (unknown_of t p.step.done ++ unknown_entry t h)
+      → Step t s n from row' (i + 1) h.value.to places' after
   done_with row' g r x l =
       let z : n - (i + 1) ≡ n - i - 1 = omega arith in
       let b = p.more in
@@ -117,47 +114,47 @@ module _ {t : Rows} {s : List ℕ} {n from row i at : ℕ} {places : List ℕ} {
         size = length-append d (h ∷ []) ∙ ap (λ (j : ℕ). j + 1) p.step.size;
         count = omega arith;
         read = x;
-        list = l ∙ ap tally_of (sym (unknown_snoc (rows_in t) d h));
-        faults = rw z (scan_more (rows_in t) s (n - i) at left h p.read r ∙ p.step.faults);
+        list = l ∙ ap tally_of (sym (unknown_snoc t d h));
+        faults = rw z (scan_more t s (n - i) at left h p.read r ∙ p.step.faults);
       }
 
-  module _ (a : length (rows_in t) ≤ k) where
-    pub step_unknown : Step (rows_in t) s n from row (i + 1) h.value.to places (tallied tally h.crit)
+  module _ (a : length t ≤ k) where
+    pub step_unknown : Step t s n from row (i + 1) h.value.to places (tallied tally h.crit)
     unfolding front
     step_unknown =
-        let f = ended (rows_in t) h.id k a p.rest in
-        let z = read_rows (rows_in t) p.step.done in
+        let f = ended t h.id k a p.rest in
+        let z = read_rows t p.step.done in
         done_with row
-        (rw (heads_one (rows_in t) s (n - i) at left h p.read, f, le-ltb k (length (rows_in t)) a))
-        (rw (← unread (rows_in t) h.id (rw f a)) (carried _ _))
-        (p.step.read ∙ ap (λ (l : List Span). places_of (fill no_span 12 l)) (sym (set_out (read_of (rows_in t) p.step.done) (find h.id (rows_in t)) h.value (omega arith)) ∙ read_snoc (rows_in t) _ p.step.done h))
-        (rw (f, le-ltb k (length (rows_in t)) a) (tally_more tally _ p.step.list (unknown h)))
+        (rw (heads_one t s (n - i) at left h p.read, f, le-ltb k (length t) a))
+        (rw (← unread t h.id (rw f a)) (carried _ _))
+        (p.step.read ∙ ap (fill no_span 12) (sym (set_out (read_of t p.step.done) (find h.id t) h.value (omega arith)) ∙ read_snoc t _ p.step.done h))
+        (rw (f, le-ltb k (length t) a) (tally_more tally _ p.step.list (unknown h)))
 
-  module _ (a : k < length (rows_in t)) where
-    pub sought_past : ((get_or t.rows k no_row).id ≡ h.id → ⊥) → Sought t s n from row i at places tally h (k + 1)
+  module _ (a : k < length t) where
+    pub sought_past : ((get_or t k no_row).id ≡ h.id → ⊥) → Sought t s n from row i at places tally h (k + 1)
     sought_past e = record { step = p.step; more = p.more; read = p.read; rest = row_past t h.id k a p.rest e }
 
-    module _ (e : (get_or t.rows k no_row).id ≡ h.id) where
-      here : find h.id (rows_in t) ≡ k
+    module _ (e : (get_or t k no_row).id ≡ h.id) where
+      here : find h.id t ≡ k
       here = row_here t h.id k a p.rest e
 
-      kind : (get_or t.rows k no_row).kind ≡ kind_of (rows_in t) h.id
+      kind : (get_or t k no_row).kind ≡ kind_of t h.id
       kind = row_kind t h.id k a p.rest e
 
-      pub walk_bad : {x : Stop} → stop x ≡ legible_at (get_or t.rows k no_row).kind (take h.value.to s) h.value.from → Stops (rows_in t) s n from i at places tally
-      walk_bad {x} r = broken p.step {x = x} (scan_bad (rows_in t) s (n - i) at left h p.read (rw kind at r))
+      pub walk_bad : {x : Stop} → Err x ≡ legible_at (get_or t k no_row).kind (take h.value.to s) h.value.from → Stops t s n from i at places tally
+      walk_bad {x} r = broken p.step {x = x} (scan_bad t s (n - i) at left h p.read (rw kind at r))
 
-      pub walk_misplaced : k < row → Stops (rows_in t) s n from i at places tally
+      pub walk_misplaced : k < row → Stops t s n from i at places tally
       unfolding front
-      walk_misplaced c = over p.step (rw (heads_one (rows_in t) s (n - i) at left h p.read, here, lt-ltb k (length (rows_in t)) a, lt-ltb k row c))
+      walk_misplaced c = over p.step (rw (heads_one t s (n - i) at left h p.read, here, lt-ltb k (length t) a, lt-ltb k row c))
 
-      pub step_known : k < 12 → row ≤ k → got tt ≡ legible_at (get_or t.rows k no_row).kind (take h.value.to s) h.value.from
-          → Step (rows_in t) s n from (k + 1) (i + 1) h.value.to (with_span places k h.value) tally
+      pub step_known : row ≤ k → Ok tt ≡ legible_at (get_or t k no_row).kind (take h.value.to s) h.value.from
+          → Step t s n from (k + 1) (i + 1) h.value.to (set places k h.value) tally
       unfolding front
-      step_known b c r =
+      step_known c r =
           let d = p.step.done in
           done_with (k + 1)
-          (rw (heads_one (rows_in t) s (n - i) at left h p.read, here, lt-ltb k (length (rows_in t)) a, le-ltb k row c))
+          (rw (heads_one t s (n - i) at left h p.read, here, lt-ltb k (length t) a, le-ltb k row c))
           (rw kind at r)
-          (rw p.step.read (places_set (fill no_span 12 (read_of (rows_in t) d)) k h.value b ∙ ap places_of (fill_set no_span 12 (read_of (rows_in t) d) h.value k (rw (read_rows (rows_in t) d) a) ∙ ap (fill no_span 12) (ap (λ (j : ℕ). set (read_of (rows_in t) d) j h.value) (sym here) ∙ read_snoc (rows_in t) _ d h))))
-          (p.step.list ∙ ap tally_of (sym (rw (here, lt-ltb k (length (rows_in t)) a) (append-nil _))))
+          (rw p.step.read (fill_set no_span 12 (read_of t d) h.value k (rw (read_rows t d) a) ∙ ap (fill no_span 12) (ap (λ (j : ℕ). set (read_of t d) j h.value) (sym here) ∙ read_snoc t _ d h)))
+          (p.step.list ∙ ap tally_of (sym (rw (here, lt-ltb k (length t) a) (append-nil _))))

@@ -1,8 +1,8 @@
 -- Counting: the tally with one more entry is that of the list with one more, whether it is listed or not.
---     in_room                one more is listed only below 256
 --     first_more, first_same the first 256, with one more or without
 --     tally_more             the tally of them
---     Lacking, lacking-*     the rows passed that have no value are counted
+--     none_more              nothing more
+--     lacking_one            the entries of the rows that have no value, one row more; lacking_more  and their tally
 -- Assumes nothing.
 use mathlib.Core.Path.{◌≡◌, ◌∙◌, refl, sym, ap}
 use mathlib.Core.Bool.{Bool, true, false, not, ◌&&◌, ◌||◌, or-false, true≢false}
@@ -10,30 +10,21 @@ use mathlib.Core.List.{List, [], ◌∷◌, ◌++◌, append-nil, append_assoc}
 use Prim.Native.Nat.{ℕ, ◌+◌, ◌≤◌, ◌<◌}
 use native.Mathlib.Omega.{arith}
 use native.Mathlib.Numerals.{add-one}
-use borrow.Author.Tests.{ltb-true, ltb-false, eqb-true, lt-ltb, le-ltb}
+use borrow.Author.Tests.{ltb-true, ltb-false, eqb-true}
 use lib.Dec.{ltb, eqb}
 use lib.ListN.{length, take, get_or, length-append, length-take}
-use lib.Seq.{take_all, take-length, take-append-le}
+use lib.Seq.{take_all, take-append-le}
 use Rattle.lists.specs.Lists.{pick, some}
 use Rattle.lists.proofs.Some.{some_append}
 use Rattle.octets.specs.declared.Span.{Span}
-use Rattle.octets.specs.Span.{no_span}
+use Rattle.octets.specs.Span.{no_span, present}
 use Rattle.entries.specs.declared.Entry.{Entry}
 use Rattle.rows.specs.declared.Row.{Row}
-use Rattle.rows.specs.declared.Rows.{Rows}
-use Rattle.rows.specs.Table.{rows_in, no_row}
-use Rattle.rows.proofs.TableLaws.{row_at}
-use Rattle.elements.specs.Judge.{ignored, missing_entry, missing_of}
+use Rattle.rows.specs.Table.{no_row}
+use Rattle.elements.specs.Judge.{ignored, missing_of}
 use Rattle.elements.proofs.WalkLaws.{missing_snoc}
 use Rattle.judging.specs.declared.Tally.{Tally}
-use Rattle.judging.specs.Judging.{is_noted, tally_of, tallied, CountedBehind}
-
-pub in_room : (crit count : ℕ) → is_noted crit count ≡ true → count < 256
-in_room crit count h = ltb-true _ _ (by (not (ignored crit)) h)
-  where
-    by : (b : Bool) → (b && ltb count 256) ≡ true → ltb count 256 ≡ true
-    by true g = g
-    by false g = absurd (true≢false (sym g))
+use Rattle.judging.specs.Judging.{is_noted, tally_of, tallied, lacks, CountedBehind}
 
 -- what an entry adds to those that may be noted
 abbrev pub listable : Entry → List Entry
@@ -81,42 +72,33 @@ pub tally_more : (n : Tally) (es : List Entry) → n ≡ tally_of es → (e : En
 unfolding tally_of
 tally_more n es q e = rw (q, count_more es e, reject_more es e)
 
+-- nothing more
+pub none_more : {before after : Tally} → after ≡ before → CountedBehind [] before after
+none_more q es p = q ∙ (p ∙ ap tally_of (sym (append-nil es)))
+
 -- ---- the rows that have no value
 
--- the rows before k, behind whatever was counted
-pub record Lacking (t : Rows) (l : List Span) (before : Tally) (k : ℕ) (tally : Tally) : Type 0 where
-  pub upto : k ≤ length (rows_in t)
-  pub list : (es : List Entry) → before ≡ tally_of es → tally ≡ tally_of (es ++ missing_of (take k (rows_in t)) (take k l))
+-- what is noted of a row that has none
+abbrev pub missing : Row → Entry
+missing r = record { crit = r.crit; id = r.id; error = 1 }
 
-pub lacking_none : (t : Rows) (l : List Span) (n : Tally) → Lacking t l n 0 n
-unfolding missing_of
-lacking_none t l n = record { upto = omega arith; list = λ es q. q ∙ ap tally_of (sym (append-nil es)) }
+module _ (t : List Row) (l : List Span) (k : ℕ) (h : k < length t) (g : k < length l) {r : Row} {v : Span} (rs : r ≡ get_or t k no_row) (vs : v ≡ get_or l k no_span) where
+  -- the row behind the first k
+  pub lacking_one : missing_of (take (k + 1) t) (take (k + 1) l) ≡ missing_of (take k t) (take k l) ++ pick (lacks r v) (listable (missing r)) []
+  lacking_one = rw (add-one, rs, vs) (missing_snoc t l k h g ∙ ap (λ (es : List Entry). missing_of (take k t) (take k l) ++ es) (by (present (get_or l k no_span)) (get_or t k no_row).mandatory _))
+    where
+      by : (p m : Bool) (es : List Entry) → pick p [] (pick m es []) ≡ pick (m && not p) es []
+      by true true es = refl
+      by true false es = refl
+      by false true es = refl
+      by false false es = refl
 
-module _ {t : Rows} {l : List Span} {before : Tally} {k : ℕ} {tally : Tally} (p : Lacking t l before k tally) where
-  pub lacking_all : length (rows_in t) ≤ k → CountedBehind (missing_of (rows_in t) (take (length (rows_in t)) l)) before tally
-  lacking_all h es q = let u = p.upto in let e : k ≡ length (rows_in t) = omega arith in p.list es q ∙ rw (e, take-length (rows_in t))
-
-  module _ (h : k < length (rows_in t)) (g : k < length l) where
-    -- the row at k adds what it misses
-    more : (m : Tally) → ((es : List Entry) → tally ≡ tally_of es → m ≡ tally_of (es ++ missing_entry (get_or t.rows k no_row) (get_or l k no_span))) → Lacking t l before (k + 1) m
-    more m f =
-        record {
-          upto = omega arith;
-          list = λ es q. f _ (p.list es q)
-              ∙ ap tally_of (append_assoc es _ _ ∙ ap (λ (xs : List Entry). es ++ xs) (ap (λ (r : Row). missing_of (take k (rows_in t)) (take k l) ++ missing_entry r (get_or l k no_span)) (row_at t k h) ∙ rw add-one (sym (missing_snoc (rows_in t) l k h g))));
-        }
-
-    nothing : missing_entry (get_or t.rows k no_row) (get_or l k no_span) ≡ [] → Lacking t l before (k + 1) tally
-    nothing e = more tally (λ es q. rw e (q ∙ ap tally_of (sym (append-nil es))))
-
-    pub lacking_present : 0 < (get_or l k no_span).to → Lacking t l before (k + 1) tally
-    lacking_present a = nothing (rw (lt-ltb _ _ a))
-
-    module _ (a : (get_or l k no_span).to ≤ 0) where
-      pub lacking_optional : (get_or t.rows k no_row).mandatory ≡ false → Lacking t l before (k + 1) tally
-      lacking_optional b = nothing (rw (le-ltb _ _ a, b))
-
-      pub lacking_more : (get_or t.rows k no_row).mandatory ≡ true → Lacking t l before (k + 1) (tallied tally (get_or t.rows k no_row).crit)
-      lacking_more b =
-          let r = get_or t.rows k no_row in
-          more _ (λ es q. rw (le-ltb _ _ a, b) (tally_more tally es q (record { crit = r.crit; id = r.id; error = 1 })))
+  pub lacking_more : {before tally m : Tally} {b : Bool} → CountedBehind (missing_of (take k t) (take k l)) before tally → lacks r v ≡ b → m ≡ pick b (tallied tally r.crit) tally
+      → CountedBehind (missing_of (take (k + 1) t) (take (k + 1) l)) before m
+  lacking_more {before} {tally} {b = b} p i q es e =
+      let f = missing_of (take k t) (take k l) in
+      q ∙ (by b ∙ ap tally_of (append_assoc es f _ ∙ ap (λ (x : List Entry). es ++ x) (ap (λ (c : Bool). f ++ pick c (listable (missing r)) []) (sym i) ∙ sym lacking_one)))
+    where
+      by : (b : Bool) → pick b (tallied tally r.crit) tally ≡ tally_of ((es ++ missing_of (take k t) (take k l)) ++ pick b (listable (missing r)) [])
+      by true = tally_more tally _ (p es e) (missing r)
+      by false = p es e ∙ ap tally_of (sym (append-nil _))

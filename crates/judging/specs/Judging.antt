@@ -1,14 +1,11 @@
 -- Scaffolding: no demand speaks of it. What is inside a message, with what is noted counted; and what the steps of the judging promise each other.
-use Rattle.std.specs.Prelude.{ℕ, ◌+◌, ◌-◌, ◌≤◌, ◌≡◌, Bool, true, false, not, ◌&&◌, ◌||◌, List, [], ◌++◌, map, ltb, eqb, length, set, take}
+use Rattle.std.specs.Prelude.{ℕ, ◌+◌, ◌-◌, ◌≤◌, ◌≡◌, Bool, true, false, not, ◌&&◌, ◌||◌, List, [], ◌++◌, map, ltb, eqb, length, set, take, Ok, Err}
 use Rattle.std.proofs.lemmas.List.Edits.{sets}
 use Rattle.lists.specs.Lists.{pick, some, fill}
-use Rattle.octets.specs.Read.{Read, got, stop, ◌>>=◌, ◌>>◌}
-use Rattle.octets.specs.Found.{found_gate}
-use Rattle.octets.specs.declared.Gate.TheVariants as gate
+use Rattle.octets.specs.Read.{Read, ◌>>=◌}
 use Rattle.octets.specs.declared.Stop.{Stop}
 use Rattle.octets.specs.declared.Span.{Span}
-use Rattle.octets.specs.Span.{no_span}
-use Rattle.places.specs.Places.{places_of}
+use Rattle.octets.specs.Span.{no_span, present}
 use Rattle.entries.specs.declared.Entry.{Entry}
 use Rattle.entry_words.specs.EntryWords.{entry_word}
 use Rattle.rows.specs.declared.Row.{Row}
@@ -20,27 +17,30 @@ use Rattle.verdicts.specs.declared.Outcome.TheVariants.{Accepted, Misplaced, Rej
 use Rattle.verdicts.specs.Verdict.{Opening, opening_by}
 use Rattle.judging.specs.declared.Opened.{Opened}
 use Rattle.judging.specs.declared.Tally.{Tally}
-use Rattle.judging.specs.declared.Behind.{Behind}
 use Rattle.judging.specs.declared.Reached.{Reached}
 
 -- as the code answers: what is noted counted
-abbrev pub opened_by : Read Opening → Opened
-opened_by (got o) = record { gate = gate.Pass; outcome = o.outcome; noted = length o.noted }
-opened_by (stop x) = record { gate = gate.Stop x; outcome = Accepted; noted = 0 }
+abbrev pub opened_by : Read Opening → Read Opened
+opened_by o = o >>= λ x. Ok (record { outcome = x.outcome; noted = length x.noted })
 
 -- where the value of each of 12 rows stands; nowhere in octets at fault
 abbrev pub spans_by : Read Opening → List Span
-spans_by (got o) = fill no_span 12 o.spans
-spans_by (stop x) = fill no_span 12 []
+spans_by (Ok o) = fill no_span 12 o.spans
+spans_by (Err x) = fill no_span 12 []
 
 -- the answer is r, and m is what is left in the places
-pub record Opens (o : Read Opening) (r : Opened) (m : List ℕ) : Type 0 where
+pub record Opens (o : Read Opening) (r : Read Opened) (m : List Span) : Type 0 where
   pub result : r ≡ opened_by o
-  pub places : m ≡ places_of (spans_by o)
+  pub places : m ≡ spans_by o
+
+-- the same, and of octets at fault nothing is said of the places
+pub record Judges (o : Read Opening) (r : Read Opened) (m : List Span) : Type 0 where
+  pub result : r ≡ opened_by o
+  pub places : (x : Opening) → Ok x ≡ o → m ≡ fill no_span 12 x.spans
 
 -- what n elements come to
 abbrev pub opening_at : List Row → Bool → List ℕ → ℕ → ℕ → Read Opening
-opening_at t container s n at = elements_at t container s n at >>= λ x. got (opening_by n x)
+opening_at t container s n at = elements_at t container s n at >>= λ x. Ok (opening_by n x)
 
 -- where all elements count
 abbrev pub rejected_by : Bool → Outcome
@@ -59,37 +59,41 @@ tally_of es = record { count = length (take 256 es); reject = some (λ (e : Entr
 abbrev pub tallied : Tally → ℕ → Tally
 tallied n crit = record { count = pick (is_noted crit n.count) (n.count + 1) n.count; reject = n.reject || eqb crit 0 }
 
+-- a mandatory row that has no value
+abbrev pub lacks : Row → Span → Bool
+lacks r v = r.mandatory && not (present v)
+
 -- a tally, and behind it more entries
 abbrev pub CountedBehind : List Entry → Tally → Tally → Type 0
 CountedBehind more before after = (es : List Entry) → before ≡ tally_of es → after ≡ tally_of (es ++ more)
 
 -- what stands behind the elements can be read, or why not; its extensions are counted
-pub record Follows (x : Read (List Head)) (before : Tally) (r : Behind) : Type 0 where
-  pub gate : found_gate r.gate ≡ (x >> got tt)
-  pub tally : (xs : List Head) → got xs ≡ x → CountedBehind (unknown_of [] xs) before r.tally
+abbrev pub Follows : Read (List Head) → Tally → Read Tally → Type 0
+Follows (Ok xs) before r = (after : Tally) × (r ≡ Ok after) × CountedBehind (unknown_of [] xs) before after
+Follows (Err y) before r = r ≡ Err y
 
 -- whether something was read
 abbrev pub ReadIf : Bool → Read Unit → Type 0
-ReadIf true x = got tt ≡ x
-ReadIf false x = (y : Stop) × (stop y ≡ x)
+ReadIf true x = Ok tt ≡ x
+ReadIf false x = (y : Stop) × (Err y ≡ x)
 
 -- what was found of the elements f
-pub record Seen (t : List Row) (f : List Head) (places : List ℕ) (r : Reached) : Type 0 where
+pub record Seen (t : List Row) (f : List Head) (places : List Span) (r : Reached) : Type 0 where
   pub place : r.place ≡ length f
-  pub spans : places ≡ places_of (fill no_span 12 (read_of t f))
+  pub spans : places ≡ fill no_span 12 (read_of t f)
   pub tally : r.tally ≡ tally_of (unknown_of t f)
 
 -- the faults are those from where the walk stopped; where there are none, it found what counts of all n elements
-pub record WalkedTo (t : List Row) (s : List ℕ) (n from : ℕ) (places : List ℕ) (r : Reached) : Type 0 where
+pub record WalkedTo (t : List Row) (s : List ℕ) (n from : ℕ) (places : List Span) (r : Reached) : Type 0 where
   pub within : r.place ≤ n
   pub faults : scan_at t s (n - r.place) r.at ≡ scan_at t s n from
-  pub seen : (to : ℕ) → got to ≡ scan_at t s (n - r.place) r.at → Seen t (front t 0 (heads_at s n from)) places r
+  pub seen : (to : ℕ) → Ok to ≡ scan_at t s (n - r.place) r.at → Seen t (front t 0 (heads_at s n from)) places r
 
 -- ---- what is noted, as words
 
 abbrev pub noted_of : Read Opening → List Entry
-noted_of (got o) = o.noted
-noted_of (stop x) = []
+noted_of (Ok o) = o.noted
+noted_of (Err x) = []
 
 -- m is l with the entries as words in front, as far as it goes, and r is their number
 pub record NotedIn (l : List ℕ) (es : List Entry) (m : List ℕ) (r : ℕ) : Type 0 where
@@ -113,4 +117,4 @@ NotedBehind more l count m r = (k : List ℕ) (es : List Entry) → NotedIn k (t
 
 -- the extensions behind n elements come behind those that stand there, where all can be read
 abbrev pub ExtensionsNoted : Read (List Head) → List ℕ → ℕ → List ℕ → ℕ → Type 0
-ExtensionsNoted x l count m r = (xs : List Head) → got xs ≡ x → NotedBehind (unknown_of [] xs) l count m r
+ExtensionsNoted x l count m r = (xs : List Head) → Ok xs ≡ x → NotedBehind (unknown_of [] xs) l count m r

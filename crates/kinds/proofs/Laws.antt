@@ -4,7 +4,8 @@ use Prim.Native.Nat.{ℕ}
 use mathlib.Core.Path.{◌≡◌, ◌∙◌, refl, ap, sym}
 use mathlib.Core.List.{List}
 use lib.ListN.{take}
-use Rattle.octets.specs.Read.{Read, got, ◌>>=◌, ◌>>◌}
+use Rattle.std.specs.Prelude.{Ok}
+use Rattle.octets.specs.Read.{Read, ◌>>◌}
 use Rattle.octets.specs.declared.Span.{Span}
 use Rattle.values.specs.Values.{mme_at, mce_at, tmgi_at, one_at, two_at, cause_at, wait_at}
 use Rattle.names.specs.Names.{name_at}
@@ -19,7 +20,7 @@ use Rattle.meaning.specs.Reading.{read_as}
 use Rattle.kinds.specs.Kinds.{legible_at}
 
 -- what is carried is not read
-pub carried : (s : List ℕ) (at : ℕ) → got tt ≡ legible_at Carried s at
+pub carried : (s : List ℕ) (at : ℕ) → Ok tt ≡ legible_at Carried s at
 unfolding legible_at
 carried s at = refl
 
@@ -27,8 +28,8 @@ pub of_kind : {k j : Kind} {z : Read Unit} (s : List ℕ) (at : ℕ) → k ≡ j
 of_kind s at q r = r ∙ ap (λ (k : Kind). legible_at k s at) (sym q)
 
 -- the gate of a value and the reading of it
-pub as_read : (k : Kind) (s : List ℕ) (v : Span) → legible_at k (take v.to s) v.from ≡ (read_as k s v >> got tt)
-unfolding legible_at read_as ◌>>=◌
+pub as_read : (k : Kind) (s : List ℕ) (v : Span) → legible_at k (take v.to s) v.from ≡ (read_as k s v >> Ok tt)
+unfolding legible_at read_as
 as_read Carried s v = refl
 as_read Mme s v = same_gate (mme_at (take v.to s) v.from) mme
 as_read Mce s v = same_gate (mce_at (take v.to s) v.from) mce

@@ -3,6 +3,10 @@
 --     record_again     writing what octets say gives the octets
 --     records_differ   records that differ have octets that differ
 -- Assumes nothing.
+use Rattle.std.specs.Prelude.{None, Option, Some}
+use Rattle.identity.specs.declared.MceId.{MceId}
+use Rattle.editions.specs.declared.Message.{Message}
+use Rattle.identity.specs.declared.MmeId.{MmeId}
 use mathlib.Core.Path.{◌≡◌, refl, ap, sym, ◌∙◌}
 use mathlib.Core.Bool.{Bool, true, false}
 use mathlib.Core.List.{List, [], ◌∷◌, ◌++◌, append_assoc, append-nil}
@@ -17,16 +21,10 @@ use Rattle.octets.specs.Write.{number_octets}
 use Rattle.octets.specs.Stands.{StaysDifferent}
 use Rattle.lent.specs.Lent.{same}
 use Rattle.lent.proofs.Reading.{same_self, same_is}
-use Rattle.identity.specs.declared.Mme.{Mme}
-use Rattle.identity.specs.declared.Mme.TheVariants as mme
-use Rattle.identity.specs.declared.Mce.{Mce}
-use Rattle.identity.specs.declared.Mce.TheVariants as mce
 use Rattle.identity.specs.declared.Item.{Item}
 use Rattle.items.specs.Written.{mme_in, mce_in, GoodMaybe, GoodItem}
 use Rattle.entries.specs.declared.Entry.{Entry}
 use Rattle.editions.specs.declared.Edition.{Edition}
-use Rattle.editions.specs.declared.Named.{Named}
-use Rattle.editions.specs.declared.Named.TheVariants as named
 use Rattle.editions.specs.Editions.{table_of, number_of, numbered_by}
 use Rattle.editions.proofs.Tables.{lawful_count}
 use Rattle.meaning.specs.Value.{Record}
@@ -39,20 +37,20 @@ use Rattle.layout.proofs.Announced.{announced_agree, ListsFit, lists_fit, rows_c
 
 -- ---- rows
 
-mme_back : (x : Mme) (t : List ℕ) → GoodMaybe (mme_in x) → row_mme (mme_row x ++ t) ≡ x
+mme_back : (x : Option MmeId) (t : List ℕ) → GoodMaybe (mme_in x) → row_mme (mme_row x ++ t) ≡ x
 unfolding number_octets
-mme_back (mme.Is v) t h = λ i. mme.Is (record { 0 = two_back v.0 t h i })
-mme_back mme.Absent t h = refl
+mme_back (Some v) t h = λ i. Some (record { 0 = two_back v.0 t h i })
+mme_back None t h = refl
 
-mce_back : (x : Mce) (t : List ℕ) → GoodMaybe (mce_in x) → row_mce (mce_row x ++ t) ≡ x
+mce_back : (x : Option MceId) (t : List ℕ) → GoodMaybe (mce_in x) → row_mce (mce_row x ++ t) ≡ x
 unfolding number_octets
-mce_back (mce.Is v) t h = λ i. mce.Is (record { 0 = two_back v.0 t h i })
-mce_back mce.Absent t h = refl
+mce_back (Some v) t h = λ i. Some (record { 0 = two_back v.0 t h i })
+mce_back None t h = refl
 
-behind_mme : (x : Mme) (t : List ℕ) → drop 3 (mme_row x ++ t) ≡ t
+behind_mme : (x : Option MmeId) (t : List ℕ) → drop 3 (mme_row x ++ t) ≡ t
 unfolding number_octets
-behind_mme (mme.Is v) t = refl
-behind_mme mme.Absent t = refl
+behind_mme (Some v) t = refl
+behind_mme None t = refl
 
 item_back : (x : Item) (t : List ℕ) → GoodItem x → row_item (item_row x ++ t) ≡ x
 item_back x t h =
@@ -153,9 +151,9 @@ record_again e s {r} q = by (numbered_by e (get_or s 0 0)) q
     formed x true o q = ap (record_octets e) (sym (same_record q)) ∙ same_is (record_octets e x) s o
     formed x false o q = no_record_lem q
 
-    by : (n : Named) → lent_as e s n ≡ is_record r → record_octets e r ≡ s
-    by (named.Is m) q = formed (said_record e m s) (same (record_octets e (said_record e m s)) s) refl q
-    by named.Other q = no_record_lem q
+    by : (n : Option Message) → lent_as e s n ≡ is_record r → record_octets e r ≡ s
+    by (Some m) q = formed (said_record e m s) (same (record_octets e (said_record e m s)) s) refl q
+    by None q = no_record_lem q
 
 pub records_differ : (e : Edition) → StaysDifferent (Held e) (record_octets e)
 records_differ e v w a b q = same_record (sym (record_back e v a) ∙ (ap (read_record e) q ∙ record_back e w b))

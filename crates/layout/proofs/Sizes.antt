@@ -1,5 +1,8 @@
 -- A record has one size, for each part of it has: a slot 8 octets, an item's row 6, an entry's 4, and zeros stand where there is less.
 -- Assumes nothing.
+use Rattle.std.specs.Prelude.{None, Option, Some}
+use Rattle.identity.specs.declared.MceId.{MceId}
+use Rattle.identity.specs.declared.MmeId.{MmeId}
 use mathlib.Core.Path.{◌≡◌, refl}
 use mathlib.Core.List.{List, ◌++◌}
 use Prim.Native.Nat.{ℕ, ◌+◌, ◌*◌, ◌≤◌}
@@ -12,15 +15,9 @@ use Rattle.octets.specs.Many.{each_octets}
 use Rattle.octets.specs.Write.{number_octets}
 use Rattle.octets.specs.declared.Span.{Span}
 use Rattle.octets.proofs.EachWritten.{each_size}
-use Rattle.identity.specs.declared.Mme.{Mme}
-use Rattle.identity.specs.declared.Mme.TheVariants as mme'
-use Rattle.identity.specs.declared.Mce.{Mce}
-use Rattle.identity.specs.declared.Mce.TheVariants as mce'
 use Rattle.identity.specs.declared.Item.{Item}
 use Rattle.items.specs.Items.{whole, part}
 use Rattle.entries.specs.declared.Entry.{Entry}
-use Rattle.diagnostics.specs.declared.Number.{Number}
-use Rattle.diagnostics.specs.declared.Number.TheVariants as number
 use Rattle.diagnostics.specs.declared.Head.{Head}
 use Rattle.editions.specs.declared.Edition.{Edition}
 use Rattle.meaning.specs.Value.{Value, Given, given, absent, carried, mme, mce, tmgi, one, two, cause, wait, name, reset, list, diagnostics, Record}
@@ -29,9 +26,9 @@ use Rattle.layout.specs.Record.{lists_of, number_slot_octets, head_slot_octets, 
 
 -- ---- slots of 8
 
-maybe_size : (x : Number) → length (number_slot_octets x) ≡ 2
-maybe_size (number.Is v) = refl
-maybe_size number.Absent = refl
+maybe_size : (x : Option ℕ) → length (number_slot_octets x) ≡ 2
+maybe_size (Some v) = refl
+maybe_size None = refl
 
 head_size : (h : Head) → length (head_slot_octets h) ≡ 7
 head_size h = rw (length-append, length-append, length-append, maybe_size h.code, maybe_size h.trigger, maybe_size h.crit)
@@ -61,15 +58,15 @@ slots_size vs = each_size slot_octets 8 slot_size vs
 
 -- ---- items of 6, entries of 4
 
-mme_size : (x : Mme) → length (mme_row x) ≡ 3
+mme_size : (x : Option MmeId) → length (mme_row x) ≡ 3
 unfolding number_octets
-mme_size (mme'.Is v) = refl
-mme_size mme'.Absent = refl
+mme_size (Some v) = refl
+mme_size None = refl
 
-mce_size : (x : Mce) → length (mce_row x) ≡ 3
+mce_size : (x : Option MceId) → length (mce_row x) ≡ 3
 unfolding number_octets
-mce_size (mce'.Is v) = refl
-mce_size mce'.Absent = refl
+mce_size (Some v) = refl
+mce_size None = refl
 
 pub item_size : (x : Item) → length (item_row x) ≡ 6
 item_size x = rw (length-append, mme_size x.mme, mce_size x.mce)

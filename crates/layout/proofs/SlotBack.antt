@@ -1,5 +1,6 @@
 -- What a slot was written for is what it says, by the kind of its row; so the slots of a record say its values.
 -- Assumes nothing.
+use Rattle.std.specs.Prelude.{None, Option, Some}
 use Prim.Native.Nat.{ℕ, ◌+◌, ◌-◌, ◌<◌}
 use mathlib.Core.Path.{◌≡◌, ◌∙◌, refl, sym, ap}
 use mathlib.Core.Bool.{Bool, true, false}
@@ -15,8 +16,6 @@ use Rattle.octets.specs.Many.{Each, each_octets}
 use Rattle.octets.specs.declared.Span.{Span}
 use Rattle.lent.proofs.Rows.{value_back}
 use Rattle.items.specs.Items.{whole, part}
-use Rattle.diagnostics.specs.declared.Number.{Number}
-use Rattle.diagnostics.specs.declared.Number.TheVariants as number
 use Rattle.diagnostics.specs.declared.Head.{Head}
 use Rattle.rows.specs.declared.Row.{Row}
 use Rattle.meaning.specs.Value.{Value, Given, given, absent, carried, mme, mce, tmgi, one, two, cause, wait, name, reset, list, diagnostics}
@@ -49,24 +48,24 @@ abbrev pub AgreesGiven : Lists → Given Span → Type 0
 AgreesGiven l (given v) = Agrees l v
 AgreesGiven l absent = Unit
 
-head_back : (c t k : Number) (b : Bool) (rest : List ℕ)
+head_back : (c t k : Option ℕ) (b : Bool) (rest : List ℕ)
     → head_in (1 ∷ head_slot_octets (record { code = c; trigger = t; crit = k; listed = b }) ++ rest) ≡ record { code = c; trigger = t; crit = k; listed = b }
-head_back (number.Is c) (number.Is t) (number.Is k) true rest = refl
-head_back (number.Is c) (number.Is t) (number.Is k) false rest = refl
-head_back (number.Is c) (number.Is t) number.Absent true rest = refl
-head_back (number.Is c) (number.Is t) number.Absent false rest = refl
-head_back (number.Is c) number.Absent (number.Is k) true rest = refl
-head_back (number.Is c) number.Absent (number.Is k) false rest = refl
-head_back (number.Is c) number.Absent number.Absent true rest = refl
-head_back (number.Is c) number.Absent number.Absent false rest = refl
-head_back number.Absent (number.Is t) (number.Is k) true rest = refl
-head_back number.Absent (number.Is t) (number.Is k) false rest = refl
-head_back number.Absent (number.Is t) number.Absent true rest = refl
-head_back number.Absent (number.Is t) number.Absent false rest = refl
-head_back number.Absent number.Absent (number.Is k) true rest = refl
-head_back number.Absent number.Absent (number.Is k) false rest = refl
-head_back number.Absent number.Absent number.Absent true rest = refl
-head_back number.Absent number.Absent number.Absent false rest = refl
+head_back (Some c) (Some t) (Some k) true rest = refl
+head_back (Some c) (Some t) (Some k) false rest = refl
+head_back (Some c) (Some t) None true rest = refl
+head_back (Some c) (Some t) None false rest = refl
+head_back (Some c) None (Some k) true rest = refl
+head_back (Some c) None (Some k) false rest = refl
+head_back (Some c) None None true rest = refl
+head_back (Some c) None None false rest = refl
+head_back None (Some t) (Some k) true rest = refl
+head_back None (Some t) (Some k) false rest = refl
+head_back None (Some t) None true rest = refl
+head_back None (Some t) None false rest = refl
+head_back None None (Some k) true rest = refl
+head_back None None (Some k) false rest = refl
+head_back None None None true rest = refl
+head_back None None None false rest = refl
 
 place_back : (v : Span) (rest : List ℕ) → PlaceFits v → place_in (1 ∷ place_octets v ++ rest) ≡ v
 unfolding number_octets

@@ -1,5 +1,5 @@
 -- Scaffolding: no demand speaks of it. What a record for C can hold, so that nothing of it is cut: places and numbers of two octets, lists of at most 256.
-use Rattle.std.specs.Prelude.{◌-◌, ◌<◌, ◌≤◌, ◌≡◌, true, false, List, [], ◌∷◌, length}
+use Rattle.std.specs.Prelude.{◌-◌, ◌<◌, ◌≤◌, ◌≡◌, true, false, List, [], ◌∷◌, length, Some}
 use Rattle.octets.specs.declared.Span.{Span}
 use Rattle.octets.specs.Many.{Each}
 use Rattle.identity.specs.declared.Item.{Item}
@@ -9,7 +9,6 @@ use Rattle.entries.specs.declared.Entry.{Entry}
 use Rattle.diagnostics.specs.Diagnostics.{Diagnostics}
 use Rattle.rows.specs.declared.Row.{Row}
 use Rattle.editions.specs.declared.Edition.{Edition}
-use Rattle.editions.specs.declared.Named.TheVariants as named
 use Rattle.editions.specs.Editions.{table_of, number_of, numbered_by}
 use Rattle.editions.specs.Lawful.{lawful}
 use Rattle.meaning.specs.Value.{Value, Given, given, absent, carried, mme, mce, tmgi, one, two, cause, wait, name, reset, list, diagnostics, Record}
@@ -58,6 +57,6 @@ RowsFit (r ∷ t) [] = ⊥
 RowsFit (r ∷ t) (v ∷ vs) = RowFits r v × RowsFit t vs
 
 pub record Held (e : Edition) (r : Record) : Type 0 where
-  pub message : numbered_by e (number_of e r.message) ≡ named.Is r.message
+  pub message : numbered_by e (number_of e r.message) ≡ Some r.message
   pub table : lawful (table_of e r.message) ≡ true
   pub values : RowsFit (table_of e r.message) r.values

@@ -1,6 +1,6 @@
 -- The record for C, 2,662 octets: which message, the frame's criticality, a slot of 8 for each of up to twelve rows, items, entries.
 -- Octets are a record if they are those of what they say; so items and entries stand there only where a slot announces them.
-use Rattle.std.specs.Prelude.{ℕ, min, ◌+◌, ◌-◌, Bool, true, false, not, List, [], ◌∷◌, ◌++◌, ltb, leb, eqb, length, get_or, drop}
+use Rattle.std.specs.Prelude.{ℕ, min, ◌+◌, ◌-◌, Bool, true, false, not, List, [], ◌∷◌, ◌++◌, ltb, leb, eqb, length, get_or, drop, None, Option, Some}
 use Rattle.lists.specs.Lists.{pick, fill, some}
 use Rattle.octets.specs.Field.{value_at}
 use Rattle.octets.specs.Write.{number_octets}
@@ -10,8 +10,6 @@ use Rattle.identity.specs.declared.Item.{Item}
 use Rattle.names.specs.Names.{name_allowed}
 use Rattle.items.specs.Items.{whole, part}
 use Rattle.entries.specs.declared.Entry.{Entry}
-use Rattle.diagnostics.specs.declared.Number.{Number}
-use Rattle.diagnostics.specs.declared.Number.TheVariants as number
 use Rattle.diagnostics.specs.declared.Head.{Head}
 use Rattle.layout.specs.Rows.{unless0, item_row, row_item, entry_row, row_entry, each_row, list_octets}
 use Rattle.lent.specs.Lent.{same}
@@ -19,8 +17,6 @@ use Rattle.rows.specs.declared.Kind.{Kind}
 use Rattle.rows.specs.declared.Kind.TheVariants as kind
 use Rattle.rows.specs.declared.Row.{Row}
 use Rattle.editions.specs.declared.Message.{Message}
-use Rattle.editions.specs.declared.Named.{Named}
-use Rattle.editions.specs.declared.Named.TheVariants as named
 use Rattle.editions.specs.declared.Edition.{Edition}
 use Rattle.editions.specs.Editions.{table_of, number_of, numbered_by}
 use Rattle.meaning.specs.Value.{Value, Given, given, absent, carried, mme, mce, tmgi, one, two, cause, wait, name, reset, list, diagnostics, Record, said_by}
@@ -62,9 +58,9 @@ yes true = 1
 yes false = 0
 
 -- 1 and the number, or 0 and 0
-abbrev pub number_slot_octets : Number → List ℕ
-number_slot_octets (number.Is v) = 1 ∷ v ∷ []
-number_slot_octets number.Absent = 0 ∷ 0 ∷ []
+abbrev pub number_slot_octets : Option ℕ → List ℕ
+number_slot_octets (Some v) = 1 ∷ v ∷ []
+number_slot_octets None = 0 ∷ 0 ∷ []
 
 -- procedure code, triggering message, criticality, and whether there is a list
 abbrev pub head_slot_octets : Head → List ℕ
@@ -101,8 +97,8 @@ record_octets e r =
 
 -- ---- what octets say, by the kinds of the table's rows; l are the items and entries that stand there
 
-abbrev number_in : List ℕ → Number
-number_in p = unless0 p number.Absent (number.Is (get_or p 1 0))
+abbrev number_in : List ℕ → Option ℕ
+number_in p = unless0 p None (Some (get_or p 1 0))
 
 abbrev pub head_in : List ℕ → Head
 head_in p = record { code = number_in (drop 1 p); trigger = number_in (drop 3 p); crit = number_in (drop 5 p); listed = not (eqb (get_or p 7 0) 0) }
@@ -147,9 +143,9 @@ pub data LentRecord : Type 0 where
   is_record : Record → LentRecord
   no_record : LentRecord
 
-abbrev pub lent_as : Edition → List ℕ → Named → LentRecord
-lent_as e s (named.Is m) = pick (same (record_octets e (said_record e m s)) s) (is_record (said_record e m s)) no_record
-lent_as e s named.Other = no_record
+abbrev pub lent_as : Edition → List ℕ → Option Message → LentRecord
+lent_as e s (Some m) = pick (same (record_octets e (said_record e m s)) s) (is_record (said_record e m s)) no_record
+lent_as e s None = no_record
 
 unfoldable pub read_record : Edition → List ℕ → LentRecord
 read_record e s = lent_as e s (numbered_by e (get_or s 0 0))

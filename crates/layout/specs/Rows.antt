@@ -1,26 +1,24 @@
 -- The items and the entries of a record: rows of 6 octets and of 4, as many as the number before them says; behind them zeros. And what such rows say.
-use Rattle.std.specs.Prelude.{ℕ, zero, suc, List, [], ◌∷◌, ◌++◌, eqb, length, get_or, drop}
+use Rattle.identity.specs.declared.MceId.{MceId}
+use Rattle.identity.specs.declared.MmeId.{MmeId}
+use Rattle.std.specs.Prelude.{ℕ, zero, suc, List, [], ◌∷◌, ◌++◌, eqb, length, get_or, drop, None, Option, Some}
 use Rattle.lists.specs.Lists.{pick, fill}
 use Rattle.octets.specs.Field.{value_at}
 use Rattle.octets.specs.Write.{number_octets}
 use Rattle.octets.specs.Many.{each_octets}
-use Rattle.identity.specs.declared.Mme.{Mme}
-use Rattle.identity.specs.declared.Mme.TheVariants as mme
-use Rattle.identity.specs.declared.Mce.{Mce}
-use Rattle.identity.specs.declared.Mce.TheVariants as mce
 use Rattle.identity.specs.declared.Item.{Item}
 use Rattle.entries.specs.declared.Entry.{Entry}
 
 -- ---- rows
 
 -- 1 and the identity, or zeros
-abbrev pub mme_row : Mme → List ℕ
-mme_row (mme.Is v) = 1 ∷ number_octets 2 v.0
-mme_row mme.Absent = 0 ∷ 0 ∷ 0 ∷ []
+abbrev pub mme_row : Option MmeId → List ℕ
+mme_row (Some v) = 1 ∷ number_octets 2 v.0
+mme_row None = 0 ∷ 0 ∷ 0 ∷ []
 
-abbrev pub mce_row : Mce → List ℕ
-mce_row (mce.Is v) = 1 ∷ number_octets 2 v.0
-mce_row mce.Absent = 0 ∷ 0 ∷ 0 ∷ []
+abbrev pub mce_row : Option MceId → List ℕ
+mce_row (Some v) = 1 ∷ number_octets 2 v.0
+mce_row None = 0 ∷ 0 ∷ 0 ∷ []
 
 abbrev pub item_row : Item → List ℕ
 item_row i = mme_row i.mme ++ mce_row i.mce
@@ -39,11 +37,11 @@ list_octets n row l = number_octets 2 (length l) ++ fill 0 n (each_octets row l)
 abbrev pub unless0 : {A : Type 0} → List ℕ → A → A → A
 unless0 p a v = pick (eqb (get_or p 0 0) 0) a v
 
-abbrev pub row_mme : List ℕ → Mme
-row_mme p = unless0 p mme.Absent (mme.Is (record { 0 = value_at 2 p 1 }))
+abbrev pub row_mme : List ℕ → Option MmeId
+row_mme p = unless0 p None (Some (record { 0 = value_at 2 p 1 }))
 
-abbrev pub row_mce : List ℕ → Mce
-row_mce p = unless0 p mce.Absent (mce.Is (record { 0 = value_at 2 p 1 }))
+abbrev pub row_mce : List ℕ → Option MceId
+row_mce p = unless0 p None (Some (record { 0 = value_at 2 p 1 }))
 
 abbrev pub row_item : List ℕ → Item
 row_item p = record { mme = row_mme p; mce = row_mce (drop 3 p) }

@@ -1,11 +1,10 @@
 -- Lent tables, computed: one that holds nothing, one that holds one association, and octets that are no table.
+use Rattle.std.specs.Prelude.{None, Option, Some}
 use mathlib.Core.Path.{◌≡◌, refl}
 use mathlib.Core.List.{List, [], ◌∷◌, ◌++◌, map}
 use Prim.Native.Nat.{ℕ}
 use lib.ListN.{replicate}
 use Rattle.octets.specs.Write.{number_octets}
-use Rattle.identity.specs.declared.Session.{Session}
-use Rattle.identity.specs.declared.Session.TheVariants as session
 use Rattle.table.specs.Table.{distinct_held}
 use Rattle.table.specs.declared.Association.{Association}
 use Rattle.lent.specs.Lent.{rows_octets, rows_of, same, Lent, Held, NoTable, read_table}
@@ -14,7 +13,7 @@ use Rattle.lent.specs.Lent.{rows_octets, rows_of, same, Lent, Held, NoTable, rea
 abbrev octets : ℕ → List ℕ → List ℕ
 octets n s = s ++ replicate n 0
 
-abbrev association : Session → Association
+abbrev association : Option ℕ → Association
 association s = record {
   mme = record { 0 = 0x0102 };
   mce = record { 0 = 0x0304 };
@@ -29,8 +28,8 @@ row = 1 ∷ 2 ∷ 3 ∷ 4 ∷ 5 ∷ 6 ∷ 7 ∷ 8 ∷ 9 ∷ 10 ∷ []
 abbrev examples : List (List ℕ × Lent)
 examples =
     (octets 3074 [], Held [])
-    ∷ (octets 3060 (0 ∷ 1 ∷ row ++ 1 ∷ 11 ∷ []), Held (association (session.Is 11) ∷ []))
-    ∷ (octets 3060 (0 ∷ 1 ∷ row ++ 0 ∷ 0 ∷ []), Held (association session.Absent ∷ []))
+    ∷ (octets 3060 (0 ∷ 1 ∷ row ++ 1 ∷ 11 ∷ []), Held (association (Some 11) ∷ []))
+    ∷ (octets 3060 (0 ∷ 1 ∷ row ++ 0 ∷ 0 ∷ []), Held (association None ∷ []))
     -- a flag of 2; a Session Identity beside none; a set octet past the rows; another size; two that share identities; a row that is not counted
     ∷ (octets 3060 (0 ∷ 1 ∷ row ++ 2 ∷ 11 ∷ []), NoTable)
     ∷ (octets 3060 (0 ∷ 1 ∷ row ++ 0 ∷ 11 ∷ []), NoTable)

@@ -1,4 +1,5 @@
 -- When octets are a table: what the reader's tests say of them.
+use Rattle.std.specs.Prelude.{None, Option, Some}
 use mathlib.Core.Path.{◌≡◌, refl, ap, sym, ◌∙◌}
 use mathlib.Core.Bool.{Bool, true, false, ◌&&◌}
 use mathlib.Core.List.{List, [], ◌∷◌, ◌++◌}
@@ -16,10 +17,10 @@ use Rattle.octets.specs.Write.{number_octets}
 use Rattle.octets.specs.Stands.{Octets}
 use Rattle.octets.proofs.Back.{length_number}
 use Rattle.identity.specs.declared.Item.{Item}
+use Rattle.lent.specs.declared.Looked.{Looked}
 use Rattle.table.specs.Table.{State, standing, distinct_held}
 use Rattle.lent.specs.Lent.{rows_octets, table_octets, rows_of, said, same, Held, NoTable, read_table, looked_up}
 use Rattle.lent.specs.Tests.{rows_good, rows_right, zeros}
-use Rattle.lent.specs.declared.Looked.TheVariants as looked
 use Rattle.lent.proofs.Zeros.{zeros_are, are_zeros}
 use Rattle.lent.proofs.Rows.{length_rows, length_octets_lem, value_again, rows_again, good_back}
 
@@ -146,10 +147,10 @@ module _ (s : List ℕ) where
 
     -- by whether the rows are right
     pub right_or_not : Octets s → length s ≡ 3074 → n ≤ 256 → zeros (drop (2 + 12 * n) s) ≡ true → (i : Item) →
-        pick (rows_right n (drop 2 s)) (looked.Is (standing i (rows_of n (drop 2 s))) n) looked.NoTable ≡ looked_up i (read_table s)
+        pick {A = Option Looked} (rows_right n (drop 2 s)) (Some (record { standing = standing i (rows_of n (drop 2 s)); count = n })) None ≡ looked_up i (read_table s)
     right_or_not o w h z i = by (rows_right n (drop 2 s)) refl
       where
-        by : (b : Bool) → rows_right n (drop 2 s) ≡ b → pick b (looked.Is (standing i (rows_of n (drop 2 s))) n) looked.NoTable ≡ looked_up i (read_table s)
+        by : (b : Bool) → rows_right n (drop 2 s) ≡ b → pick {A = Option Looked} b (Some (record { standing = standing i (rows_of n (drop 2 s)); count = n })) None ≡ looked_up i (read_table s)
         by true r = rw (all_pass o w h z r, length_rows n (drop 2 s))
         by false r = rw (not_right r)
 

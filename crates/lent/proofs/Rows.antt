@@ -1,4 +1,5 @@
 -- Rows: reading what was written gives them back, and writing what was read gives the octets.
+use Rattle.std.specs.Prelude.{None, Option, Some}
 use mathlib.Core.Path.{◌≡◌, refl, ap, sym, ◌∙◌}
 use mathlib.Core.Bool.{Bool, true, false, ◌&&◌, ◌||◌}
 use mathlib.Core.List.{List, [], ◌∷◌, ◌++◌, append_assoc, Memᴰ}
@@ -13,8 +14,6 @@ use Rattle.lists.proofs.Tests.{and_left, and_right}
 use Rattle.octets.specs.Field.{value_at}
 use Rattle.octets.specs.Write.{number_octets}
 use Rattle.octets.specs.Stands.{Octets}
-use Rattle.identity.specs.declared.Session.{Session}
-use Rattle.identity.specs.declared.Session.TheVariants as session
 use Rattle.table.specs.Table.{State}
 use Rattle.table.specs.declared.Association.{Association}
 use Rattle.lent.specs.Lent.{flag_of, session_octet, row_octets, rows_octets, session_of, row_of, rows_of, IdentitiesInRange}
@@ -40,9 +39,9 @@ pub value_back : (v : ℕ) (r : List ℕ) → value_at 2 (number_octets 2 v ++ r
 unfolding number_octets
 value_back v r = omega arith
 
-session_back : (s : Session) → session_of (flag_of s) (session_octet s) ≡ s
-session_back (session.Is v) = refl
-session_back session.Absent = refl
+session_back : (s : Option ℕ) → session_of (flag_of s) (session_octet s) ≡ s
+session_back (Some v) = refl
+session_back None = refl
 
 row_back : (a : Association) (r : List ℕ) → IdentitiesInRange a → row_of (row_octets a ++ r) ≡ a
 unfolding number_octets
@@ -78,9 +77,9 @@ module _ (r : List ℕ) where
   good_back [] = refl
   good_back (a ∷ l) = rw (good a.session, good_back l)
     where
-      good : (s : Session) → session_good (flag_of s) (session_octet s) ≡ true
-      good (session.Is v) = refl
-      good session.Absent = refl
+      good : (s : Option ℕ) → session_good (flag_of s) (session_octet s) ≡ true
+      good (Some v) = refl
+      good None = refl
 
 -- ---- read, then written
 pub value_again : (s : List ℕ) (at : ℕ) → Octets s → number_octets 2 (value_at 2 s at) ≡ get_or s at 0 ∷ get_or s (at + 1) 0 ∷ []

@@ -1,25 +1,22 @@
 -- The table as octets that the link process lends: the layout, and what octets say.
-use Rattle.std.specs.Prelude.{◌≡◌, Bool, true, false, ◌&&◌, ℕ, zero, suc, min, ◌≤◌, ◌<◌, eqb, leb, length, get_or, drop}
+use Rattle.std.specs.Prelude.{◌≡◌, Bool, true, false, ◌&&◌, ℕ, zero, suc, min, ◌≤◌, ◌<◌, eqb, leb, length, get_or, drop, None, Option, Some}
 use mathlib.Core.List.{List, [], ◌∷◌, ◌++◌, Memᴰ}
 use Rattle.lists.specs.Lists.{pick, fill}
 use Rattle.octets.specs.Field.{value_at}
 use Rattle.octets.specs.Write.{number_octets}
-use Rattle.identity.specs.declared.Session.{Session}
-use Rattle.identity.specs.declared.Session.TheVariants as session
 use Rattle.identity.specs.declared.Item.{Item}
 use Rattle.table.specs.Table.{State, empty_association, standing, distinct_held}
 use Rattle.table.specs.declared.Association.{Association}
 use Rattle.lent.specs.declared.Looked.{Looked}
-use Rattle.lent.specs.declared.Looked.TheVariants as looked
 
 -- 1 and the Session Identity, or 0 and 0
-abbrev pub flag_of : Session → ℕ
-flag_of (session.Is v) = 1
-flag_of session.Absent = 0
+abbrev pub flag_of : Option ℕ → ℕ
+flag_of (Some v) = 1
+flag_of None = 0
 
-abbrev pub session_octet : Session → ℕ
-session_octet (session.Is v) = v
-session_octet session.Absent = 0
+abbrev pub session_octet : Option ℕ → ℕ
+session_octet (Some v) = v
+session_octet None = 0
 
 -- a row of 12 octets
 abbrev pub row_octets : Association → List ℕ
@@ -39,8 +36,8 @@ abbrev pub table_octets : State → List ℕ
 table_octets l = fill 0 3074 (number_octets 2 (length l) ++ rows_octets l)
 
 -- ---- what octets say
-abbrev pub session_of : ℕ → ℕ → Session
-session_of flag v = pick (eqb flag 0) session.Absent (session.Is v)
+abbrev pub session_of : ℕ → ℕ → Option ℕ
+session_of flag v = pick (eqb flag 0) None (Some v)
 
 -- the row that the first 12 octets say
 abbrev pub row_of : List ℕ → Association
@@ -83,9 +80,9 @@ read_table s = pick (leb (length (said s)) 256 && distinct_held (said s) && same
 
 -- ---- as values of the code
 -- what is held of an item's identities, and how many are held
-abbrev pub looked_up : Item → Lent → Looked
-looked_up i (Held l) = looked.Is (standing i l) (length l)
-looked_up i NoTable = looked.NoTable
+abbrev pub looked_up : Item → Lent → Option Looked
+looked_up i (Held l) = Some (record { standing = standing i l; count = length l })
+looked_up i NoTable = None
 
 -- the octets lent are as many as a table has
 abbrev pub room : List ℕ → Bool

@@ -1,6 +1,8 @@
 -- 01's round trips over the octets of records: nothing that was read is cut in its record's octets, and rewriting what was read gives the octets;
 -- and what was written is the message that stands in front of the room, so records that differ have messages that differ.
 -- Assumes nothing.
+use Rattle.std.specs.Prelude.{Err}
+use Rattle.plan.specs.declared.Unwritten.TheVariants.{NoRoom}
 use Prim.Native.Nat.{ℕ, ◌≤◌, ◌<◌}
 use mathlib.Core.Path.{◌≡◌, sym, ap, ◌∙◌}
 use mathlib.Core.Bool.{Bool, true, false}
@@ -18,7 +20,6 @@ use Rattle.meaning.specs.Written.{Encoded, octets, none, encoded}
 use Rattle.verdicts.specs.Verdict.{Understood, understood, every, read_of}
 use Rattle.layout.specs.Record.{record_octets, record_out, LentRecord, is_record, read_record, written, name_refused}
 use Rattle.layout.proofs.RecordBack.{held_size, record_back}
-use Rattle.plan.specs.declared.Written.TheVariants as plan
 use Rattle.plan.specs.Written.{Writing, kept, in_front, written_in}
 use Rattle.round_trips.specs.Ties.{InTypes, ReadAs, Rewritable}
 use Rattle.round_trips.proofs.Accepted.{opened}
@@ -80,7 +81,7 @@ module _ (ed : Edition) where
   was_written d message none q = absurd (omega (arith, ap (λ (g : HandedBack). g.answer.answer) q))
   was_written d message (octets os) q = by (leb (length os) (length d)) q
     where
-      by : (b : Bool) → written_as (pick {A = Writing} b (in_front d os) (kept plan.NoRoom d)) ≡ handed_back 0 0 (length message) (message ++ drop (length message) d) → octets os ≡ octets message
+      by : (b : Bool) → written_as (pick {A = Writing} b (in_front d os) (kept (Err NoRoom) d)) ≡ handed_back 0 0 (length message) (message ++ drop (length message) d) → octets os ≡ octets message
       by true q =
           let n : length os ≡ length message = ap (λ (g : HandedBack). g.answer.octets) q in
           let r : os ++ drop (length os) d ≡ message ++ drop (length message) d = ap (λ (g : HandedBack). g.room) q in

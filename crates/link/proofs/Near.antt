@@ -10,27 +10,28 @@ use lib.Dec.{ltb, eqb}
 use lib.ListN.{length, take, get_or, length-take}
 use Rattle.lists.specs.Lists.{pick}
 use Rattle.lists.proofs.Tests.{on-pick}
-use Rattle.octets.specs.Read.{Read, got, stop, cut_short, no_meaning, left_over, extended, ◌>>=◌}
+use Rattle.std.specs.Prelude.{Ok, Err, Option}
+use Rattle.octets.specs.Read.{Read, cut_short, no_meaning, left_over, extended, ◌>>=◌}
 use Rattle.octets.specs.declared.Stop.TheVariants.{Fault, Extension}
 use Rattle.octets.specs.Field.{bits_at, there, flag_at, plain_at, choice_at, pad_at, number_at, string_at, same_at, below_at, long_at, long_length_at, length_at, open_at, ends_at}
-use Rattle.octets.specs.Many.{Part, many}
+use Rattle.octets.specs.Many.{many}
+use Rattle.octets.specs.declared.Part.{Part}
 use Rattle.octets.proofs.Chain.{then_got, same_got}
 use Rattle.octets.proofs.Got.{plain_got, choice_got, pad_got, number_got, string_got, wanted_got, below_got, open_in}
-use Rattle.values.specs.Values.{whole_at, mme_at, mce_at, one_at, two_at, tmgi_at, root_of, bits_of_root, cause_at, wait_at}
+use Rattle.values.specs.Values.{whole_at, identity_at, mme_at, mce_at, one_at, two_at, tmgi_at, root_of, bits_of_root, cause_at, wait_at}
 use Rattle.names.specs.Names.{printable, across_at, size_at, char_at, chars_at, name_at}
 use Rattle.names.proofs.Size.{size_got}
-use Rattle.identity.specs.declared.Mme.TheVariants as mme
-use Rattle.identity.specs.declared.Mce.TheVariants as mce
+use Rattle.identity.specs.declared.MmeId.{MmeId}
+use Rattle.identity.specs.declared.MceId.{MceId}
 use Rattle.identity.specs.declared.Item.{Item}
 use Rattle.item.specs.Item as item
 use Rattle.items.specs.Items as items
 use Rattle.item.proofs.Inside as within
 use Rattle.entries.specs.Entries as entries
 use Rattle.diagnostics.specs.Diagnostics as diagnostics
-use Rattle.diagnostics.specs.Diagnostics.{Marks}
+use Rattle.diagnostics.specs.declared.Marks.{Marks}
 use Rattle.entries.specs.declared.Entry.{Entry}
 use Rattle.diagnostics.specs.declared.Head.{Head}
-use Rattle.diagnostics.specs.declared.Number.{Number}
 use Rattle.entries.proofs.Bounds as entry_bounds
 use Rattle.diagnostics.proofs.Bounds as bounds
 use Rattle.rows.specs.declared.Kind.{Kind}
@@ -48,15 +49,14 @@ use Rattle.verdicts.specs.Verdict.{opened_at}
 
 -- a reading stops at octet n or before
 abbrev pub Near : {A : Type 0} → ℕ → Read A → Type 0
-Near n (got a) = Unit
-Near n (stop (Fault p)) = p.octet ≤ n
-Near n (stop (Extension p)) = p.octet ≤ n
+Near n (Ok a) = Unit
+Near n (Err (Fault p)) = p.octet ≤ n
+Near n (Err (Extension p)) = p.octet ≤ n
 
-pub near_then : {A B : Type 0} (n : ℕ) (r : Read A) (go : A → Read B) → Near n r → ((a : A) → got a ≡ r → Near n (go a)) → Near n (r >>= go)
-unfolding ◌>>=◌
-near_then n (got a) go h k = k a refl
-near_then n (stop (Fault p)) go h k = h
-near_then n (stop (Extension p)) go h k = h
+pub near_then : {A B : Type 0} (n : ℕ) (r : Read A) (go : A → Read B) → Near n r → ((a : A) → Ok a ≡ r → Near n (go a)) → Near n (r >>= go)
+near_then n (Ok a) go h k = k a refl
+near_then n (Err (Fault p)) go h k = h
+near_then n (Err (Extension p)) go h k = h
 
 -- ---- fields
 
@@ -108,7 +108,7 @@ module _ (n : ℕ) (s : List ℕ) (at : ℕ) (i : at ≤ n) where
   unfolding open_at no_meaning
   open_near =
       near_then n (length_at s at) _ length_near
-      (λ c q. on-pick (Near n) (eqb c.count 0) i (on-pick (Near n) (ltb (length s) (c.next + c.count)) i tt))
+      (λ c q. on-pick (Near n) (eqb c.value 0) i (on-pick (Near n) (ltb (length s) (c.next + c.value)) i tt))
 
   char_near : Near n (char_at s at)
   unfolding char_at no_meaning
@@ -119,7 +119,7 @@ module _ (n : ℕ) (s : List ℕ) (at : ℕ) (i : at ≤ n) where
   ends_near = on-pick (Near n) (ltb at (length s)) i tt
 
 -- several, each inside where the last ended inside
-many_near : {A : Type 0} (n : ℕ) (one : ℕ → Read (Part A)) → ((at : ℕ) → at ≤ n → Near n (one at)) → ((at : ℕ) (p : Part A) → got p ≡ one at → p.next ≤ n)
+many_near : {A : Type 0} (n : ℕ) (one : ℕ → Read (Part A)) → ((at : ℕ) → at ≤ n → Near n (one at)) → ((at : ℕ) (p : Part A) → Ok p ≡ one at → p.next ≤ n)
     → (k at : ℕ) → at ≤ n → Near n (many one k at)
 unfolding many
 many_near n one near ends zero at i = tt
@@ -127,8 +127,8 @@ many_near n one near ends (suc k) at i =
     near_then n (one at) _ (near at i)
     (λ x q. near_then n (many one k x.next) _ (many_near n one near ends k x.next (ends at x q)) (λ xs r. tt))
 
-many_ends : {A : Type 0} (n : ℕ) (one : ℕ → Read (Part A)) → ((at : ℕ) (p : Part A) → got p ≡ one at → p.next ≤ n)
-    → (k at : ℕ) (p : Part (List A)) → at ≤ n → got p ≡ many one k at → p.next ≤ n
+many_ends : {A : Type 0} (n : ℕ) (one : ℕ → Read (Part A)) → ((at : ℕ) (p : Part A) → Ok p ≡ one at → p.next ≤ n)
+    → (k at : ℕ) (p : Part (List A)) → at ≤ n → Ok p ≡ many one k at → p.next ≤ n
 unfolding many
 many_ends {A} n one ends zero at p i q = subst (λ (x : Part (List A)). x.next ≤ n) (sym (same_got q)) i
 many_ends {A} n one ends (suc k) at p i q =
@@ -144,14 +144,6 @@ module _ (n : ℕ) (s : List ℕ) (l : length s ≤ n) (at : ℕ) (i : at ≤ n)
       near_then n (number_at k s at) _ (number_near n s at i k)
       (λ v q. let h = (number_got s at k q).0 in near_then n (ends_at s (at + k)) _ (ends_near n s (at + k) (omega arith)) (λ x r. tt))
 
-  mme_near : Near n (mme_at s at)
-  unfolding mme_at
-  mme_near = near_then n (whole_at 2 s at) _ (whole_near 2) (λ v q. tt)
-
-  mce_near : Near n (mce_at s at)
-  unfolding mce_at
-  mce_near = near_then n (whole_at 2 s at) _ (whole_near 2) (λ v q. tt)
-
   one_near : Near n (one_at s at)
   unfolding one_at
   one_near = whole_near 1
@@ -159,6 +151,10 @@ module _ (n : ℕ) (s : List ℕ) (l : length s ≤ n) (at : ℕ) (i : at ≤ n)
   two_near : Near n (two_at s at)
   unfolding two_at
   two_near = whole_near 2
+
+  identity_near : {I : Type 0} (numbered : ℕ → I) → Near n (identity_at numbered s at)
+  unfolding identity_at
+  identity_near numbered = near_then n (two_at s at) _ two_near (λ v q. tt)
 
   tmgi_near : Near n (tmgi_at s at)
   unfolding tmgi_at
@@ -207,14 +203,20 @@ module _ (n : ℕ) (s : List ℕ) (l : length s ≤ n) (at : ℕ) (i : at ≤ n)
 -- ---- items
 
 module _ (n : ℕ) (s : List ℕ) (l : length s ≤ n) where
-  module _ {A : Type 0} (is : ℕ → A) (absent : A) where
-    maybe_near : (b : Bool) (at : ℕ) → at ≤ n → Near n (item.maybe_identity_at is absent b s at)
+  module _ {I : Type 0} (numbered : ℕ → I) where
+    maybe_near : (b : Bool) (at : ℕ) → at ≤ n → Near n (item.maybe_identity_at numbered b s at)
     maybe_near false at i = tt
     maybe_near true at i = near_then n (number_at 2 s at) _ (number_near n s at i 2) (λ v q. tt)
 
-    maybe_ends : (b : Bool) (at : ℕ) {x : A} → at ≤ n → got x ≡ item.maybe_identity_at is absent b s at → item.behind b at ≤ n
+    maybe_ends : (b : Bool) (at : ℕ) {x : Option I} → at ≤ n → Ok x ≡ item.maybe_identity_at numbered b s at → item.behind b at ≤ n
     maybe_ends false at i q = i
     maybe_ends true at i q = let a = then_got (number_at 2 s at) _ q in let h = (number_got s at 2 a.1).0 in omega arith
+
+  abbrev mme_is : ℕ → MmeId
+  mme_is v = record { 0 = v }
+
+  abbrev mce_is : ℕ → MceId
+  mce_is v = record { 0 = v }
 
   marks_near : (at : ℕ) → at ≤ n → Near n (item.item_marks_at s at)
   unfolding item.item_marks_at
@@ -229,10 +231,10 @@ module _ (n : ℕ) (s : List ℕ) (l : length s ≤ n) where
   unfolding item.item_at
   item_near at i =
       near_then n (item.item_marks_at s at) _ (marks_near at i) (λ h q. let k = within.marks_in_lem s at q in let j : at + 1 ≤ n = omega arith in
-      near_then n (item.maybe_mme_at h.mme s (at + 1)) _ (maybe_near item.mme_is mme.Absent h.mme (at + 1) j) (λ x r. let u = maybe_ends item.mme_is mme.Absent h.mme (at + 1) j r in
-      near_then n (item.maybe_mce_at h.mce s (item.behind h.mme (at + 1))) _ (maybe_near item.mce_is mce.Absent h.mce (item.behind h.mme (at + 1)) u) (λ y v.
+      near_then n (item.maybe_mme_at h.mme s (at + 1)) _ (maybe_near mme_is h.mme (at + 1) j) (λ x r. let u = maybe_ends mme_is h.mme (at + 1) j r in
+      near_then n (item.maybe_mce_at h.mce s (item.behind h.mme (at + 1))) _ (maybe_near mce_is h.mce (item.behind h.mme (at + 1)) u) (λ y v.
       near_then n (ends_at s (item.behind h.mce (item.behind h.mme (at + 1)))) _
-      (ends_near n s (item.behind h.mce (item.behind h.mme (at + 1))) (maybe_ends item.mce_is mce.Absent h.mce (item.behind h.mme (at + 1)) u v)) (λ e w. tt))))
+      (ends_near n s (item.behind h.mce (item.behind h.mme (at + 1))) (maybe_ends mce_is h.mce (item.behind h.mme (at + 1)) u v)) (λ e w. tt))))
 
 cut_short_lem : (n : ℕ) (s : List ℕ) (k : ℕ) → length s ≤ n → length (take k s) ≤ n
 cut_short_lem n s k l = let e = length-take k s in omega arith
@@ -247,7 +249,7 @@ module _ (n : ℕ) (s : List ℕ) (l : length s ≤ n) where
       near_then n (open_at s (at + 3)) _ (open_near n s (at + 3) (omega arith)) (λ v w. let o = open_in s (at + 3) w in let f = o.1 in let t = o.2 in
       near_then n (item.item_at (take v.to s) v.from) _ (item_near n (take v.to s) (cut_short_lem n s v.to l) v.from (omega arith)) (λ x y. tt)))))
 
-  element_ends : (at : ℕ) (p : Part Item) → got p ≡ item.item_element_at s at → p.next ≤ n
+  element_ends : (at : ℕ) (p : Part Item) → Ok p ≡ item.item_element_at s at → p.next ≤ n
   unfolding item.item_element_at
   element_ends at p q =
       let a = then_got (same_at 14 s at) _ q in
@@ -301,7 +303,7 @@ module _ (n : ℕ) (s : List ℕ) (l : length s ≤ n) where
       near_then n (pad_at s at 6) _ (pad_near n s at (omega arith) 6) (λ a q.
       near_then n (number_at 1 s (at + 1)) _ (number_near n s (at + 1) i 1) (λ b r. tt))
 
-  code_ends : (b : Bool) (at : ℕ) {x : Number} → at ≤ n → got x ≡ diagnostics.code_at b s at → at + diagnostics.after b 10 6 / 8 ≤ n
+  code_ends : (b : Bool) (at : ℕ) {x : Option ℕ} → at ≤ n → Ok x ≡ diagnostics.code_at b s at → at + diagnostics.after b 10 6 / 8 ≤ n
   unfolding diagnostics.code_at
   code_ends false at i q = omega arith
   code_ends true at i q =
@@ -315,7 +317,7 @@ module _ (n : ℕ) (s : List ℕ) (l : length s ≤ n) where
   pair_near k false at p i = tt
   pair_near k true at p i = near_then n (choice_at k 2 s (at + p / 8) p) _ (choice_near n s (at + p / 8) i k 2 p) (λ v q. tt)
 
-  pair_ends : (k : ℕ) (b : Bool) (at p : ℕ) {x : Number} → at + p / 8 ≤ n → got x ≡ diagnostics.maybe_at k b s at p → at + diagnostics.after b 2 p / 8 ≤ n
+  pair_ends : (k : ℕ) (b : Bool) (at p : ℕ) {x : Option ℕ} → at + p / 8 ≤ n → Ok x ≡ diagnostics.maybe_at k b s at p → at + diagnostics.after b 2 p / 8 ≤ n
   unfolding diagnostics.maybe_at
   pair_ends k false at p i q = i
   pair_ends k true at p i q =
@@ -323,7 +325,7 @@ module _ (n : ℕ) (s : List ℕ) (l : length s ≤ n) where
       let h = (choice_got s (at + p / 8) k 2 p a.1).0 in
       omega arith
 
-  pad_ends : (at p : ℕ) → at + p / 8 ≤ n → got tt ≡ pad_at s (at + p / 8) p → at + (p + 7) / 8 ≤ n
+  pad_ends : (at p : ℕ) → at + p / 8 ≤ n → Ok tt ≡ pad_at s (at + p / 8) p → at + (p + 7) / 8 ≤ n
   pad_ends at p i q = by (eqb (p % 8) 0) refl
     where
       by : (b : Bool) → eqb (p % 8) 0 ≡ b → at + (p + 7) / 8 ≤ n
@@ -342,7 +344,7 @@ module _ (n : ℕ) (s : List ℕ) (l : length s ≤ n) where
       near_then n (pad_at s (at + diagnostics.behind_crit m / 8) (diagnostics.behind_crit m)) _
       (pad_near n s (at + diagnostics.behind_crit m / 8) d (diagnostics.behind_crit m)) (λ e w. tt)))))
 
-  head_ends : (k at : ℕ) (p : Part Head) → at ≤ n → got p ≡ diagnostics.head_at k s at → p.next ≤ n
+  head_ends : (k at : ℕ) (p : Part Head) → at ≤ n → Ok p ≡ diagnostics.head_at k s at → p.next ≤ n
   unfolding diagnostics.head_at
   head_ends k at p i q =
       let a = then_got (diagnostics.marks_at s at) _ q in
@@ -374,7 +376,7 @@ module _ (n : ℕ) (s : List ℕ) (l : length s ≤ n) where
       near_then n (plain_at s (at + 3) 0) _ (plain_near n s (at + 3) (omega arith) 0) (λ c u.
       near_then n (choice_at 2 1 s (at + 3) 1) _ (choice_near n s (at + 3) (omega arith) 2 1 1) (λ d v. tt))))
 
-  entry_ends : (from at : ℕ) (p : Part Entry) → got p ≡ entries.entry_at s from at → p.next ≤ n
+  entry_ends : (from at : ℕ) (p : Part Entry) → Ok p ≡ entries.entry_at s from at → p.next ≤ n
   unfolding entries.entry_at
   entry_ends from at p q =
       let a = then_got (entries.crit_at s at (entries.begins from at)) _ q in
@@ -414,8 +416,8 @@ module _ (n : ℕ) (s : List ℕ) (l : length s ≤ n) where
   value_near : (k : Kind) (at : ℕ) → at ≤ n → Near n (legible_at k s at)
   unfolding legible_at
   value_near kind.Carried at i = tt
-  value_near kind.Mme at i = near_then n (mme_at s at) _ (mme_near n s l at i) (λ v q. tt)
-  value_near kind.Mce at i = near_then n (mce_at s at) _ (mce_near n s l at i) (λ v q. tt)
+  value_near kind.Mme at i = near_then n (mme_at s at) _ (identity_near n s l at i (λ v. record { 0 = v })) (λ v q. tt)
+  value_near kind.Mce at i = near_then n (mce_at s at) _ (identity_near n s l at i (λ v. record { 0 = v })) (λ v q. tt)
   value_near kind.Tmgi at i = near_then n (tmgi_at s at) _ (tmgi_near n s l at i) (λ v q. tt)
   value_near kind.OneOctet at i = near_then n (one_at s at) _ (one_near n s l at i) (λ v q. tt)
   value_near kind.TwoOctets at i = near_then n (two_at s at) _ (two_near n s l at i) (λ v q. tt)
@@ -431,7 +433,7 @@ module _ (n : ℕ) (s : List ℕ) (l : length s ≤ n) where
   criticality_near at i =
       near_then n (choice_at 3 2 s at 0) _ (choice_near n s at i 3 2 0) (λ c q. near_then n (pad_at s at 2) _ (pad_near n s at i 2) (λ a r. tt))
 
-  criticality_in : (at : ℕ) {c : ℕ} → got c ≡ criticality_at s at → at + 1 ≤ n
+  criticality_in : (at : ℕ) {c : ℕ} → Ok c ≡ criticality_at s at → at + 1 ≤ n
   unfolding criticality_at
   criticality_in at q = let a = then_got (choice_at 3 2 s at 0) _ q in let h = (choice_got s at 3 2 0 a.1).0 in omega arith
 
@@ -453,7 +455,7 @@ module _ (n : ℕ) (s : List ℕ) (l : length s ≤ n) (t : List Row) where
       scan_near k h.value.to (omega arith)))
 
   -- and they end inside
-  scan_in : (k at : ℕ) {end : ℕ} → at ≤ n → got end ≡ scan_at t s k at → end ≤ n
+  scan_in : (k at : ℕ) {end : ℕ} → at ≤ n → Ok end ≡ scan_at t s k at → end ≤ n
   unfolding scan_at
   scan_in zero at i q = rw (← same_got q) at i
   scan_in (suc k) at i q =
@@ -487,7 +489,7 @@ module _ (n : ℕ) (s : List ℕ) (l : length s ≤ n) where
       near_then n (choice_at 3 2 s 0 1) _ (choice_near n s 0 (omega arith) 3 2 1) (λ b r.
       near_then n (pad_at s 0 3) _ (pad_near n s 0 (omega arith) 3) (λ c u. tt)))
 
-  kind_in : {k : ℕ} → got k ≡ kind_at s → 1 ≤ n
+  kind_in : {k : ℕ} → Ok k ≡ kind_at s → 1 ≤ n
   unfolding kind_at
   kind_in q = let a = then_got (plain_at s 0 0) _ q in let h = (plain_got s 0 0 a.1).0 in omega arith
 
@@ -501,7 +503,7 @@ module _ (n : ℕ) (s : List ℕ) (l : length s ≤ n) where
       near_then n (ends_at s v.to) _ (ends_near n s v.to (omega arith)) (λ e x. tt)))))
 
   -- what is inside the frame begins inside
-  pub frame_in : {f : Frame} → got f ≡ frame_at s → f.from ≤ n
+  pub frame_in : {f : Frame} → Ok f ≡ frame_at s → f.from ≤ n
   unfolding frame_at
   frame_in {f} q =
       let a = then_got (kind_at s) _ q in
@@ -528,7 +530,7 @@ module _ (n : ℕ) (s : List ℕ) (l : length s ≤ n) where
       near_then n (pad_at s at (pick c 2 1)) _ (pad_near n s at i (pick c 2 1)) (λ b r.
       near_then n (number_at 2 s (at + 1)) _ (number_near n s (at + 1) (omega arith) 2) (λ k u. tt))))
 
-  count_in : (c : Bool) (at : ℕ) {k : Count} → got k ≡ count_at c s at → at + 3 ≤ n
+  count_in : (c : Bool) (at : ℕ) {k : Count} → Ok k ≡ count_at c s at → at + 3 ≤ n
   unfolding count_at
   count_in c at q =
       let a = then_got (plain_at s at 0) _ q in

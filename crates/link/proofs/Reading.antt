@@ -1,5 +1,7 @@
 -- What the reader and the writer hand to C: no place and no number of octets is over 8,192, so none is cut; and what is handed over is what was read or written.
 -- Assumes nothing.
+use Rattle.std.specs.Prelude.{Result, Err, Ok}
+use Rattle.plan.specs.declared.Unwritten.TheVariants.{NoRoom, NotWritten}
 use Prim.Native.Nat.{ℕ, ◌^◌, ◌<◌, ◌≤◌}
 use mathlib.Core.Path.{◌≡◌, refl, sym, ap, subst, ◌∙◌}
 use mathlib.Core.Bool.{Bool, true, false}
@@ -14,12 +16,11 @@ use Rattle.meaning.specs.Written.{Encoded, octets, none}
 use Rattle.verdicts.specs.declared.Refusal.{Refusal}
 use Rattle.verdicts.specs.Verdict.{Verdict, refused, understood, every, read_of}
 use Rattle.layout.specs.Record.{written}
-use Rattle.plan.specs.declared.Written.{Written}
-use Rattle.plan.specs.declared.Written.TheVariants as plan
-use Rattle.plan.specs.Written.{written_number, put_of, Writing, written_in, Writes}
+use Rattle.plan.specs.Written.{written_number, put_of, Writing, written_in, Writes, Written}
 use Rattle.round_trips.proofs.LentDiffer.{lent_record}
-use Rattle.reader.specs.declared.Reading.{Reading}
-use Rattle.reader.specs.declared.Reading.TheVariants as reading
+use Rattle.verdicts.specs.declared.Outcome.{Outcome}
+use Rattle.reader.specs.declared.Unread.{Unread}
+use Rattle.reader.specs.declared.Unread.TheVariants as unread
 use Rattle.reader.specs.Reader.{answer_to, Answers}
 use Rattle.link.specs.declared.Answer.{Answer}
 use Rattle.link.specs.Link.{refusal_number, refusal_place, outcome_number, recorded, verdict_as, read_for, allowed_for, Put}
@@ -27,15 +28,18 @@ use Rattle.link.proofs.Sizes.{PlacedBy, read_placed, encoded_small}
 
 -- ---- reading
 
+abbrev Reading : Type 0
+Reading = Result Outcome Unread
+
 abbrev numbers_of : Reading → Answer
-numbers_of (reading.Refused x) = record { answer = refusal_number x; place = refusal_place x; octets = 0; bit = 0; wait = 0 }
-numbers_of reading.NoRoom = record { answer = 10; place = 0; octets = 0; bit = 0; wait = 0 }
-numbers_of (reading.Put o) = record { answer = outcome_number o; place = 0; octets = 2662; bit = 0; wait = 0 }
+numbers_of (Err (unread.Refused x)) = record { answer = refusal_number x; place = refusal_place x; octets = 0; bit = 0; wait = 0 }
+numbers_of (Err unread.NoRoom) = record { answer = 10; place = 0; octets = 0; bit = 0; wait = 0 }
+numbers_of (Ok o) = record { answer = outcome_number o; place = 0; octets = 2662; bit = 0; wait = 0 }
 
 abbrev Small : Reading → Type 0
-Small (reading.Refused x) = refusal_place x ≤ 8192
-Small reading.NoRoom = Unit
-Small (reading.Put o) = Unit
+Small (Err (unread.Refused x)) = refusal_place x ≤ 8192
+Small (Err unread.NoRoom) = Unit
+Small (Ok o) = Unit
 
 answer_small : (v : Verdict) (n : ℕ) → PlacedBy 8192 v → Small (answer_to v n)
 answer_small (refused x) n h = h
@@ -56,15 +60,15 @@ module _ (k : Edition) (s d : List ℕ) {r : Reading} {m : List ℕ} (h : Answer
   unfolding read_for
   put_read {y} e {a} q = let p = in_numbers k d (read_of k every s) h in record { answer = q ∙ (ap numbers_of (sym e) ∙ p.answer); room = p.room }
 
-  pub refusal_small : {x : Refusal} → r ≡ reading.Refused x → refusal_place x ≤ 8192
+  pub refusal_small : {x : Refusal} → r ≡ Err (unread.Refused x) → refusal_place x ≤ 8192
   refusal_small e = subst Small (sym h.0 ∙ e) (answer_small (read_of k every s) (length d) (read_placed k every 8192 s (λ l. l)))
 
 -- ---- writing
 
 abbrev SmallPut : Written → Type 0
-SmallPut (plan.Done n) = n ≤ 8192
-SmallPut plan.NoRoom = Unit
-SmallPut plan.NotWritten = Unit
+SmallPut (Ok n) = n ≤ 8192
+SmallPut (Err NoRoom) = Unit
+SmallPut (Err NotWritten) = Unit
 
 put_small : (d : List ℕ) (x : Encoded) → ((os : List ℕ) → x ≡ octets os → length os ≤ 8192) → SmallPut (written_in d x).answer
 unfolding written_in
@@ -75,7 +79,7 @@ written_small : (k : Edition) (s values os : List ℕ) → written k s values �
 written_small k s values os q = let r = lent_record k s values os q in encoded_small k (said_by values r.what) os r.message
 
 module _ (k : Edition) (s values d : List ℕ) {x : Written} {m : List ℕ} (h : Writes (written_in d (written k s values)) x m) where
-  pub octets_small : {n : ℕ} → x ≡ plan.Done n → n < 2 ^ 32
+  pub octets_small : {n : ℕ} → x ≡ Ok n → n < 2 ^ 32
   octets_small e =
       let z = subst SmallPut (sym h.answer ∙ e) (put_small d (written k s values) (written_small k s values)) in
       omega arith

@@ -1,5 +1,6 @@
 -- A setup is answered as 02's table says; only 0 opens, and a refusal leaves everything. By the tests, one after another.
 -- Assumes nothing.
+use Rattle.std.specs.Prelude.{None}
 use Prim.Native.Nat.{ℕ, ◌≤◌}
 use mathlib.Core.Path.{◌≡◌, refl}
 use mathlib.Core.Bool.{Bool, true, false, not}
@@ -17,7 +18,6 @@ use Rattle.units.specs.Unit.{Unit, MaybeUnit, is_unit, no_unit, read_unit, with_
 use Rattle.editions.specs.declared.Edition.TheVariants.{Release18}
 use Rattle.setup.specs.declared.SetupAnswer.TheVariants.{Opened, NameNotAllowed, AlreadyOpen, NoRoom}
 use Rattle.setup.specs.Setup.{setup_number, Setup, SetupDone, refusing, is_request, request_of, opening, setup_on, setup}
-use Rattle.demands.specs.Due as due
 use Rattle.demands.specs.Due.{Due, ◌when◌reply◌, first_due}
 use Rattle.link.proofs.Sizes.{encoded_small}
 use Rattle.link.specs.SetsUpAs.{has_request, fits_room, setup_due, SetsUpAs}
@@ -29,12 +29,12 @@ module _ (t : List ℕ) (c : Setup) (u : Unit) where
 
   abbrev due_by : Bool → Bool → Encoded → Due
   due_by b d x =
-      first_due (0 when true reply due.none)
-      (21 when false reply due.none
-      ∷ 12 when b reply due.none
-      ∷ 13 when d reply due.none
-      ∷ 11 when not (has_request x) reply due.none
-      ∷ 10 when not (fits_room c.room x) reply due.none ∷ [])
+      first_due (0 when true reply None)
+      (21 when false reply None
+      ∷ 12 when b reply None
+      ∷ 13 when d reply None
+      ∷ 11 when not (has_request x) reply None
+      ∷ 10 when not (fits_room c.room x) reply None ∷ [])
 
   record Right (b d : Bool) (x : Encoded) : Type 0 where
     answers : setup_number (done b d x).answer ≡ (due_by b d x).number
@@ -51,7 +51,7 @@ module _ (t : List ℕ) (c : Setup) (u : Unit) where
       sent : Bool → SetupDone
       sent b = pick b (record { answer = Opened; request = os; unit = unit_octets (with_open true u); room = os ++ drop (length os) c.room }) (refusing NoRoom t c.room)
 
-      fit : (b : Bool) → (setup_number (sent b).answer ≡ (first_due (0 when true reply due.none) (10 when not b reply due.none ∷ [])).number)
+      fit : (b : Bool) → (setup_number (sent b).answer ≡ (first_due (0 when true reply None) (10 when not b reply None ∷ [])).number)
           × (setup_number (sent b).answer ≡ 0 → (sent b).unit ≡ unit_octets (with_open true u))
           × ((sent b).room ≡ (sent b).request ++ drop (length (sent b).request) c.room)
           × ((setup_number (sent b).answer ≡ 0 → ⊥) → ((sent b).unit ≡ t) × ((sent b).room ≡ c.room))

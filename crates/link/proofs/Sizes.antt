@@ -10,19 +10,17 @@ use lib.Dec.{ltb}
 use lib.ListN.{length}
 use Rattle.lists.specs.Lists.{pick}
 use Rattle.lists.proofs.Tests.{on-pick, and_right}
-use Rattle.octets.specs.Read.{Read, got, stop}
+use Rattle.std.specs.Prelude.{Ok, Err, None, Option, Some}
+use Rattle.octets.specs.Read.{Read}
 use Rattle.octets.specs.declared.Stop.TheVariants.{Fault, Extension}
 use Rattle.identity.specs.declared.MmeId.{MmeId}
 use Rattle.identity.specs.declared.MceId.{MceId}
-use Rattle.identity.specs.declared.Session.{Session}
 use Rattle.identity.specs.declared.Tmgi.{Tmgi}
 use Rattle.identity.specs.declared.Item.{Item}
 use Rattle.entries.specs.declared.Entry.{Entry}
 use Rattle.rows.specs.declared.Row.{Row}
 use Rattle.editions.specs.declared.Edition.{Edition}
 use Rattle.editions.specs.declared.Message.{Message}
-use Rattle.editions.specs.declared.Named.{Named}
-use Rattle.editions.specs.declared.Named.TheVariants as named
 use Rattle.editions.specs.Editions.{table_of, container_of, named_by}
 use Rattle.frames.specs.declared.Frame.{Frame}
 use Rattle.frames.specs.Frame.{frame_at}
@@ -41,9 +39,7 @@ use Rattle.requests.specs.declared.Request.TheVariants as request
 use Rattle.requests.specs.Requests.{ask_of, asks, seen, items_in}
 use Rattle.replies.specs.Replies.{Replied, silent, says, reply_octets}
 use Rattle.carry.specs.declared.Decision.{Decision}
-use Rattle.carry.specs.declared.Ruling.{Ruling}
-use Rattle.carry.specs.declared.Ruling.TheVariants.{Granted, Refused}
-use Rattle.carry.specs.Carry.{started, stopped, carried_out, asked, ruling, refusal}
+use Rattle.carry.specs.Carry.{Ruling, started, stopped, carried_out, asked, ruling, refusal}
 use Rattle.answers.specs.Answers.{numbered}
 use Rattle.calls.specs.Decided.{Decided, keeps, changes, fails, applied, decided}
 use Rattle.calls.specs.Judged.{ruled, judged_by, verdict, setup_answer}
@@ -66,19 +62,19 @@ module _ (e : Edition) (among : Message → Bool) (n : ℕ) where
 
   module _ (s : List ℕ) (l : length s ≤ n) where
     opening_placed : (t : List Row) (m : Message) (f : Frame) (r : Read Opening) → Near n r → PlacedBy n (verdict_of t m f s r)
-    opening_placed t m f (got o) h = tt
-    opening_placed t m f (stop (Fault p)) h = h
-    opening_placed t m f (stop (Extension p)) h = h
+    opening_placed t m f (Ok o) h = tt
+    opening_placed t m f (Err (Fault p)) h = h
+    opening_placed t m f (Err (Extension p)) h = h
 
-    those_placed : (f : Frame) (m : Named) → f.from ≤ n → PlacedBy n (of_those e among s f m)
-    those_placed f (named.Is m) i =
+    those_placed : (f : Frame) (m : Option Message) → f.from ≤ n → PlacedBy n (of_those e among s f m)
+    those_placed f (Some m) i =
         on-pick (PlacedBy n) (among m) (opening_placed (table_of e m) m f (opened_at (table_of e m) (container_of e m) s f.from) (opened_near n s l (table_of e m) (container_of e m) f.from i)) (nothing_placed NotAmong refl)
-    those_placed f named.Other i = nothing_placed NotAmong refl
+    those_placed f None i = nothing_placed NotAmong refl
 
     framed_placed : (r : Read Frame) → r ≡ frame_at s → Near n r → PlacedBy n (framed e among s r)
-    framed_placed (got f) q h = those_placed f (named_by e f.kind f.code) (frame_in n s l q)
-    framed_placed (stop (Fault p)) q h = h
-    framed_placed (stop (Extension p)) q h = h
+    framed_placed (Ok f) q h = those_placed f (named_by e f.kind f.code) (frame_in n s l q)
+    framed_placed (Err (Fault p)) q h = h
+    framed_placed (Err (Extension p)) q h = h
 
   -- over 8,192 octets there is no place
   pub read_placed : (s : List ℕ) → (length s ≤ 8192 → length s ≤ n) → PlacedBy n (read_of e among s)
@@ -104,7 +100,7 @@ module _ (n : ℕ) where
     PlacedFor d = Placed (applied e u f items noted d)
 
     module _ (k : Standing) (c : MceId) where
-      started_placed : (x : MmeId) (t : Tmgi) (s : Session) → PlacedFor (started k c x t s)
+      started_placed : (x : MmeId) (t : Tmgi) (s : Option ℕ) → PlacedFor (started k c x t s)
       unfolding started
       started_placed x t s = on-pick PlacedFor k.mme nowhere (on-pick PlacedFor k.mce nowhere (on-pick PlacedFor k.full nowhere nowhere))
 
@@ -123,8 +119,8 @@ module _ (n : ℕ) where
 
   ruled_placed : (e : Edition) (u : units.Unit) (c : MceId) (w : Understood) (r : Ruling) → Placed (decided e u c (ruled e w r))
   unfolding decided
-  ruled_placed e u c w (Granted q) = carried_placed e u w.frame (items_in w.what) w.noted (standing (asked c q) u.held) c q
-  ruled_placed e u c w (Refused r) = nowhere
+  ruled_placed e u c w (Ok q) = carried_placed e u w.frame (items_in w.what) w.noted (standing (asked c q) u.held) c q
+  ruled_placed e u c w (Err r) = nowhere
 
   refusal_placed : (x : Refusal) → refusal_place x ≤ n → (numbered (refusal x)).place ≤ n
   refusal_placed TooLong h = h

@@ -1,5 +1,6 @@
 -- Warnings over SBc-AP: the theorems of reading and writing, of two more editions. No table of theirs has a name, so no name is refused (nameless).
 -- Assumes nothing.
+use Rattle.std.specs.Prelude.{None, Option, Some}
 use Prim.Native.Nat.{ℕ, suc}
 use mathlib.Core.Path.{◌≡◌, refl}
 use mathlib.Core.Bool.{Bool, true, false, not, ◌||◌}
@@ -19,8 +20,6 @@ use Rattle.elements.proofs.ExtensionLaws.{no_row_is_theirs, extensions_judged}
 use Rattle.editions.specs.declared.Edition.{Edition}
 use Rattle.editions.specs.declared.Edition.TheVariants.{Warnings, WarningsLab}
 use Rattle.editions.specs.declared.Message.{Message}
-use Rattle.editions.specs.declared.Named.{Named}
-use Rattle.editions.specs.declared.Named.TheVariants as named
 use Rattle.editions.specs.Editions.{printed, table_of, messages_of, numbered_by}
 use Rattle.editions.proofs.Names.{numbered_listed}
 use Rattle.lists.proofs.Some.{none_at}
@@ -83,11 +82,11 @@ never_refused : (k : Edition) → no_names k ≡ true → (s values : List ℕ) 
 unfolding name_refused read_record said_record said_by
 never_refused k q s values = by (numbered_by k (get_or s 0 0)) refl
   where
-    by : (n : Named) → numbered_by k (get_or s 0 0) ≡ n → name_refused_by values (lent_as k s n) ≡ false
-    by (named.Is m) e =
+    by : (n : Option Message) → numbered_by k (get_or s 0 0) ≡ n → name_refused_by values (lent_as k s n) ≡ false
+    by (Some m) e =
         on-pick (λ (x : LentRecord). name_refused_by values x ≡ false) (same (record_octets k (said_record k m s)) s)
         (slots_good_lem (lists_in s) values (table_of k m) (drop 2 s) (none_at (λ (m : Message). some named_row (table_of k m)) (numbered_listed k (get_or s 0 0) m e) (not-true _ q))) refl
-    by named.Other e = refl
+    by None e = refl
 
 not_twelve : (d : List ℕ) (x : Encoded) → (written_as (written_in d x)).answer.answer ≡ 12 → ⊥
 unfolding written_in

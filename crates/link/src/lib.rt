@@ -6,15 +6,15 @@ ghost use Rattle.std.specs.Prelude.{◌≡◌, ◌≤◌};
 ghost use Rattle.lists.specs.Lists.{pick};
 ghost use Rattle.calls.specs.Call.{call};
 ghost use Rattle.editions.specs.declared.Edition.TheVariants.{Release18, Warnings, WarningsLab};
-ghost use Rattle.link.specs.Link.{CallHanded, refusal_number, refusal_place, read_for, allowed_for, write_for, SetupHanded, part_for, Put};
+ghost use Rattle.link.specs.Link.{CallHanded, refusal_number, refusal_place, outcome_number, read_for, allowed_for, write_for, SetupHanded, part_for, Put};
 ghost use Rattle.setup.specs.Setup.{setup};
 ghost use Rattle.shown.specs.Shown.{shown_part};
 
 use editions::Edition;
 use identity::MceId;
 use octets::Stop;
-use plan::Written;
-use reader::Reading;
+use plan::Unwritten;
+use reader::Unread;
 use verdicts::{Outcome, Refusal};
 
 // The number of the answer; the octet at fault for 2 and 3, else 0; how many octets stand in front of the room; 0 yet; the seconds to wait of a setup that
@@ -43,16 +43,12 @@ pub fn m3ap_call(unit: &mut [u8], message: &[u8], offered: u16, room: &mut [u8])
     ensures { CallHanded (call Release18 unit.old (record { message = message.now; offered = record { 0 = offered }; room = room.old })) result unit.new room.new }
 {
     let b = unit::call(Edition::Release18, unit, message, MceId(offered), room);
-    let a = b.answer;
-    let number = answers::number_of(a);
-    let place = answers::place_of(a);
-    let wait = answers::wait_of(a);
     Answer {
-        answer: number,
-        place: place as u32,
+        answer: answers::number_of(b.answer),
+        place: answers::place_of(b.answer) as u32,
         octets: b.octets as u32,
         bit: 0,
-        wait: wait,
+        wait: answers::wait_of(b.answer),
     }
 }
 
@@ -62,7 +58,7 @@ fn plain(answer: u32, place: usize) -> Answer
     ensures { result ≡ record { answer = answer; place = place; octets = 0; bit = 0; wait = 0 } }
 {
     Answer {
-        answer: answer,
+        answer,
         place: place as u32,
         octets: 0,
         bit: 0,
@@ -77,11 +73,19 @@ fn refused(x: Refusal) -> Answer
 {
     match x {
         Refusal::TooLong => plain(1, 0),
-        Refusal::Stopped(s) => match s {
-            Stop::Fault(p) => plain(2, p.octet),
-            Stop::Extension(p) => plain(3, p.octet),
-        },
+        Refusal::Stopped(Stop::Fault(p)) => plain(2, p.octet),
+        Refusal::Stopped(Stop::Extension(p)) => plain(3, p.octet),
         Refusal::NotAmong => plain(4, 0),
+    }
+}
+
+// Of what was read, the number of its outcome.
+fn outcome_number(o: Outcome) -> u32
+    ensures { result ≡ outcome_number o }
+{
+    match o {
+        Outcome::Accepted => 0,
+        Outcome::Misplaced(_) | Outcome::Rejected => 5,
     }
 }
 
@@ -90,7 +94,7 @@ fn recorded(answer: u32) -> Answer
     ensures { result ≡ record { answer = answer; place = 0; octets = 2662; bit = 0; wait = 0 } }
 {
     Answer {
-        answer: answer,
+        answer,
         place: 0,
         octets: 2662,
         bit: 0,
@@ -103,13 +107,9 @@ fn read_in(e: Edition, message: &[u8], room: &mut [u8]) -> Answer
     ensures { Put (read_for e message.now room.old) result room.new }
 {
     match reader::read(e, message, room) {
-        Reading::Refused(x) => refused(x),
-        Reading::NoRoom => plain(10, 0),
-        Reading::Put(o) => match o {
-            Outcome::Accepted => recorded(0),
-            Outcome::Misplaced(_) => recorded(5),
-            Outcome::Rejected => recorded(5),
-        },
+        Ok(o) => recorded(outcome_number(o)),
+        Err(Unread::Refused(x)) => refused(x),
+        Err(Unread::NoRoom) => plain(10, 0),
     }
 }
 
@@ -118,15 +118,15 @@ fn write_allowed(e: Edition, said: &[u8], values: &[u8], room: &mut [u8]) -> Ans
     ensures { Put (allowed_for e said.now values.now room.old) result room.new }
 {
     match put_message::write(e, said, values, room) {
-        Written::Done(n) => Answer {
+        Ok(n) => Answer {
             answer: 0,
             place: 0,
             octets: n as u32,
             bit: 0,
             wait: 0,
         },
-        Written::NoRoom => plain(10, 0),
-        Written::NotWritten => plain(11, 0),
+        Err(Unwritten::NoRoom) => plain(10, 0),
+        Err(Unwritten::NotWritten) => plain(11, 0),
     }
 }
 
@@ -157,21 +157,13 @@ pub fn m3ap_setup(unit: &mut [u8], said: &[u8], values: &[u8], room: &mut [u8]) 
     ensures { SetupHanded (setup Release18 unit.old (record { said = said.now; values = values.now; room = room.old })) result unit.new room.new }
 {
     let b = setup::set_up(Edition::Release18, unit, said, values, room);
-    let a = b.answer;
-    let number = setup::number_of(a);
     Answer {
-        answer: number,
+        answer: setup::number_of(b.answer),
         place: 0,
         octets: b.octets as u32,
         bit: 0,
         wait: 0,
     }
-}
-
-fn flag(b: bool) -> u32
-    ensures { result ≡ pick b 1 0 }
-{
-    if b { 1 } else { 0 }
 }
 
 // Which part of the request is its name, or else which part of the label is shown.
@@ -180,9 +172,8 @@ pub fn m3ap_shown(request: &[u8], label: &[u8]) -> Part
 {
     let p = shown::part_of(Edition::Release18, request, label);
     let v = p.span;
-    let of_label = flag(p.of_label);
     Part {
-        of_label: of_label,
+        of_label: u32::from(p.of_label),
         from: v.from as u32,
         octets: (v.to - v.from) as u32,
     }

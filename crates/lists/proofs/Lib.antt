@@ -11,3 +11,4 @@ pub mod Copy
 pub mod Places
 pub mod Chains
 pub mod Parts
+pub mod Library

@@ -1,8 +1,8 @@
 -- Reading a value by its kind: the one definition that the fault check and the record both use.
 -- A carried value is read as its place; what is not there, or cannot be read, is absent.
-use Rattle.std.specs.Prelude.{ℕ, List, [], ◌∷◌, take}
+use Rattle.std.specs.Prelude.{ℕ, List, [], ◌∷◌, take, Ok, Err}
 use Rattle.lists.specs.Lists.{pick}
-use Rattle.octets.specs.Read.{Read, got, stop, ◌>>=◌}
+use Rattle.octets.specs.Read.{Read, ◌>>=◌}
 use Rattle.octets.specs.declared.Span.{Span}
 use Rattle.octets.specs.Span.{present}
 use Rattle.values.specs.Values.{mme_at, mce_at, tmgi_at, one_at, two_at, cause_at, wait_at}
@@ -17,11 +17,11 @@ use Rattle.meaning.specs.Value.{Value, Given, given, absent, carried, mme, mce, 
 
 -- a reading of the octets of a value, which end with it
 abbrev pub within : {A : Type 0} → (List ℕ → ℕ → Read A) → (A → Value Span) → List ℕ → Span → Read (Value Span)
-within reading is s v = reading (take v.to s) v.from >>= λ x. got (is x)
+within reading is s v = reading (take v.to s) v.from >>= λ x. Ok (is x)
 
 -- the value that stands at a place in s
 unfoldable pub read_as : Kind → List ℕ → Span → Read (Value Span)
-read_as kind.Carried s v = got (carried v)
+read_as kind.Carried s v = Ok (carried v)
 read_as kind.Mme s v = within mme_at mme s v
 read_as kind.Mce s v = within mce_at mce s v
 read_as kind.Tmgi s v = within tmgi_at tmgi s v
@@ -36,8 +36,8 @@ read_as (kind.Diagnostics t) s v = within (diagnostics_at (meanings t)) (diagnos
 
 -- the record: for each row the value at its place
 abbrev pub or_absent : Read (Value Span) → Given Span
-or_absent (got v) = given v
-or_absent (stop x) = absent
+or_absent (Ok v) = given v
+or_absent (Err x) = absent
 
 unfoldable pub value_in : Kind → List ℕ → Span → Given Span
 value_in k s v = pick (present v) (or_absent (read_as k s v)) absent

@@ -1,6 +1,6 @@
 -- The octets of what a message says, and which messages have octets: those that 01's row 11 does not name.
 -- One walk over the rows of the table: an element for each value that is there.
-use Rattle.std.specs.Prelude.{ℕ, suc, Bool, true, false, not, ◌&&◌, List, [], ◌∷◌, ◌++◌, ltb, leb, length}
+use Rattle.std.specs.Prelude.{ℕ, suc, Bool, true, false, not, ◌&&◌, List, [], ◌∷◌, ◌++◌, ltb, leb, length, None, Option, Some}
 use Rattle.lists.specs.Lists.{pick, some}
 use Rattle.packed.specs.Packed.{◌bits◌, bit, packed}
 use Rattle.octets.specs.Write.{number_octets, length_octets}
@@ -10,8 +10,6 @@ use Rattle.names.specs.Names.{name_allowed}
 use Rattle.names.specs.Written.{name_octets}
 use Rattle.items.specs.Items.{ResetType, whole, part}
 use Rattle.items.specs.Written.{acknowledgement_crit, items_octets, reset_octets}
-use Rattle.diagnostics.specs.declared.Number.{Number}
-use Rattle.diagnostics.specs.declared.Number.TheVariants as number
 use Rattle.entries.specs.declared.Entry.{Entry}
 use Rattle.diagnostics.specs.Diagnostics.{Diagnostics}
 use Rattle.diagnostics.specs.Written.{diagnostics_octets}
@@ -48,9 +46,9 @@ reset_good whole = true
 reset_good (part is) = is_list_length (length is)
 
 -- a number, if it is there, has one of n meanings
-abbrev pub under : ℕ → Number → Bool
-under n (number.Is v) = ltb v n
-under n number.Absent = true
+abbrev pub under : ℕ → Option ℕ → Bool
+under n (Some v) = ltb v n
+under n None = true
 
 abbrev pub entry_good : Entry → Bool
 entry_good e = ltb e.crit 3 && ltb e.error 2

@@ -9,7 +9,7 @@ use lib.ListN.{length, get_or, take, drop}
 use lib.Seq.{slice, length-slice}
 use Rattle.lists.proofs.Parts.{take_drop}
 use Rattle.packed.specs.Packed.{◌bits◌, bit, packed}
-use Rattle.octets.specs.Read.{got}
+use Rattle.std.specs.Prelude.{Ok}
 use Rattle.octets.specs.Field.{bits_at, plain_at, pad_at, ends_at}
 use Rattle.octets.specs.Stands.{Stands, Fills, Octets}
 use Rattle.octets.specs.declared.Span.{Span}
@@ -29,7 +29,7 @@ part_again s at n h =
     record { room = omega arith; octets = ap (λ (j : ℕ). take j (drop at s)) l ∙ take_drop n at s }
 
 -- the octets before the characters, of which there are n
-sized_again : (s : List ℕ) (at n : ℕ) → Octets s → got tt ≡ plain_at s at 0 → got n ≡ size_at s at → got tt ≡ pad_at s (at + 1) 1
+sized_again : (s : List ℕ) (at n : ℕ) → Octets s → Ok tt ≡ plain_at s at 0 → Ok n ≡ size_at s at → Ok tt ≡ pad_at s (at + 1) 1
     → Stands s at (packed (bit false ∷ 7 bits ((n - 1) / 2) ∷ []) ∷ packed (1 bits ((n - 1) % 2) ∷ []) ∷ [])
 sized_again s at n o a b d =
     let x = plain_got s at 0 a in
@@ -45,7 +45,7 @@ sized_again s at n o a b d =
     stands_join (rw (x.1, high) at f) (rw low at g)
 
 fills_name : (s : List ℕ) (at n : ℕ) → GoodName (slice (at + 2) (at + 2 + n) s) → at + 2 + n ≤ length s
-    → Stands s at (packed (bit false ∷ 7 bits ((n - 1) / 2) ∷ []) ∷ packed (1 bits ((n - 1) % 2) ∷ []) ∷ []) → got tt ≡ ends_at s (at + 2 + n)
+    → Stands s at (packed (bit false ∷ 7 bits ((n - 1) / 2) ∷ []) ∷ packed (1 bits ((n - 1) % 2) ∷ []) ∷ []) → Ok tt ≡ ends_at s (at + 2 + n)
     → Fills s at (name_octets (slice (at + 2) (at + 2 + n) s))
 fills_name s at n good r h e =
     let l : length (slice (at + 2) (at + 2 + n) s) ≡ n = length-slice (at + 2) (at + 2 + n) s r ∙ omega arith in
@@ -53,7 +53,7 @@ fills_name s at n good r h e =
     let k : at + 2 + n ≡ at + (2 + n) = omega arith in
     rw (name_octets_lem (slice (at + 2) (at + 2 + n) s) good) (fills_again s at (2 + n) g (omega arith) (rw k at e))
 
-pub name_again : (s : List ℕ) (at : ℕ) → Octets s → {v : Span} → got v ≡ name_at s at → Fills s at (name_octets (part_in s v.from v.to))
+pub name_again : (s : List ℕ) (at : ℕ) → Octets s → {v : Span} → Ok v ≡ name_at s at → Fills s at (name_octets (part_in s v.from v.to))
 name_again s at o {v} q =
     let p = name_parts s at q in
     let z = size_got s at p.size in

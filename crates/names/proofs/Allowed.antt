@@ -14,7 +14,8 @@ use Rattle.lists.proofs.Tests.{and_left, and_right}
 use Rattle.lists.proofs.Parts.{slice_less}
 use Rattle.names.specs.Names.{between, all_printable, name_allowed, chars_at, part_in}
 use Rattle.names.specs.Written.{GoodName}
-use Rattle.names.proofs.Chars.{passes, chars_pass}
+use Rattle.std.specs.Result.{is_ok}
+use Rattle.names.proofs.Chars.{chars_pass}
 
 -- how long a name is, and its characters
 pub name_size : (os : List ℕ) → GoodName os → (1 ≤ length os) × (length os ≤ 150) × (all_printable os ≡ true)
@@ -46,7 +47,7 @@ module _ (s : List ℕ) (from to : ℕ) where
   unfolding name_allowed
   allowed_over h b = rw (part_in_lem h, length-slice from to s h, lt-leb (to - from) 150 b, and-false (leb 1 (to - from)))
 
-  pub allowed_by : to ≤ length s → from < to → to - from ≤ 150 → passes (chars_at (to - from) s from) ≡ name_allowed (part_in s from to)
+  pub allowed_by : to ≤ length s → from < to → to - from ≤ 150 → is_ok (chars_at (to - from) s from) ≡ name_allowed (part_in s from to)
   unfolding name_allowed
   allowed_by h p b =
       let some : 1 ≤ to - from = omega arith in

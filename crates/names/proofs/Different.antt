@@ -3,7 +3,8 @@
 use mathlib.Core.Path.{sym, ap}
 use mathlib.Core.List.{List}
 use Prim.Native.Nat.{ℕ}
-use Rattle.octets.specs.Read.{got, ◌>>=◌}
+use Rattle.std.specs.Prelude.{Ok}
+use Rattle.octets.specs.Read.{◌>>=◌}
 use Rattle.octets.specs.Stands.{StaysDifferent}
 use Rattle.octets.proofs.Chain.{past}
 use Rattle.octets.proofs.Different.{ends_different}
@@ -12,5 +13,5 @@ use Rattle.names.specs.Written.{name_octets, GoodName}
 use Rattle.names.proofs.Back.{name_back}
 
 pub names : StaysDifferent GoodName name_octets
-names = ends_different _ name_octets (λ s at. name_at s at >>= λ v. got (part_in s v.from v.to))
-    (λ s at os g h. past _ _ (name_back s at os g h).0 (ap (λ (x : List ℕ). got x) (sym (name_back s at os g h).1)))
+names = ends_different _ name_octets (λ s at. name_at s at >>= λ v. Ok (part_in s v.from v.to))
+    (λ s at os g h. past _ _ (name_back s at os g h).0 (ap (λ (x : List ℕ). Ok x) (sym (name_back s at os g h).1)))

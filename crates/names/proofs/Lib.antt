@@ -1,4 +1,3 @@
-pub mod OneFound
 pub mod Chars
 pub mod Size
 pub mod Allowed

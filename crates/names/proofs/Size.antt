@@ -14,7 +14,7 @@ use lib.Dec.{ltb}
 use lib.ListN.{length}
 use Rattle.packed.specs.Packed.{bits_of, ◌bits◌, bit, packed, packed_in, placed}
 use Rattle.packed.proofs.Packed.{together}
-use Rattle.octets.specs.Read.{got}
+use Rattle.std.specs.Prelude.{Ok}
 use Rattle.octets.proofs.Chain.{same_got}
 use Rattle.octets.proofs.Got.{passed, held, there_got}
 use Rattle.names.specs.Names.{across_at, size_at}
@@ -33,7 +33,7 @@ across_or x y =
     let e : bits_of x 1 7 * 2 % 256 ≡ bits_of x 1 7 * 2 = omega arith in
     ap (λ (n : ℕ). bit_or n (bits_of y 0 1)) e ∙ or_shifted (bits_of x 1 7) 1 (bits_of y 0 1) (one_small y)
 
-pub size_got : (s : List ℕ) (at : ℕ) {n : ℕ} → got n ≡ size_at s at → (n ≡ across_at s at + 1) × (across_at s at < 150) × (at + 2 + n ≤ length s)
+pub size_got : (s : List ℕ) (at : ℕ) {n : ℕ} → Ok n ≡ size_at s at → (n ≡ across_at s at + 1) × (across_at s at < 150) × (at + 2 + n ≤ length s)
 unfolding size_at
 size_got s at {n} q =
     let p = there_got 2 s at _ q in

@@ -1,7 +1,7 @@
 -- Worked examples: names and their octets; octets that are none, with why and where reading them stops; and what is no name.
-use Rattle.std.specs.Prelude.{ℕ, zero, suc, ◌+◌, ◌≡◌, List, [], ◌∷◌, map, length, replicate}
+use Rattle.std.specs.Prelude.{ℕ, zero, suc, ◌+◌, ◌≡◌, List, [], ◌∷◌, map, length, replicate, Ok, Err}
 use Rattle.lists.specs.Lists.{keep}
-use Rattle.octets.specs.Read.{got, stop, cut_short, no_meaning, left_over, extended}
+use Rattle.octets.specs.Read.{cut_short, no_meaning, left_over, extended}
 use Rattle.octets.specs.declared.Stop.{Stop}
 use Rattle.names.specs.Names.{printable, name_at}
 use Rattle.names.specs.Written.{name_octets}
@@ -58,7 +58,7 @@ below (suc n) = n ∷ below n
 abbrev pub NamesHold : Type 0
 NamesHold =
     (map (λ (e : NameExample). name_octets e.name) name_examples ≡ map (λ (e : NameExample). e.octets) name_examples)
-    × (map (λ (e : NameExample). name_at e.octets 0) name_examples ≡ map (λ (e : NameExample). got (record { from = 2; to = 2 + length e.name })) name_examples)
-    × (map (λ (r : RefusedName). name_at r.octets 0) refused_names ≡ map (λ (r : RefusedName). stop r.reason) refused_names)
+    × (map (λ (e : NameExample). name_at e.octets 0) name_examples ≡ map (λ (e : NameExample). Ok (record { from = 2; to = 2 + length e.name })) name_examples)
+    × (map (λ (r : RefusedName). name_at r.octets 0) refused_names ≡ map (λ (r : RefusedName). Err r.reason) refused_names)
     × (map name_octets no_names ≡ map (λ (os : List ℕ). []) no_names)
     × (length (keep printable (below 256)) ≡ 74)

@@ -1,4 +1,3 @@
-pub mod Found
 pub mod Names
 pub mod Written
 pub mod Examples

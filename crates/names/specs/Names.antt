@@ -1,8 +1,8 @@
 -- The MCE Name, from octet at to the end of s: MCEname ::= PrintableString (SIZE (1..150,...)), as 9.3.5 and X.691 lay it out.
-use Rattle.std.specs.Prelude.{ℕ, zero, suc, ◌+◌, ◌*◌, Bool, true, ◌&&◌, ◌||◌, List, [], ◌∷◌, ltb, leb, eqb, length, get_or}
+use Rattle.std.specs.Prelude.{ℕ, zero, suc, ◌+◌, ◌*◌, Bool, true, ◌&&◌, ◌||◌, List, [], ◌∷◌, ltb, leb, eqb, length, get_or, Ok, Err}
 use Rattle.std.proofs.Math.Seq.{slice}
 use Rattle.lists.specs.Lists.{pick, some}
-use Rattle.octets.specs.Read.{Read, got, stop, no_meaning, ◌>>=◌, ◌>>◌}
+use Rattle.octets.specs.Read.{Read, no_meaning, ◌>>=◌, ◌>>◌}
 use Rattle.octets.specs.Field.{bits_at, there, plain_at, pad_at, ends_at}
 use Rattle.octets.specs.declared.Span.{Span}
 
@@ -33,16 +33,16 @@ across_at s at = bits_at s at 1 7 * 2 + bits_at s (at + 1) 0 1
 unfoldable pub size_at : List ℕ → ℕ → Read ℕ
 size_at s at = there 2 s at
     (pick (ltb (across_at s at) 150)
-    (pick (ltb (length s) (at + 2 + (across_at s at + 1))) (stop (no_meaning at)) (got (across_at s at + 1)))
-    (stop (no_meaning at)))
+    (pick (ltb (length s) (at + 2 + (across_at s at + 1))) (Err (no_meaning at)) (Ok (across_at s at + 1)))
+    (Err (no_meaning at)))
 
 -- one character in one octet
 unfoldable pub char_at : List ℕ → ℕ → Read Unit
-char_at s at = there 1 s at (pick (printable (get_or s at 0)) (got tt) (stop (no_meaning at)))
+char_at s at = there 1 s at (pick (printable (get_or s at 0)) (Ok tt) (Err (no_meaning at)))
 
 -- n characters, each a field of its own
 abbrev pub chars_at : ℕ → List ℕ → ℕ → Read Unit
-chars_at zero s at = got tt
+chars_at zero s at = Ok tt
 chars_at (suc n) s at = char_at s at >> chars_at n s (at + 1)
 
 -- no extension; how many; pad; the characters, and where they stand
@@ -53,7 +53,7 @@ name_at s at = do
   pad_at s (at + 1) 1
   chars_at n s (at + 2)
   ends_at s (at + 2 + n)
-  got (record { from = at + 2; to = at + 2 + n })
+  Ok (record { from = at + 2; to = at + 2 + n })
 
 -- the octets of s from one place up to another, if they lie in s
 abbrev pub part_in : List ℕ → ℕ → ℕ → List ℕ

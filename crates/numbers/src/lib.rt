@@ -1,45 +1,18 @@
-// Plain numbers: the lesser of two, one less, and octets as wider numbers.
+// The octet of a count.
 #![tactic(auto)]
 
-ghost use Rattle.std.specs.Prelude.{◌≡◌, min, ◌+◌, ◌*◌, ◌-◌};
-
-pub fn lesser(a: usize, b: usize) -> usize
-    ensures { result ≡ min a b }
-{
-    if a < b {
-        return a;
-    }
-    b
-}
+ghost use Rattle.std.specs.Prelude.{◌≡◌, min, ◌-◌, ◌%◌};
 
 // A count of at most 256 less 1, in an octet; of more it is 255, of 0 it is 0.
 pub fn less_one(n: usize) -> u8
     ensures { result ≡ min (n - 1) 255 }
 {
-    if n == 0 {
-        return 0;
-    }
-    if 256 < n {
-        return 255;
-    }
-    (n - 1) as u8
+    n.saturating_sub(1).min(255) as u8
 }
 
-pub fn wide(x: u8) -> usize
-    ensures { result ≡ x }
+// The octet of a count less 1, as it is written: of what does not fit the low eight bits.
+pub fn count_octet(n: usize) -> u8
+    ensures { result ≡ (n - 1) % 256 }
 {
-    x as usize
-}
-
-pub fn wide16(x: u16) -> usize
-    ensures { result ≡ x }
-{
-    x as usize
-}
-
-// Two octets, the high one first.
-pub fn two(high: u8, low: u8) -> u16
-    ensures { result ≡ high * 256 + low }
-{
-    (high as u16) * 256 + (low as u16)
+    (n.saturating_sub(1) % 256) as u8
 }

@@ -12,12 +12,12 @@ use lib.ListN.{length, get_or, take, drop}
 use lib.Seq.{slice, length-slice}
 use lib.Pow.{high}
 use Rattle.lists.proofs.Parts.{take_drop}
-use Rattle.octets.specs.Read.{got}
+use Rattle.std.specs.Prelude.{Ok}
 use Rattle.packed.specs.Packed.{bits_of, ◌bits◌, widths, packed, packed_in}
 use Rattle.octets.specs.Field.{bits_at, pad_at, value_at, number_at, string_at, long_at, length_at, open_at, ends_at}
 use Rattle.octets.specs.Write.{number_octets, length_octets}
 use Rattle.octets.specs.Stands.{Stands, Fills, Octets}
-use Rattle.octets.specs.declared.Counted.{Counted}
+use Rattle.octets.specs.declared.Part.{Part}
 use Rattle.octets.specs.declared.Span.{Span}
 use Rattle.packed.proofs.Packed.{bits_low, fields_of, repacked}
 use Rattle.octets.proofs.Got.{pad_got, ends_got, number_got, string_got, length_got, Sized, short, long, open_got}
@@ -32,7 +32,7 @@ packed_again s at ws o r h z =
     stands_one r (sym (add-zero _) ∙ (ap (λ (n : ℕ). packed (fields_of (get_or s at 0) 0 ws) + n) (sym z) ∙ repacked (get_or s at 0) ws h (o at)))
 
 -- what stands behind the first b bits of an octet, if it is pad that was read
-pub pad_zero : (s : List ℕ) (at b : ℕ) → 0 < b → b ≤ 8 → got tt ≡ pad_at s at b → get_or s at 0 % 2 ^ (8 - b) ≡ 0
+pub pad_zero : (s : List ℕ) (at b : ℕ) → 0 < b → b ≤ 8 → Ok tt ≡ pad_at s at b → get_or s at 0 % 2 ^ (8 - b) ≡ 0
 pad_zero s at b p h q = by (ltb b 8) refl
   where
     by : (t : Bool) → ltb b 8 ≡ t → get_or s at 0 % 2 ^ (8 - b) ≡ 0
@@ -68,13 +68,13 @@ number_stands (suc k) s at a o r =
     rw (e, above (a * 256 + get_or s at 0) k (value_at k s (at + 1)) (value_below k s (at + 1) o))
     (stands_more (omega arith) (omega arith) (number_stands k s (at + 1) (a * 256 + get_or s at 0) o (omega arith)))
 
-pub number_again : (k : ℕ) (s : List ℕ) (at : ℕ) {v : ℕ} → Octets s → got v ≡ number_at k s at → Stands s at (number_octets k v)
+pub number_again : (k : ℕ) (s : List ℕ) (at : ℕ) {v : ℕ} → Octets s → Ok v ≡ number_at k s at → Stands s at (number_octets k v)
 number_again k s at {v} o q =
     let n = number_got s at k q in
     let e : 0 * 256 ^ k + value_at k s at ≡ v = ap (λ (x : ℕ). x + value_at k s at) (zero-mul (256 ^ k)) ∙ (zero-add _ ∙ sym n.1) in
     rw e at (number_stands k s at 0 o n.0)
 
-pub string_again : (k : ℕ) (s : List ℕ) (at : ℕ) {vs : List ℕ} → got vs ≡ string_at k s at → (length vs ≡ k) × Stands s at vs
+pub string_again : (k : ℕ) (s : List ℕ) (at : ℕ) {vs : List ℕ} → Ok vs ≡ string_at k s at → (length vs ≡ k) × Stands s at vs
 string_again k s at {vs} q =
     let n = string_got s at k q in
     let r = n.0 in
@@ -83,7 +83,7 @@ string_again k s at {vs} q =
     (e, record { room = omega arith; octets = ap (λ (j : ℕ). take j (drop at s)) e ∙ (take_drop k at s ∙ sym n.1) })
 
 -- octets that stand, and a value that ends where they do
-pub fills_again : (s : List ℕ) (at : ℕ) {vs : List ℕ} (n : ℕ) → Stands s at vs → length vs ≡ n → got tt ≡ ends_at s (at + n) → Fills s at vs
+pub fills_again : (s : List ℕ) (at : ℕ) {vs : List ℕ} (n : ℕ) → Stands s at vs → length vs ≡ n → Ok tt ≡ ends_at s (at + n) → Fills s at vs
 fills_again s at n h l q = let r = h.room in let k = ends_got s (at + n) q in record { stands = h; ends = omega arith }
 
 -- ---- lengths and what they count
@@ -101,15 +101,15 @@ long_form s at o a b =
     (omega arith, omega arith, omega arith)
 
 -- a length that was read
-pub record Length (s : List ℕ) (at : ℕ) (n : Counted) : Type 0 where
-  pub octets : Stands s at (length_octets n.count)
-  pub next : n.next ≡ at + length (length_octets n.count)
-  pub small : n.count < 16384
+pub record Length (s : List ℕ) (at : ℕ) (n : Part ℕ) : Type 0 where
+  pub octets : Stands s at (length_octets n.value)
+  pub next : n.next ≡ at + length (length_octets n.value)
+  pub small : n.value < 16384
 
-pub length_again : (s : List ℕ) (at : ℕ) {n : Counted} → Octets s → got n ≡ length_at s at → Length s at n
+pub length_again : (s : List ℕ) (at : ℕ) {n : Part ℕ} → Octets s → Ok n ≡ length_at s at → Length s at n
 length_again s at {n} o q = by n (length_got s at q)
   where
-    by : (m : Counted) → Sized s at m → Length s at m
+    by : (m : Part ℕ) → Sized s at m → Length s at m
     by m (short r e) =
         let h = short_form s at o e in
         let l = length_short (get_or s at 0) h in
@@ -131,14 +131,14 @@ pub record Opened (s : List ℕ) (at : ℕ) (v : Span) : Type 0 where
   pub ends : v.to ≤ length s
   pub small : v.to - v.from < 16384
 
-pub open_again : (s : List ℕ) (at : ℕ) {v : Span} → Octets s → got v ≡ open_at s at → Opened s at v
+pub open_again : (s : List ℕ) (at : ℕ) {v : Span} → Octets s → Ok v ≡ open_at s at → Opened s at v
 open_again s at {v} o q =
     let i = open_got s at q in
     let l = length_again s at o i.sized in
     let f = i.from in
     let t = i.to in
     let p = i.some in
-    let e : v.to - v.from ≡ i.size.count = omega arith in
+    let e : v.to - v.from ≡ i.size.value = omega arith in
     let n : v.from ≡ at + length (length_octets (v.to - v.from)) = rw e (f ∙ l.next) in
     let k = i.ends in
     let z = length-slice v.from v.to s k in

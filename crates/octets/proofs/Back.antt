@@ -11,7 +11,7 @@ use lib.Dec.{ltb, eqb}
 use lib.ListN.{length, get_or}
 use lib.Pow.{mod-pow-add, pow-add, pow_pos}
 use Rattle.lists.proofs.Parts.{take_drop}
-use Rattle.octets.specs.Read.{got}
+use Rattle.std.specs.Prelude.{Ok}
 use Rattle.packed.specs.Packed.{bits_of, Field, ◌bits◌, bit, widths, packed, Fit}
 use Rattle.octets.specs.Field.{flag_at, plain_at, choice_at, pad_at, value_at, number_at, string_at, same_at, long_at, long_length_at, length_at, open_at, ends_at}
 use Rattle.octets.specs.Write.{number_octets, length_octets}
@@ -28,15 +28,15 @@ module _ (s : List ℕ) (at : ℕ) (us : List Field) (f : Field) (ls : List Fiel
   field_back : bits_of (get_or s at 0) (widths us) f.width ≡ f.value
   field_back = rw (stands_head h) (apart us f ls ok b)
 
-  pub choice_back : (n : ℕ) → f.value < n → got f.value ≡ choice_at n f.width s at (widths us)
+  pub choice_back : (n : ℕ) → f.value < n → Ok f.value ≡ choice_at n f.width s at (widths us)
   unfolding choice_at
   choice_back n l = rw (le-ltb (length s) (at + 1) h.room, field_back, lt-ltb f.value n l)
 
 module _ (s : List ℕ) (at : ℕ) (us : List Field) (v : Bool) (ls : List Field)
     (ok : Fit 8 (us ++ bit v ∷ ls)) (b : widths us < 8) (h : Stands s at (packed (us ++ bit v ∷ ls) ∷ [])) where
-  pub flag_back : got v ≡ flag_at s at (widths us)
+  pub flag_back : Ok v ≡ flag_at s at (widths us)
   unfolding flag_at
-  flag_back = rw (le-ltb (length s) (at + 1) h.room) (ap (λ (x : Bool). got x) (by v (field_back s at us (bit v) ls ok b h)))
+  flag_back = rw (le-ltb (length s) (at + 1) h.room) (ap (λ (x : Bool). Ok x) (by v (field_back s at us (bit v) ls ok b h)))
     where
       by : (w : Bool) → bits_of (get_or s at 0) (widths us) (bit w).width ≡ (bit w).value → w ≡ eqb (bits_of (get_or s at 0) (widths us) 1) 1
       by true e = rw e
@@ -44,12 +44,12 @@ module _ (s : List ℕ) (at : ℕ) (us : List Field) (v : Bool) (ls : List Field
 
 -- an extension bit that is not set
 pub plain_back : (s : List ℕ) (at : ℕ) (us ls : List Field) → Fit 8 (us ++ bit false ∷ ls) → widths us < 8 → Stands s at (packed (us ++ bit false ∷ ls) ∷ [])
-    → got tt ≡ plain_at s at (widths us)
+    → Ok tt ≡ plain_at s at (widths us)
 unfolding plain_at
 plain_back s at us ls ok b h = rw (le-ltb (length s) (at + 1) h.room, field_back s at us (bit false) ls ok b h)
 
 pub pad_back : (s : List ℕ) (at : ℕ) (fs : List Field) → Fit 8 (fs ++ (8 - widths fs) bits 0 ∷ []) → 0 < widths fs → widths fs < 8
-    → Stands s at (packed fs ∷ []) → got tt ≡ pad_at s at (widths fs)
+    → Stands s at (packed fs ∷ []) → Ok tt ≡ pad_at s at (widths fs)
 unfolding pad_at
 pad_back s at fs ok p b h =
     let m : widths fs % 8 ≡ widths fs = mod-eq_of_lt b in
@@ -64,11 +64,11 @@ fit_pad r (f ∷ fs) h =
     (h.0, h.1, rw k at (fit_pad (r - f.width) fs h.2))
 
 -- the pad behind fields, if there is any
-pub rest_back : (s : List ℕ) (at : ℕ) (fs : List Field) → Fit 8 fs → 0 < widths fs → widths fs ≤ 8 → Stands s at (packed fs ∷ []) → got tt ≡ pad_at s at (widths fs)
+pub rest_back : (s : List ℕ) (at : ℕ) (fs : List Field) → Fit 8 fs → 0 < widths fs → widths fs ≤ 8 → Stands s at (packed fs ∷ []) → Ok tt ≡ pad_at s at (widths fs)
 unfolding pad_at
 rest_back s at fs ok p b h = by (ltb (widths fs) 8) refl
   where
-    by : (t : Bool) → ltb (widths fs) 8 ≡ t → got tt ≡ pad_at s at (widths fs)
+    by : (t : Bool) → ltb (widths fs) 8 ≡ t → Ok tt ≡ pad_at s at (widths fs)
     by true e = pad_back s at fs (fit_pad 8 fs ok) p (ltb-true (widths fs) 8 e) h
     by false e = let l = ltb-false (widths fs) 8 e in let z : widths fs % 8 ≡ 0 = omega arith in rw (eq-eqb (widths fs % 8) 0 z)
 
@@ -98,18 +98,18 @@ value_back (suc k) s at v h =
     let t = stands_split ((v / 256 ^ k % 256) ∷ []) (number_octets k v) h in
     rw (stands_head h, value_back k s (at + 1) v t.1) (octet_more k v)
 
-pub number_back : (k : ℕ) (s : List ℕ) (at v : ℕ) → v < 256 ^ k → Stands s at (number_octets k v) → got v ≡ number_at k s at
+pub number_back : (k : ℕ) (s : List ℕ) (at v : ℕ) → v < 256 ^ k → Stands s at (number_octets k v) → Ok v ≡ number_at k s at
 unfolding number_at
 number_back k s at v b h =
     let r = h.room in
     let l = length_number k v in
     rw (le-ltb (length s) (at + k) (omega arith), value_back k s at v h, mod-eq_of_lt b)
 
-pub string_back : (s : List ℕ) (at : ℕ) (vs : List ℕ) → Stands s at vs → got vs ≡ string_at (length vs) s at
+pub string_back : (s : List ℕ) (at : ℕ) (vs : List ℕ) → Stands s at vs → Ok vs ≡ string_at (length vs) s at
 unfolding string_at
-string_back s at vs h = rw (le-ltb (length s) (at + length vs) h.room) (ap (λ (x : List ℕ). got x) (sym h.octets ∙ take_drop (length vs) at s))
+string_back s at vs h = rw (le-ltb (length s) (at + length vs) h.room) (ap (λ (x : List ℕ). Ok x) (sym h.octets ∙ take_drop (length vs) at s))
 
-pub same_back : (s : List ℕ) (at v : ℕ) → v < 65536 → Stands s at (number_octets 2 v) → got tt ≡ same_at v s at
+pub same_back : (s : List ℕ) (at v : ℕ) → v < 65536 → Stands s at (number_octets 2 v) → Ok tt ≡ same_at v s at
 unfolding same_at
 same_back s at v b h = past _ v (number_back 2 s at v b h) (rw (eq-eqb v v refl))
 
@@ -125,11 +125,11 @@ unfolding bits_of
 ten_top x h = omega arith
 
 pub length_back : (s : List ℕ) (at n : ℕ) → n < 16384 → Stands s at (length_octets n)
-    → got (record { count = n; next = at + length (length_octets n) }) ≡ length_at s at
+    → Ok (record { value = n; next = at + length (length_octets n) }) ≡ length_at s at
 unfolding length_at long_length_at
 length_back s at n b h = by (ltb n 128) refl
   where
-    by : (t : Bool) → ltb n 128 ≡ t → got (record { count = n; next = at + length (length_octets n) }) ≡ length_at s at
+    by : (t : Bool) → ltb n 128 ≡ t → Ok (record { value = n; next = at + length (length_octets n) }) ≡ length_at s at
     by true e =
         let o : length_octets n ≡ n ∷ [] = length_short n (ltb-true n 128 e) in
         let g : Stands s at (n ∷ []) = rw o at h in
@@ -150,7 +150,7 @@ length_back s at n b h = by (ltb n 128) refl
         rw (o, le-ltb (length s) (at + 1) (omega arith), ten_top _ ten, ten, le-ltb (length s) (at + 2) r, all, le-ltb n 128 l)
 
 pub open_back : (s : List ℕ) (at : ℕ) (vs : List ℕ) → 0 < length vs → length vs < 16384 → Stands s at (length_octets (length vs) ++ vs)
-    → let from = at + length (length_octets (length vs)) in got (record { from = from; to = from + length vs }) ≡ open_at s at
+    → let from = at + length (length_octets (length vs)) in Ok (record { from = from; to = from + length vs }) ≡ open_at s at
 unfolding open_at
 open_back s at vs p b h =
     let t = stands_split (length_octets (length vs)) vs h in
@@ -158,6 +158,6 @@ open_back s at vs p b h =
     past _ _ (length_back s at (length vs) b t.0)
     (rw (ne_eqb (length vs) 0 (λ q. omega arith), le-ltb (length s) (at + length (length_octets (length vs)) + length vs) r))
 
-pub ends_back : (s : List ℕ) (at : ℕ) → length s ≤ at → got tt ≡ ends_at s at
+pub ends_back : (s : List ℕ) (at : ℕ) → length s ≤ at → Ok tt ≡ ends_at s at
 unfolding ends_at
 ends_back s at h = rw (le-ltb at (length s) h)

@@ -9,43 +9,44 @@ use Prim.Native.Nat.{ℕ, ◌+◌, ◌*◌, ◌-◌, ◌/◌, ◌%◌, ◌^◌, 
 use lib.ListN.{length, drop}
 use lib.Seq.{drop-append_seam}
 use lib.Pow.{high, low}
-use Rattle.octets.specs.Read.{Read, got, ◌>>=◌}
+use Rattle.std.specs.Prelude.{Ok}
+use Rattle.octets.specs.Read.{Read, ◌>>=◌}
 use Rattle.octets.specs.Field.{number_at, length_at}
 use Rattle.packed.specs.Packed.{Field, packed_in, Fit}
 use Rattle.octets.specs.Write.{number_octets, length_octets}
 use Rattle.octets.specs.Stands.{Stands, Fills, StaysDifferent}
-use Rattle.octets.specs.declared.Counted.{Counted}
+use Rattle.octets.specs.declared.Part.{Part}
 use Rattle.packed.proofs.Packed.{packed_below}
 use Rattle.octets.proofs.Chain.{past, same_got}
 use Rattle.octets.proofs.Stood.{stands_alone, stands_around, fills_alone}
 use Rattle.octets.proofs.Back.{number_back, length_back}
 
 pub stays_different : {A : Type 0} (Good : A → Type 0) (octets : A → List ℕ) (reading : List ℕ → ℕ → Read A)
-    → ((s : List ℕ) (at : ℕ) (v : A) → Good v → Stands s at (octets v) → got v ≡ reading s at) → StaysDifferent Good octets
+    → ((s : List ℕ) (at : ℕ) (v : A) → Good v → Stands s at (octets v) → Ok v ≡ reading s at) → StaysDifferent Good octets
 stays_different Good octets reading back v w a b e =
     same_got (back (octets v) 0 v a (stands_alone (octets v)) ∙ sym (back (octets v) 0 w b (subst (λ (x : List ℕ). Stands x 0 (octets w)) (sym e) (stands_alone (octets w)))))
 
 pub ends_different : {A : Type 0} (Good : A → Type 0) (octets : A → List ℕ) (reading : List ℕ → ℕ → Read A)
-    → ((s : List ℕ) (at : ℕ) (v : A) → Good v → Fills s at (octets v) → got v ≡ reading s at) → StaysDifferent Good octets
+    → ((s : List ℕ) (at : ℕ) (v : A) → Good v → Fills s at (octets v) → Ok v ≡ reading s at) → StaysDifferent Good octets
 ends_different {A} Good octets reading back v w a b e = same_got (alone v a ∙ (ap (λ (s : List ℕ). reading s 0) e ∙ sym (alone w b)))
   where
-    alone : (x : A) → Good x → got x ≡ reading (octets x) 0
+    alone : (x : A) → Good x → Ok x ≡ reading (octets x) 0
     alone x g = back (octets x) 0 x g (fills_alone (octets x))
 
 pub numbers : (k : ℕ) → StaysDifferent (λ v. v < 256 ^ k) (number_octets k)
 numbers k = stays_different _ (number_octets k) (number_at k) (number_back k)
 
 pub lengths : StaysDifferent (λ n. n < 16384) length_octets
-lengths = stays_different _ length_octets (λ s at. length_at s at >>= λ n. got n.count) (λ s at n b h. past _ _ (length_back s at n b h) refl)
+lengths = stays_different _ length_octets (λ s at. length_at s at >>= λ n. Ok n.value) (λ s at n b h. past _ _ (length_back s at n b h) refl)
 
 -- a length and the octets that it counts
 pub open_values : StaysDifferent (λ vs. length vs < 16384) (λ vs. length_octets (length vs) ++ vs)
 open_values v w a b e =
-    let n : length v ≡ length w = ap (λ (x : Counted). x.count) (same_got (size v a ∙ (ap (λ (s : List ℕ). length_at s 0) e ∙ sym (size w b)))) in
+    let n : length v ≡ length w = ap (λ (x : (Part ℕ)). x.value) (same_got (size v a ∙ (ap (λ (s : List ℕ). length_at s 0) e ∙ sym (size w b)))) in
     sym (drop-append_seam (length_octets (length v)) v)
     ∙ (ap (drop (length (length_octets (length v)))) (e ∙ rw n) ∙ drop-append_seam (length_octets (length v)) w)
   where
-    size : (vs : List ℕ) → length vs < 16384 → got (record { count = length vs; next = 0 + length (length_octets (length vs)) }) ≡ length_at (length_octets (length vs) ++ vs) 0
+    size : (vs : List ℕ) → length vs < 16384 → Ok (record { value = length vs; next = 0 + length (length_octets (length vs)) }) ≡ length_at (length_octets (length vs) ++ vs) 0
     size vs h = length_back (length_octets (length vs) ++ vs) 0 (length vs) h (stands_around [] (length_octets (length vs)) vs)
 
 halves : (k a b p q : ℕ) → p < 2 ^ k → q < 2 ^ k → a * 2 ^ k + p ≡ b * 2 ^ k + q → (a ≡ b) × (p ≡ q)

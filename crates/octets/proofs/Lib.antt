@@ -1,10 +1,10 @@
 pub mod Chain
 pub mod Got
+pub mod Arrays
 pub mod Stood
 pub mod Writing
-pub mod Zeros
+pub mod AtOnce
 pub mod EachWritten
-pub mod OneFound
 pub mod Determined
 pub mod Back
 pub mod Again

@@ -52,10 +52,10 @@ pub wrote_none : (l : List ℕ) (at : ℕ) {r : ℕ} → r ≡ min at (length l)
 wrote_none l at h = record { octets = refl; next = omega arith }
 
 -- one octet, by what the code tests
-pub wrote_one : (l : List ℕ) (at v : ℕ) → at < length l → Wrote l at (v ∷ []) (set l at v) (at + 1)
+pub wrote_one : {A : Type 0} (l : List A) (at : ℕ) (v : A) → at < length l → Wrote l at (v ∷ []) (set l at v) (at + 1)
 wrote_one l at v h = record { octets = refl; next = omega arith }
 
-pub wrote_past : (l : List ℕ) (at v : ℕ) → length l ≤ at → Wrote l at (v ∷ []) l (length l)
+pub wrote_past : {A : Type 0} (l : List A) (at : ℕ) (v : A) → length l ≤ at → Wrote l at (v ∷ []) l (length l)
 wrote_past l at v h = record { octets = sym (set_out l at v h); next = omega arith }
 
 -- ---- numbers and lengths

@@ -1,5 +1,4 @@
 pub mod Read
-pub mod Found
 pub mod Field
 pub mod Many
 pub mod Write

@@ -1,18 +1,14 @@
 -- Several of one kind, each from where the last ended.
-use Rattle.std.specs.Prelude.{ℕ, zero, suc, List, [], ◌∷◌, ◌++◌}
-use Rattle.octets.specs.Read.{Read, got, ◌>>=◌}
-
--- what was read, and the place behind it
-pub record Part (A : Type 0) : Type 0 where
-  pub value : A
-  pub next : ℕ
+use Rattle.std.specs.Prelude.{ℕ, zero, suc, List, [], ◌∷◌, ◌++◌, Ok}
+use Rattle.octets.specs.declared.Part.{Part}
+use Rattle.octets.specs.Read.{Read, ◌>>=◌}
 
 unfoldable pub many : {A : Type 0} → (ℕ → Read (Part A)) → ℕ → ℕ → Read (Part (List A))
-many one zero at = got (record { value = []; next = at })
+many one zero at = Ok (record { value = []; next = at })
 many one (suc n) at = do
   x ← one at
   xs ← many one n x.next
-  got (record { value = x.value ∷ xs.value; next = xs.next })
+  Ok (record { value = x.value ∷ xs.value; next = xs.next })
 
 -- the octets of each, one after another
 abbrev pub each_octets : {A : Type 0} → (A → List ℕ) → List A → List ℕ

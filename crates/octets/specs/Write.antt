@@ -16,6 +16,6 @@ length_octets n =
     (pick (ltb n 16384) (packed (2 bits 2 ∷ 6 bits (n / 256) ∷ []) ∷ (n % 256) ∷ []) [])
 
 -- l with the octets vs put in from the place on is m, as far as l goes, and r is the place behind them, at most l's end
-pub record Wrote (l : List ℕ) (at : ℕ) (vs m : List ℕ) (r : ℕ) : Type 0 where
+pub record Wrote {A : Type 0} (l : List A) (at : ℕ) (vs m : List A) (r : ℕ) : Type 0 where
   pub octets : m ≡ sets l at vs
   pub next : r ≡ min (at + length vs) (length l)

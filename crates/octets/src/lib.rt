@@ -3,10 +3,9 @@
 // A packed field begins b bits behind the first bit of the octet at a place; b counts within that octet, so 8 is 0 again.
 #![tactic(auto)]
 
-ghost use Rattle.std.specs.Prelude.{◌≡◌, ◌∷◌, [], min, ◌+◌, ◌<◌, ◌%◌, length, replicate};
+ghost use Rattle.std.specs.Prelude.{◌≡◌, ◌∷◌, [], min, ◌+◌, ◌<◌, ◌%◌, length, replicate, get_or};
 ghost use Rattle.std.proofs.Math.Seq.{slice};
 ghost use Rattle.octets.specs.Read.{cut_short, no_meaning, left_over, extended};
-ghost use Rattle.octets.specs.Found.{found_gate, found_flag, found_octet, found_two, found_three, found_length, found_open};
 ghost use Rattle.octets.specs.Field.{flag_at, plain_at, choice_at, pad_at, number_at, string_at, same_at, below_at, length_at, long_length_at, open_at, ends_at};
 ghost use Rattle.octets.specs.Write.{number_octets, length_octets, Wrote};
 
@@ -23,51 +22,11 @@ pub enum Stop {
     Extension(Place),
 }
 
-// What a reader answers: what it read, or why and where it stopped.
+// What was read, and the place behind it.
 #[derive(Clone, Copy)]
-pub enum Gate {
-    Pass,
-    Stop(Stop),
-}
-
-#[derive(Clone, Copy)]
-pub enum Flag {
-    Is(bool),
-    Stop(Stop),
-}
-
-#[derive(Clone, Copy)]
-pub enum Octet {
-    Is(u8),
-    Stop(Stop),
-}
-
-#[derive(Clone, Copy)]
-pub enum Two {
-    Is(u16),
-    Stop(Stop),
-}
-
-#[derive(Clone, Copy)]
-pub struct Octets3(pub u8, pub u8, pub u8);
-
-#[derive(Clone, Copy)]
-pub enum Three {
-    Is(Octets3),
-    Stop(Stop),
-}
-
-// A number, and the place behind the octets that say it.
-#[derive(Clone, Copy)]
-pub struct Counted {
-    pub count: usize,
+pub struct Part<T> {
+    pub value: T,
     pub next: usize,
-}
-
-#[derive(Clone, Copy)]
-pub enum Length {
-    Is(Counted),
-    Stop(Stop),
 }
 
 // Where octets begin and end.
@@ -77,15 +36,13 @@ pub struct Span {
     pub to: usize,
 }
 
-#[derive(Clone, Copy)]
-pub enum Open {
-    Is(Span),
-    Stop(Stop),
-}
+// Where a value stands that is not there.
+pub const NOWHERE: Span = Span { from: 0, to: 0 };
 
 // The places of faults are decided by these four and nowhere else.
 
 // The octets end inside the field that begins here.
+#[tactic(auto, unfolding(crate::specs::Read::cut_short))]
 pub fn cut_short(at: usize) -> Stop
     ensures { result ≡ cut_short at }
 {
@@ -93,6 +50,7 @@ pub fn cut_short(at: usize) -> Stop
 }
 
 // What the field that begins here holds has no meaning.
+#[tactic(auto, unfolding(crate::specs::Read::no_meaning))]
 pub fn no_meaning(at: usize) -> Stop
     ensures { result ≡ no_meaning at }
 {
@@ -100,6 +58,7 @@ pub fn no_meaning(at: usize) -> Stop
 }
 
 // Octets are left over from here on.
+#[tactic(auto, unfolding(crate::specs::Read::left_over))]
 fn left_over(at: usize) -> Stop
     ensures { result ≡ left_over at }
 {
@@ -107,6 +66,7 @@ fn left_over(at: usize) -> Stop
 }
 
 // An extension, or one that is said to be present, at the field that begins here.
+#[tactic(auto, unfolding(crate::specs::Read::extended))]
 fn extended_here(at: usize) -> Stop
     ensures { result ≡ extended at }
 {
@@ -114,198 +74,198 @@ fn extended_here(at: usize) -> Stop
 }
 
 // A bit that says yes or no.
-pub fn flag_at(s: &[u8], at: usize, b: u8) -> Flag
-    ensures { found_flag result ≡ flag_at s.now at b }
+#[tactic(auto, unfolding(crate::specs::Field::flag_at))]
+pub fn flag_at(s: &[u8], at: usize, b: u8) -> Result<bool, Stop>
+    ensures { result ≡ flag_at s.now at b }
 {
     if s.len() <= at {
-        return Flag::Stop(cut_short(at));
+        return Err(cut_short(at));
     }
-    Flag::Is(packed::bits(s[at], b, 1) == 1)
+    Ok(packed::bits(s[at], b, 1) == 1)
 }
 
 // An extension bit, or one that says that extensions are present.
-pub fn plain_at(s: &[u8], at: usize, b: u8) -> Gate
-    ensures { found_gate result ≡ plain_at s.now at b }
+#[tactic(auto, unfolding(crate::specs::Field::plain_at))]
+pub fn plain_at(s: &[u8], at: usize, b: u8) -> Result<(), Stop>
+    ensures { result ≡ plain_at s.now at b }
 {
     if s.len() <= at {
-        return Gate::Stop(cut_short(at));
+        return Err(cut_short(at));
     }
     if packed::bits(s[at], b, 1) == 0 {
-        return Gate::Pass;
+        return Ok(());
     }
-    Gate::Stop(extended_here(at))
+    Err(extended_here(at))
 }
 
 // A number of w bits with n meanings.
-pub fn choice_at(n: u8, w: u8, s: &[u8], at: usize, b: u8) -> Octet
-    ensures { found_octet result ≡ choice_at n w s.now at b }
+#[tactic(auto, unfolding(crate::specs::Field::choice_at))]
+pub fn choice_at(n: u8, w: u8, s: &[u8], at: usize, b: u8) -> Result<u8, Stop>
+    ensures { result ≡ choice_at n w s.now at b }
 {
     if s.len() <= at {
-        return Octet::Stop(cut_short(at));
+        return Err(cut_short(at));
     }
     let v = packed::bits(s[at], b, w);
     if v < n {
-        return Octet::Is(v);
+        return Ok(v);
     }
-    Octet::Stop(no_meaning(at))
+    Err(no_meaning(at))
 }
 
 // The bits of an octet behind its first b are pad; there are none where b is at an octet's begin.
-pub fn pad_at(s: &[u8], at: usize, b: u8) -> Gate
-    ensures { found_gate result ≡ pad_at s.now at b }
+#[tactic(auto, unfolding(crate::specs::Field::pad_at))]
+pub fn pad_at(s: &[u8], at: usize, b: u8) -> Result<(), Stop>
+    ensures { result ≡ pad_at s.now at b }
 {
     if b % 8 == 0 {
-        return Gate::Pass;
+        return Ok(());
     }
     if s.len() <= at {
-        return Gate::Stop(cut_short(at));
+        return Err(cut_short(at));
     }
     if packed::bits(s[at], b, 8 - b % 8) == 0 {
-        return Gate::Pass;
+        return Ok(());
     }
-    Gate::Stop(no_meaning(at))
+    Err(no_meaning(at))
+}
+
+// An octet; one that is missing is taken for 0.
+pub fn octet_in(s: &[u8], at: usize) -> u8
+    ensures { result ≡ get_or s.now at 0 }
+{
+    s.get(at).copied().unwrap_or(0)
+}
+
+// N octets as they are.
+pub fn array_at<const N: usize>(s: &[u8], at: usize) -> Result<[u8; N], Stop>
+    ensures { result ≡ string_at N s.now at }
+{
+    if s.len() < at {
+        return Err(cut_short(at));
+    }
+    if s.len() - at < N {
+        return Err(cut_short(at));
+    }
+    let mut octets = [0; N];
+    octets.copy_from_slice(&s[at..at + N]);
+    Ok(octets)
 }
 
 // A number of one octet.
-pub fn octet_at(s: &[u8], at: usize) -> Octet
-    ensures { found_octet result ≡ number_at 1 s.now at }
+pub fn octet_at(s: &[u8], at: usize) -> Result<u8, Stop>
+    ensures { result ≡ number_at 1 s.now at }
 {
-    if s.len() <= at {
-        return Octet::Stop(cut_short(at));
-    }
-    Octet::Is(s[at])
+    let v = array_at::<1>(s, at)?;
+    Ok(v[0])
 }
 
 // A number of two octets, the high one first.
-pub fn two_at(s: &[u8], at: usize) -> Two
-    ensures { found_two result ≡ number_at 2 s.now at }
+pub fn two_at(s: &[u8], at: usize) -> Result<u16, Stop>
+    ensures { result ≡ number_at 2 s.now at }
 {
-    if s.len() <= at {
-        return Two::Stop(cut_short(at));
-    }
-    if s.len() - at < 2 {
-        return Two::Stop(cut_short(at));
-    }
-    Two::Is(numbers::two(s[at], s[at + 1]))
-}
-
-// Three octets as they are.
-pub fn three_at(s: &[u8], at: usize) -> Three
-    ensures { found_three result ≡ string_at 3 s.now at }
-{
-    if s.len() <= at {
-        return Three::Stop(cut_short(at));
-    }
-    if s.len() - at < 3 {
-        return Three::Stop(cut_short(at));
-    }
-    Three::Is(Octets3(s[at], s[at + 1], s[at + 2]))
+    let v = array_at::<2>(s, at)?;
+    Ok(u16::from_be_bytes([v[0], v[1]]))
 }
 
 // Two octets that have to say v.
-pub fn same_at(v: u16, s: &[u8], at: usize) -> Gate
-    ensures { found_gate result ≡ same_at v s.now at }
+#[tactic(auto, unfolding(crate::specs::Field::same_at))]
+pub fn same_at(v: u16, s: &[u8], at: usize) -> Result<(), Stop>
+    ensures { result ≡ same_at v s.now at }
 {
-    match two_at(s, at) {
-        Two::Is(k) => {
-            if k == v {
-                return Gate::Pass;
-            }
-            Gate::Stop(no_meaning(at))
-        }
-        Two::Stop(x) => Gate::Stop(x),
+    if two_at(s, at)? == v {
+        return Ok(());
     }
+    Err(no_meaning(at))
 }
 
 // Two octets that say a number below n.
-pub fn below_at(n: u16, s: &[u8], at: usize) -> Two
-    ensures { found_two result ≡ below_at n s.now at }
+#[tactic(auto, unfolding(crate::specs::Field::below_at))]
+pub fn below_at(n: u16, s: &[u8], at: usize) -> Result<u16, Stop>
+    ensures { result ≡ below_at n s.now at }
 {
-    match two_at(s, at) {
-        Two::Is(v) => {
-            if v < n {
-                return Two::Is(v);
-            }
-            Two::Stop(no_meaning(at))
-        }
-        Two::Stop(x) => Two::Stop(x),
+    let v = two_at(s, at)?;
+    if v < n {
+        return Ok(v);
     }
+    Err(no_meaning(at))
 }
 
 // A length in two octets, whose first has top bits 10.
-fn long_at(s: &[u8], at: usize) -> Length
+#[tactic(auto, unfolding(crate::specs::Field::long_length_at))]
+fn long_at(s: &[u8], at: usize) -> Result<Part<usize>, Stop>
     requires { at < length s.now }
-    ensures { found_length result ≡ long_length_at s.now at }
+    ensures { result ≡ long_length_at s.now at }
 {
     if s.len() - at < 2 {
-        return Length::Stop(cut_short(at));
+        return Err(cut_short(at));
     }
-    let count = (numbers::wide(packed::bits(s[at], 2, 6)) << 8) | numbers::wide(s[at + 1]);
+    let count = (usize::from(packed::bits(s[at], 2, 6)) << 8) | usize::from(s[at + 1]);
     if count < 128 {
-        return Length::Stop(no_meaning(at));
+        return Err(no_meaning(at));
     }
-    Length::Is(Counted {
-        count: count,
+    Ok(Part {
+        value: count,
         next: at + 2,
     })
 }
 
 // A length of 0 to 16,383, in the shortest form.
-pub fn length_at(s: &[u8], at: usize) -> Length
-    ensures { found_length result ≡ length_at s.now at }
+#[tactic(auto, unfolding(crate::specs::Field::length_at))]
+pub fn length_at(s: &[u8], at: usize) -> Result<Part<usize>, Stop>
+    ensures { result ≡ length_at s.now at }
 {
     if s.len() <= at {
-        return Length::Stop(cut_short(at));
+        return Err(cut_short(at));
     }
     let x = s[at];
     if packed::bits(x, 0, 1) == 0 {
-        return Length::Is(Counted {
-            count: numbers::wide(x),
+        return Ok(Part {
+            value: usize::from(x),
             next: at + 1,
         });
     }
     if packed::bits(x, 0, 2) == 3 {
-        return Length::Stop(no_meaning(at));
+        return Err(no_meaning(at));
     }
     long_at(s, at)
 }
 
 // A length, and the octets that it counts: at least one, and none past the end.
-pub fn open_at(s: &[u8], at: usize) -> Open
-    ensures { found_open result ≡ open_at s.now at }
+#[tactic(auto, unfolding(crate::specs::Field::open_at))]
+pub fn open_at(s: &[u8], at: usize) -> Result<Span, Stop>
+    ensures { result ≡ open_at s.now at }
 {
-    match length_at(s, at) {
-        Length::Is(n) => {
-            let count = n.count;
-            let from = n.next;
-            if count == 0 {
-                return Open::Stop(no_meaning(at));
-            }
-            if s.len() - from < count {
-                return Open::Stop(no_meaning(at));
-            }
-            Open::Is(Span {
-                from: from,
-                to: from + count,
-            })
-        }
-        Length::Stop(x) => Open::Stop(x),
+    let n = length_at(s, at)?;
+    let count = n.value;
+    let from = n.next;
+    if count == 0 {
+        return Err(no_meaning(at));
     }
+    if s.len() - from < count {
+        return Err(no_meaning(at));
+    }
+    Ok(Span {
+        from,
+        to: from + count,
+    })
 }
 
 // A value ends here: octets left over are a fault at their first.
-pub fn ends_at(s: &[u8], at: usize) -> Gate
-    ensures { found_gate result ≡ ends_at s.now at }
+#[tactic(auto, unfolding(crate::specs::Field::ends_at))]
+pub fn ends_at(s: &[u8], at: usize) -> Result<(), Stop>
+    ensures { result ≡ ends_at s.now at }
 {
     if at < s.len() {
-        return Gate::Stop(left_over(at));
+        return Err(left_over(at));
     }
-    Gate::Pass
+    Ok(())
 }
 
 // Writers put octets into lent room from a place on, as far as it goes, and hand back the place behind them.
 
-pub fn put_octet(room: &mut [u8], at: usize, v: u8) -> usize
+// One octet, or one word of a list.
+pub fn put<T: Copy>(room: &mut [T], at: usize, v: T) -> usize
     ensures { Wrote room.old at (v ∷ []) room.new result }
 {
     if at < room.len() {
@@ -313,6 +273,12 @@ pub fn put_octet(room: &mut [u8], at: usize, v: u8) -> usize
         return at + 1;
     }
     room.len()
+}
+
+pub fn put_octet(room: &mut [u8], at: usize, v: u8) -> usize
+    ensures { Wrote room.old at (v ∷ []) room.new result }
+{
+    put(room, at, v)
 }
 
 // A number in two octets, the high one first.
@@ -331,27 +297,30 @@ pub fn put_length(room: &mut [u8], at: usize, n: usize) -> usize
         return put_octet(room, at, n as u8);
     }
     if 16384 <= n {
-        return numbers::lesser(at, room.len());
+        return at.min(room.len());
     }
     let top = packed::with_bits(packed::with_bits(0, 0, 2, 2), 2, 6, (n / 256) as u8);
     let next = put_octet(room, at, top);
     put_octet(room, next, (n % 256) as u8)
 }
 
+// As many octets as there is room for.
+pub fn put_octets(room: &mut [u8], at: usize, vs: &[u8]) -> usize
+    ensures { Wrote room.old at vs.now room.new result }
+{
+    let end = place_behind(at, vs.len(), room.len());
+    let start = at.min(end);
+    room[start..end].copy_from_slice(&vs[..end - start]);
+    end
+}
+
 // The octets of s from a place up to another.
 pub fn put_part(room: &mut [u8], at: usize, s: &[u8], from: usize, to: usize) -> usize
     ensures { Wrote room.old at (slice from to s.now) room.new result }
 {
-    let mut next = numbers::lesser(at, room.len());
-    let mut i = from;
-    while i < to {
-        if s.len() <= i {
-            return next;
-        }
-        next = put_octet(room, next, s[i]);
-        i += 1;
-    }
-    next
+    let end = to.min(s.len());
+    let start = from.min(end);
+    put_octets(room, at, &s[start..end])
 }
 
 pub fn put_three(room: &mut [u8], at: usize, a: u8, b: u8, c: u8) -> usize
@@ -375,15 +344,12 @@ fn place_behind(at: usize, n: usize, room: usize) -> usize
     at + n
 }
 
-// Zeros. A plain loop, so that the compiler takes many octets at a time.
+// Zeros.
 pub fn put_zeros(room: &mut [u8], at: usize, n: usize) -> usize
     ensures { Wrote room.old at (replicate n 0) room.new result }
 {
     let end = place_behind(at, n, room.len());
-    let mut i = at;
-    while i < end {
-        room[i] = 0;
-        i += 1;
-    }
+    let start = at.min(end);
+    room[start..end].fill(0);
     end
 }

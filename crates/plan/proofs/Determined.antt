@@ -6,6 +6,12 @@ use Rattle.plan.proofs.length_size.Kinds as length_size'
 use Rattle.plan.proofs.length_size.Reads as length_size
 use Rattle.plan.proofs.fit.Kinds as fit'
 use Rattle.plan.proofs.fit.Reads as fit
+use Rattle.plan.proofs.fits_a_list.Kinds as fits_a_list'
+use Rattle.plan.proofs.fits_a_list.Reads as fits_a_list
+use Rattle.plan.proofs.is_under.Kinds as is_under'
+use Rattle.plan.proofs.is_under.Reads as is_under
+use Rattle.plan.proofs.cause_size.Kinds as cause_size'
+use Rattle.plan.proofs.cause_size.Reads as cause_size
 use Rattle.plan.proofs.plan_of.Kinds as plan_of'
 use Rattle.plan.proofs.plan_of.Reads as plan_of
 use Rattle.plan.proofs.begin.Kinds as begin'
@@ -18,6 +24,15 @@ length_size_is κs a p x y e f = (e same f) & refl
 
 pub fit_is : Determined fit'.ps fit'.r fit.Asked fit.Learnt
 fit_is κs a p x y e f = (e same f) & refl
+
+pub fits_a_list_is : Determined fits_a_list'.ps fits_a_list'.r fits_a_list.Asked fits_a_list.Learnt
+fits_a_list_is κs a p x y e f = (e same f) & refl
+
+pub is_under_is : Determined is_under'.ps is_under'.r is_under.Asked is_under.Learnt
+is_under_is κs a p x y e f = (e same f) & refl
+
+pub cause_size_is : Determined cause_size'.ps cause_size'.r cause_size.Asked cause_size.Learnt
+cause_size_is κs a p x y e f = (e same f) & refl
 
 pub plan_of_is : Determined plan_of'.ps plan_of'.r plan_of.Asked plan_of.Learnt
 plan_of_is κs a p x y e f = (e same f) & refl

@@ -1,5 +1,8 @@
 -- A message by its plan: whether it is written, and what is put.
 -- Assumes nothing.
+use Rattle.std.specs.Prelude.{Err, None, Ok, Some}
+use Rattle.plan.specs.declared.Unwritten.{Unwritten}
+use Rattle.plan.specs.declared.Unwritten.TheVariants.{NoRoom, NotWritten}
 use mathlib.Core.Path.{◌≡◌, ◌∙◌, refl, sym, ap, subst}
 use mathlib.Core.Bool.{Bool, true, false}
 use mathlib.Core.List.{List, [], ◌∷◌, ◌++◌, map, append_assoc, append-nil}
@@ -9,27 +12,23 @@ use native.Mathlib.Nat.{mod-eq_of_lt}
 use borrow.Author.Tests.{le-leb, lt-leb, ltb-true, ltb-false, eqb-false}
 use lib.Dec.{ltb, eqb}
 use lib.ListN.{length, drop, get_or, length-append, get_or-map}
-use Rattle.lists.specs.Lists.{pick, fill}
-use Rattle.lists.proofs.Fill.{get_d_fill, take_fill}
+use Rattle.lists.specs.Lists.{pick}
+use Rattle.lists.proofs.Fill.{get_d_fill}
 use Rattle.packed.specs.Packed.{◌bits◌, bit, packed}
 use Rattle.octets.specs.Many.{Each}
 use Rattle.octets.specs.Write.{number_octets, length_octets, Wrote}
 use Rattle.octets.proofs.Back.{length_number}
 use Rattle.octets.proofs.Writing.{sets_front, wrote_then}
 use Rattle.rows.specs.declared.Row.{Row}
-use Rattle.rows.specs.declared.Rows.{Rows}
-use Rattle.rows.specs.Table.{no_row, rows_in}
+use Rattle.rows.specs.Table.{no_row}
 use Rattle.editions.specs.declared.Edition.{Edition}
 use Rattle.editions.specs.declared.Message.{Message}
-use Rattle.editions.specs.Editions.{table_of, code_of, table_rows}
+use Rattle.editions.specs.Editions.{table_of, code_of}
 use Rattle.editions.proofs.Names.{bounds}
 use Rattle.editions.proofs.Tables.{Fits, lawful_count, rows_fit, table_lawful}
 use Rattle.meaning.specs.Value.{Value, Given, given, absent, Said}
 use Rattle.meaning.specs.Written.{octets_of, has_octets, element_octets, elements_octets, how_many, inside_octets, message_octets, is_written, octets, none, encoded}
-use Rattle.plan.specs.declared.Plan.{Plan}
-use Rattle.plan.specs.declared.Plan.TheVariants.{Is, None}
-use Rattle.plan.specs.declared.Written.TheVariants.{Done, NoRoom, NotWritten}
-use Rattle.plan.specs.Plan.{size_of, fitted, size_given, sizes_of, plan_to, message_size, opening_octets, front_octets, elements_to}
+use Rattle.plan.specs.Plan.{size_of, fitted, size_given, sizes_of, plan_to, message_size, opening_octets, front_octets, elements_to, Plan}
 use Rattle.plan.specs.Written.{kept, in_front, written_in, Writes, begun_in}
 use Rattle.plan.proofs.Plans.{planned, plan_fill, plan_all, plan_fits, planned_is, planned_none}
 use Rattle.plan.proofs.Steps.{opening_length}
@@ -49,10 +48,6 @@ crit_small e m i = at (table_of e m) (rows_fit e m) i
 
 code_same : (e : Edition) (m : Message) → ((code_of e m).kind % 4 ≡ (code_of e m).kind) × ((code_of e m).crit % 4 ≡ (code_of e m).crit)
 code_same e m = let b = bounds e m in (omega arith, omega arith)
-
--- the rows that the code has
-pub rows_all : (e : Edition) (m : Message) {t : Rows} → t ≡ table_rows e m → (rows_in t ≡ table_of e m) × (t.rows ≡ fill no_row 12 (table_of e m))
-rows_all e m f = (ap rows_in f ∙ take_fill no_row 12 (table_of e m), ap (λ (t : Rows). t.rows) f)
 
 -- ---- elements one after another
 
@@ -104,29 +99,23 @@ element_is r v {n} k e h =
 
 -- ---- the plan of a message's values
 
-module _ (e : Edition) (m : Message) (vs : List (Given (List ℕ))) (many : length (table_of e m) ≡ length vs) {t : Rows} {ns : List ℕ} (rs : t ≡ table_rows e m) (f : ns ≡ sizes_of vs) where
-  count_is : length (rows_in t) ≡ length (table_of e m)
-  count_is = ap length (rows_all e m rs).0
+module _ (e : Edition) (m : Message) (vs : List (Given (List ℕ))) (many : length (table_of e m) ≡ length vs) {t : List Row} {ns : List ℕ} (rs : t ≡ table_of e m) (f : ns ≡ sizes_of vs) where
+  plan_as : plan_to (Some (0, 0)) t ns (length t) ≡ plan_to (Some (0, 0)) (table_of e m) (map size_given vs) (length (table_of e m))
+  plan_as = rw (f, rs) (plan_fill (Some (0, 0)) (table_of e m) (map size_given vs) (length (table_of e m)))
 
-  plan_as : plan_to (Is 0 0) t.rows ns (length (rows_in t)) ≡ plan_to (Is 0 0) (table_of e m) (map size_given vs) (length (table_of e m))
-  plan_as = rw (f, count_is, (rows_all e m rs).1) (plan_fill (Is 0 0) (table_of e m) (map size_given vs) (length (table_of e m)))
-
-  pub planned_by : {p : Plan} → p ≡ plan_to (Is 0 0) t.rows ns (length (rows_in t)) → p ≡ planned 0 0 (table_of e m) vs
+  pub planned_by : {p : Plan} → p ≡ plan_to (Some (0, 0)) t ns (length t) → p ≡ planned 0 0 (table_of e m) vs
   planned_by g = g ∙ plan_as ∙ plan_all (table_of e m) vs 0 0 many (omega arith)
 
-  -- for each row the code has its row, and the size of its value
-  pub row_by : (i : ℕ) → get_or t.rows i no_row ≡ get_or (table_of e m) i no_row
-  row_by i = rw (rows_all e m rs).1 (get_d_fill no_row 12 (table_of e m) i)
-
-  pub crit_by : (i : ℕ) → (get_or t.rows i no_row).crit < 4
-  crit_by i = rw (row_by i) (crit_small e m i)
+  -- for each row the code has the size of its value
+  pub crit_by : (i : ℕ) → (get_or t i no_row).crit < 4
+  crit_by i = rw rs (crit_small e m i)
 
   pub size_by : (i : ℕ) → get_or ns i 0 ≡ size_given (get_or vs i absent)
   unfolding size_given
   size_by i = rw f (get_d_fill 0 12 (map size_given vs) i ∙ get_or-map size_given vs i absent)
 
-  pub fits_by : {p : Plan} → p ≡ plan_to (Is 0 0) t.rows ns (length (rows_in t)) → {c q : ℕ} → p ≡ Is c q → (i : ℕ) → i < length (rows_in t) → get_or ns i 0 ≤ 8192
-  fits_by g {c} {q} k i h = plan_fits (Is 0 0) t.rows ns (length (rows_in t)) c q (sym g ∙ k) i h
+  pub fits_by : {p : Plan} → p ≡ plan_to (Some (0, 0)) t ns (length t) → {c q : ℕ} → p ≡ Some (c, q) → (i : ℕ) → i < length t → get_or ns i 0 ≤ 8192
+  fits_by g {c} {q} k i h = plan_fits (Some (0, 0)) t ns (length t) c q (sym g ∙ k) i h
 
 -- ---- the message
 
@@ -149,33 +138,33 @@ module _ (e : Edition) (m : Message) (vs : List (Given (List ℕ))) where
       omega (arith, length-append (length_octets (length (inside_octets (table_of e m) vs))) (inside_octets (table_of e m) vs), inside, ap (λ (k : ℕ). length (length_octets k)) inside)
 
   module _ (l : List ℕ) where
-    not_written : is_written e said ≡ false → Writes (written_in l (encoded e said)) NotWritten l
+    not_written : is_written e said ≡ false → Writes (written_in l (encoded e said)) (Err NotWritten) l
     unfolding written_in encoded
     not_written f =
-        subst (λ (b : Bool). Writes (written_in l (pick b (octets (message_octets e said)) none)) NotWritten l) (sym f) (record { answer = refl; room = refl })
+        subst (λ (b : Bool). Writes (written_in l (pick b (octets (message_octets e said)) none)) (Err NotWritten) l) (sym f) (record { answer = refl; room = refl })
 
-    plan_refuses : planned 0 0 (table_of e m) vs ≡ None → Writes (written_in l (encoded e said)) NotWritten l
+    plan_refuses : planned 0 0 (table_of e m) vs ≡ None → Writes (written_in l (encoded e said)) (Err NotWritten) l
     plan_refuses f = not_written (planned_none (table_of e m) vs f (length (message_octets e said)) (omega (arith, message_length)))
 
-    module _ {c q : ℕ} (f : planned 0 0 (table_of e m) vs ≡ Is c q) where
+    module _ {c q : ℕ} (f : planned 0 0 (table_of e m) vs ≡ Some (c, q)) where
       size : message_size q ≡ length (message_octets e said)
       size = rw (planned_is (table_of e m) vs f).2 (sym message_length)
 
-      too_long : 8192 < message_size q → Writes (written_in l (encoded e said)) NotWritten l
+      too_long : 8192 < message_size q → Writes (written_in l (encoded e said)) (Err NotWritten) l
       too_long h = not_written (rw ((planned_is (table_of e m) vs f).0, lt-leb _ _ (rw size at h)))
 
       fully : message_size q ≤ 8192 → is_written e said ≡ true
       fully h = rw ((planned_is (table_of e m) vs f).0, le-leb _ _ (rw size at h))
 
-      no_room_lem : message_size q ≤ 8192 → length l < message_size q → Writes (written_in l (encoded e said)) NoRoom l
+      no_room_lem : message_size q ≤ 8192 → length l < message_size q → Writes (written_in l (encoded e said)) (Err NoRoom) l
       unfolding written_in encoded
       no_room_lem h k =
           let o : length l < length (message_octets e said) = rw size at k in
-          subst (λ (b : Bool). Writes (written_in l (pick b (octets (message_octets e said)) none)) NoRoom l) (sym (fully h))
+          subst (λ (b : Bool). Writes (written_in l (pick b (octets (message_octets e said)) none)) (Err NoRoom) l) (sym (fully h))
           (rw (lt-leb _ _ o) (record { answer = refl; room = refl }))
 
       done : message_size q ≤ 8192 → message_size q ≤ length l → {k : List ℕ} {r : ℕ}
-          → Wrote l 0 (opening_octets (code_of e m) (q + 3) c ++ elements_octets (table_of e m) vs) k r → Writes (written_in l (encoded e said)) (Done r) k
+          → Wrote l 0 (opening_octets (code_of e m) (q + 3) c ++ elements_octets (table_of e m) vs) k r → Writes (written_in l (encoded e said)) (Ok r) k
       unfolding written_in encoded
       done h g {k} {r} w =
           let p = planned_is (table_of e m) vs f in
@@ -183,52 +172,56 @@ module _ (e : Edition) (m : Message) (vs : List (Given (List ℕ))) where
           let x : Wrote l 0 (message_octets e said) k r = rw (p.1, p.2, message_split) at w in
           let y : r ≡ length (message_octets e said) = omega (arith, x.next) in
           let z : k ≡ message_octets e said ++ drop (length (message_octets e said)) l = x.octets ∙ sets_front l (message_octets e said) o in
-          subst (λ (b : Bool). Writes (written_in l (pick b (octets (message_octets e said)) none)) (Done r) k) (sym (fully h))
+          subst (λ (b : Bool). Writes (written_in l (pick b (octets (message_octets e said)) none)) (Ok r) k) (sym (fully h))
           (rw (le-leb _ _ o) (record { answer = cc; room = z }))
 
     -- ---- by what stands before the elements, for the plan that the code has
 
     module _ {p : Plan} {k : List ℕ} (f : p ≡ planned 0 0 (table_of e m) vs) where
-      pub begun_refused : Writes (begun_in l (code_of e m) p) NotWritten k → Writes (written_in l (encoded e said)) NotWritten k
+      begun_refused : Writes (begun_in l (code_of e m) p) (Err NotWritten) k → Writes (written_in l (encoded e said)) (Err NotWritten) k
       unfolding begun_in
       begun_refused w = by p (sym f) w
         where
-          by : (p : Plan) → planned 0 0 (table_of e m) vs ≡ p → Writes (begun_in l (code_of e m) p) NotWritten k → Writes (written_in l (encoded e said)) NotWritten k
+          by : (p : Plan) → planned 0 0 (table_of e m) vs ≡ p → Writes (begun_in l (code_of e m) p) (Err NotWritten) k → Writes (written_in l (encoded e said)) (Err NotWritten) k
           by None g w = rw w.room (plan_refuses g)
-          by (Is c q) g w = at (ltb 8192 (message_size q)) refl (ltb (length l) (message_size q)) w
+          by (Some (c, q)) g w = at (ltb 8192 (message_size q)) refl (ltb (length l) (message_size q)) w
             where
-              at : (a : Bool) → ltb 8192 (message_size q) ≡ a → (b : Bool) → Writes (pick a (kept NotWritten l) (pick b (kept NoRoom l) (in_front l (opening_octets (code_of e m) (q + 3) c)))) NotWritten k
-                  → Writes (written_in l (encoded e said)) NotWritten k
+              at : (a : Bool) → ltb 8192 (message_size q) ≡ a → (b : Bool) → Writes (pick a (kept (Err NotWritten) l) (pick b (kept (Err NoRoom) l) (in_front l (opening_octets (code_of e m) (q + 3) c)))) (Err NotWritten) k
+                  → Writes (written_in l (encoded e said)) (Err NotWritten) k
               at true x b w = rw w.room (too_long g (ltb-true 8192 (message_size q) x))
               at false x true w = let h = w.answer in let z : ◌≡◌ {A = ℕ} 0 1 = cc in absurd (omega arith)
               at false x false w = let h = w.answer in let z : ◌≡◌ {A = ℕ} 0 1 = cc in absurd (omega arith)
 
-      pub begun_no_room : Writes (begun_in l (code_of e m) p) NoRoom k → Writes (written_in l (encoded e said)) NoRoom k
+      begun_no_room : Writes (begun_in l (code_of e m) p) (Err NoRoom) k → Writes (written_in l (encoded e said)) (Err NoRoom) k
       unfolding begun_in
       begun_no_room w = by p (sym f) w
         where
-          by : (p : Plan) → planned 0 0 (table_of e m) vs ≡ p → Writes (begun_in l (code_of e m) p) NoRoom k → Writes (written_in l (encoded e said)) NoRoom k
+          by : (p : Plan) → planned 0 0 (table_of e m) vs ≡ p → Writes (begun_in l (code_of e m) p) (Err NoRoom) k → Writes (written_in l (encoded e said)) (Err NoRoom) k
           by None g w = let h = w.answer in let z : ◌≡◌ {A = ℕ} 0 1 = cc in absurd (omega arith)
-          by (Is c q) g w = at (ltb 8192 (message_size q)) refl (ltb (length l) (message_size q)) refl w
+          by (Some (c, q)) g w = at (ltb 8192 (message_size q)) refl (ltb (length l) (message_size q)) refl w
             where
               at : (a : Bool) → ltb 8192 (message_size q) ≡ a → (b : Bool) → ltb (length l) (message_size q) ≡ b
-                  → Writes (pick a (kept NotWritten l) (pick b (kept NoRoom l) (in_front l (opening_octets (code_of e m) (q + 3) c)))) NoRoom k
-                  → Writes (written_in l (encoded e said)) NoRoom k
+                  → Writes (pick a (kept (Err NotWritten) l) (pick b (kept (Err NoRoom) l) (in_front l (opening_octets (code_of e m) (q + 3) c)))) (Err NoRoom) k
+                  → Writes (written_in l (encoded e said)) (Err NoRoom) k
               at true x b y w = let h = w.answer in let z : ◌≡◌ {A = ℕ} 0 1 = cc in absurd (omega arith)
               at false x true y w = rw w.room (no_room_lem g (ltb-false 8192 (message_size q) x) (ltb-true (length l) (message_size q) y))
               at false x false y w = let h = w.answer in let z : ◌≡◌ {A = ℕ} 0 1 = cc in absurd (omega arith)
 
-      pub begun_done : {i : ℕ} → Writes (begun_in l (code_of e m) p) (Done i) k → {u : List ℕ} {r : ℕ} → Wrote k i (elements_octets (table_of e m) vs) u r → Writes (written_in l (encoded e said)) (Done r) u
+      pub begun_err : (x : Unwritten) → Writes (begun_in l (code_of e m) p) (Err x) k → Writes (written_in l (encoded e said)) (Err x) k
+      begun_err NotWritten w = begun_refused w
+      begun_err NoRoom w = begun_no_room w
+
+      pub begun_done : {i : ℕ} → Writes (begun_in l (code_of e m) p) (Ok i) k → {u : List ℕ} {r : ℕ} → Wrote k i (elements_octets (table_of e m) vs) u r → Writes (written_in l (encoded e said)) (Ok r) u
       unfolding begun_in
       begun_done {i} w {u} {r} y = by p (sym f) w
         where
-          by : (p : Plan) → planned 0 0 (table_of e m) vs ≡ p → Writes (begun_in l (code_of e m) p) (Done i) k → Writes (written_in l (encoded e said)) (Done r) u
+          by : (p : Plan) → planned 0 0 (table_of e m) vs ≡ p → Writes (begun_in l (code_of e m) p) (Ok i) k → Writes (written_in l (encoded e said)) (Ok r) u
           by None g w = let h = w.answer in let z : ◌≡◌ {A = ℕ} 0 1 = cc in absurd (omega arith)
-          by (Is c q) g w = at (ltb 8192 (message_size q)) refl (ltb (length l) (message_size q)) refl w
+          by (Some (c, q)) g w = at (ltb 8192 (message_size q)) refl (ltb (length l) (message_size q)) refl w
             where
               at : (a : Bool) → ltb 8192 (message_size q) ≡ a → (b : Bool) → ltb (length l) (message_size q) ≡ b
-                  → Writes (pick a (kept NotWritten l) (pick b (kept NoRoom l) (in_front l (opening_octets (code_of e m) (q + 3) c)))) (Done i) k
-                  → Writes (written_in l (encoded e said)) (Done r) u
+                  → Writes (pick a (kept (Err NotWritten) l) (pick b (kept (Err NoRoom) l) (in_front l (opening_octets (code_of e m) (q + 3) c)))) (Ok i) k
+                  → Writes (written_in l (encoded e said)) (Ok r) u
               at true x b v w = let h = w.answer in let z : ◌≡◌ {A = ℕ} 0 1 = cc in absurd (omega arith)
               at false x true v w = let h = w.answer in let z : ◌≡◌ {A = ℕ} 0 1 = cc in absurd (omega arith)
               at false x false v w =

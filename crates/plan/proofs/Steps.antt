@@ -1,5 +1,6 @@
 -- The steps of a writer, by what the code tests.
 -- Assumes nothing.
+use Rattle.std.specs.Prelude.{None, Ok, Some}
 use mathlib.Core.Path.{◌≡◌, ◌∙◌, refl, ap, subst}
 use mathlib.Core.Bool.{Bool, true, false}
 use mathlib.Core.List.{List, [], ◌∷◌, ◌++◌}
@@ -15,10 +16,7 @@ use Rattle.octets.specs.Write.{number_octets, length_octets, Wrote}
 use Rattle.octets.proofs.Back.{length_number}
 use Rattle.octets.proofs.Writing.{wrote_length, sets_front, length_short, length_long, length_over}
 use Rattle.editions.specs.declared.Code.{Code}
-use Rattle.plan.specs.declared.Plan.{Plan}
-use Rattle.plan.specs.declared.Plan.TheVariants.{Is, None}
-use Rattle.plan.specs.declared.Written.TheVariants.{Done, NoRoom, NotWritten}
-use Rattle.plan.specs.Plan.{fitted, Small, element_size, step_of, message_size, opening_octets}
+use Rattle.plan.specs.Plan.{fitted, Small, element_size, step_of, message_size, opening_octets, Plan}
 use Rattle.plan.specs.Written.{Writes, begun_in}
 
 -- ---- sizes
@@ -36,15 +34,6 @@ module _ (n : ℕ) where
   unfolding fitted
   fit_is h k = let z : n ≡ 0 → ⊥ = λ e. omega arith in rw (ne_eqb n 0 z, le-ltb 8192 n k)
 
-  pub length_one : n < 128 → 1 ≡ length (length_octets n)
-  length_one h = rw (length_short n h)
-
-  pub length_two : 128 ≤ n → n < 16384 → 2 ≡ length (length_octets n)
-  length_two h k = rw (length_long n h k)
-
-  pub length_none : 16384 ≤ n → 0 ≡ length (length_octets n)
-  length_none h = rw (length_over n h)
-
   pub length_few : length (length_octets n) ≤ 2
   length_few = by (ltb n 128) refl (ltb n 16384) refl
     where
@@ -55,17 +44,13 @@ module _ (n : ℕ) where
 
 -- ---- the plan
 
-pub small_more : (p : Plan) (i j : ℕ) → i ≤ j → Small i p → Small j p
-small_more (Is c q) i j h s = (omega arith, s.1)
-small_more None i j h s = tt
-
 pub small_step : (p : Plan) (m : Bool) (n i : ℕ) → Small i p → Small (i + 1) (step_of p m n)
 unfolding step_of
 small_step None m n i s = tt
-small_step (Is c q) m n i s = by (eqb n 0) m (ltb 8192 n) (ltb 8192 (q + element_size n)) refl
+small_step (Some (c, q)) m n i s = by (eqb n 0) m (ltb 8192 n) (ltb 8192 (q + element_size n)) refl
   where
     by : (a m b d : Bool) → ltb 8192 (q + element_size n) ≡ d
-        → Small (i + 1) (pick a (pick m None (Is c q)) (pick b None (pick d None (Is (c + 1) (q + element_size n)))))
+        → Small (i + 1) (pick a (pick m None (Some (c, q))) (pick b None (pick d None (Some (c + 1, q + element_size n)))))
     by true true b d e = tt
     by true false b d e = (omega (arith, s.0), s.1)
     by false m true d e = tt
@@ -100,25 +85,11 @@ wrote_within w = omega (arith, w.next, wrote_length w)
 
 -- ---- what stands before the elements
 
-module _ (l : List ℕ) (c : Code) where
-  pub begun_none : Writes (begun_in l c None) NotWritten l
-  unfolding begun_in
-  begun_none = record { answer = refl; room = refl }
-
-  module _ (n q : ℕ) where
-    pub begun_long : 8192 < message_size q → Writes (begun_in l c (Is n q)) NotWritten l
-    unfolding begun_in
-    begun_long h = rw (lt-ltb 8192 (message_size q) h) (record { answer = refl; room = refl })
-
-    module _ (h : message_size q ≤ 8192) where
-      pub begun_over : length l < message_size q → Writes (begun_in l c (Is n q)) NoRoom l
-      unfolding begun_in
-      begun_over k = rw (le-ltb 8192 (message_size q) h, lt-ltb (length l) (message_size q) k) (record { answer = refl; room = refl })
-
-      pub begun_front : message_size q ≤ length l → {m : List ℕ} {r : ℕ} → Wrote l 0 (opening_octets c (q + 3) n) m r → Writes (begun_in l c (Is n q)) (Done r) m
-      unfolding begun_in
-      begun_front k {m} {r} w =
-          let os = opening_octets c (q + 3) n in
-          let f : length os ≤ length l = omega (arith, opening_length c (q + 3) n) in
-          let e : r ≡ length os = omega (arith, w.next) in
-          rw (le-ltb 8192 (message_size q) h, le-ltb (length l) (message_size q) k) (record { answer = ap Done e; room = w.octets ∙ sets_front l os f })
+pub begun_front : (l : List ℕ) (c : Code) (n q : ℕ) → message_size q ≤ 8192 → message_size q ≤ length l → {m : List ℕ} {r : ℕ} → Wrote l 0 (opening_octets c (q + 3) n) m r
+    → Writes (begun_in l c (Some (n, q))) (Ok r) m
+unfolding begun_in
+begun_front l c n q h k {m} {r} w =
+    let os = opening_octets c (q + 3) n in
+    let f : length os ≤ length l = omega (arith, opening_length c (q + 3) n) in
+    let e : r ≡ length os = omega (arith, w.next) in
+    rw (le-ltb 8192 (message_size q) h, le-ltb (length l) (message_size q) k) (record { answer = ap Ok e; room = w.octets ∙ sets_front l os f })

@@ -1,5 +1,5 @@
 -- Scaffolding: no demand speaks of it. The steps of a writer: the sizes of the values, the plan, and what stands before the elements and before a value.
-use Rattle.std.specs.Prelude.{ℕ, zero, suc, ◌+◌, ◌%◌, ◌≤◌, Bool, false, List, [], ◌∷◌, ◌++◌, map, ltb, eqb, length, get_or}
+use Rattle.std.specs.Prelude.{ℕ, zero, suc, ◌+◌, ◌%◌, ◌≤◌, Bool, false, List, [], ◌∷◌, ◌++◌, map, ltb, eqb, length, get_or, Option, None, Some}
 use Rattle.lists.specs.Lists.{pick, fill}
 use Rattle.packed.specs.Packed.{◌bits◌, bit, packed}
 use Rattle.octets.specs.Write.{number_octets, length_octets}
@@ -8,8 +8,6 @@ use Rattle.rows.specs.Table.{no_row}
 use Rattle.editions.specs.declared.Code.{Code}
 use Rattle.meaning.specs.Value.{Value, Given, given, absent}
 use Rattle.meaning.specs.Written.{octets_of, has_octets, element_octets}
-use Rattle.plan.specs.declared.Plan.{Plan}
-use Rattle.plan.specs.declared.Plan.TheVariants.{Is, None}
 
 -- ---- sizes
 
@@ -30,8 +28,12 @@ sizes_of vs = fill 0 12 (map size_given vs)
 
 -- ---- the plan
 
+-- how many elements there are, and their octets; or the message is not written
+abbrev pub Plan : Type 0
+Plan = Option (ℕ × ℕ)
+
 abbrev pub Small : ℕ → Plan → Type 0
-Small i (Is c q) = (c ≤ i) × (q ≤ 8192)
+Small i (Some (c, q)) = (c ≤ i) × (q ≤ 8192)
 Small i None = Unit
 
 -- an element with a value of n octets
@@ -39,9 +41,9 @@ abbrev pub element_size : ℕ → ℕ
 element_size n = 3 + length (length_octets n) + n
 
 unfoldable pub step_of : Plan → Bool → ℕ → Plan
-step_of (Is c q) mandatory n =
-    pick (eqb n 0) (pick mandatory None (Is c q))
-    (pick (ltb 8192 n) None (pick (ltb 8192 (q + element_size n)) None (Is (c + 1) (q + element_size n))))
+step_of (Some (c, q)) mandatory n =
+    pick (eqb n 0) (pick mandatory None (Some (c, q)))
+    (pick (ltb 8192 n) None (pick (ltb 8192 (q + element_size n)) None (Some (c + 1, q + element_size n))))
 step_of None mandatory n = None
 
 -- of the first i rows

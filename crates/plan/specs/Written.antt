@@ -1,24 +1,25 @@
 -- What writing leaves: an answer, and the room.
-use Rattle.std.specs.Prelude.{ℕ, ◌+◌, ◌≡◌, List, ◌++◌, ltb, leb, length, drop}
+use Rattle.plan.specs.declared.Unwritten.{Unwritten}
+use Rattle.plan.specs.declared.Unwritten.TheVariants.{NoRoom, NotWritten}
+use Rattle.std.specs.Prelude.{ℕ, ◌+◌, ◌≡◌, List, ◌++◌, ltb, leb, length, drop, Err, Result, None, Ok, Some}
 use Rattle.lists.specs.Lists.{pick}
 use Rattle.editions.specs.declared.Code.{Code}
 use Rattle.meaning.specs.Written.{Encoded, octets, none}
-use Rattle.plan.specs.declared.Plan.{Plan}
-use Rattle.plan.specs.declared.Plan.TheVariants.{Is, None}
-use Rattle.plan.specs.declared.Written.{Written}
-use Rattle.plan.specs.declared.Written.TheVariants.{Done, NoRoom, NotWritten}
-use Rattle.plan.specs.Plan.{message_size, opening_octets}
+use Rattle.plan.specs.Plan.{message_size, opening_octets, Plan}
+
+abbrev pub Written : Type 0
+Written = Result ℕ Unwritten
 
 -- 01's number of each case, and the octets put
 abbrev pub written_number : Written → ℕ
-written_number (Done n) = 0
-written_number NoRoom = 10
-written_number NotWritten = 11
+written_number (Ok n) = 0
+written_number (Err NoRoom) = 10
+written_number (Err NotWritten) = 11
 
 abbrev pub put_of : Written → ℕ
-put_of (Done n) = n
-put_of NoRoom = 0
-put_of NotWritten = 0
+put_of (Ok n) = n
+put_of (Err NoRoom) = 0
+put_of (Err NotWritten) = 0
 
 pub record Writing : Type 0 where
   pub answer : Written
@@ -28,12 +29,12 @@ abbrev pub kept : Written → List ℕ → Writing
 kept r l = record { answer = r; room = l }
 
 abbrev pub in_front : List ℕ → List ℕ → Writing
-in_front l os = record { answer = Done (length os); room = os ++ drop (length os) l }
+in_front l os = record { answer = Ok (length os); room = os ++ drop (length os) l }
 
 -- octets that fit stand in front, and the rest is kept; else all of the room is kept
 unfoldable pub written_in : List ℕ → Encoded → Writing
-written_in l none = kept NotWritten l
-written_in l (octets os) = pick (leb (length os) (length l)) (in_front l os) (kept NoRoom l)
+written_in l none = kept (Err NotWritten) l
+written_in l (octets os) = pick (leb (length os) (length l)) (in_front l os) (kept (Err NoRoom) l)
 
 -- this answer, and this room at exit
 pub record Writes (w : Writing) (r : Written) (m : List ℕ) : Type 0 where
@@ -42,5 +43,5 @@ pub record Writes (w : Writing) (r : Written) (m : List ℕ) : Type 0 where
 
 -- what stands before the elements, if the whole message is written and fits
 unfoldable pub begun_in : List ℕ → Code → Plan → Writing
-begun_in l c None = kept NotWritten l
-begun_in l c (Is n q) = pick (ltb 8192 (message_size q)) (kept NotWritten l) (pick (ltb (length l) (message_size q)) (kept NoRoom l) (in_front l (opening_octets c (q + 3) n)))
+begun_in l c None = kept (Err NotWritten) l
+begun_in l c (Some (n, q)) = pick (ltb 8192 (message_size q)) (kept (Err NotWritten) l) (pick (ltb (length l) (message_size q)) (kept (Err NoRoom) l) (in_front l (opening_octets c (q + 3) n)))

@@ -1,5 +1,6 @@
 -- The name on the plate: what was sent is read back, so names that differ have requests that differ; and what is shown of a request is its name.
 -- Assumes nothing.
+use Rattle.std.specs.Prelude.{None, Option, Some}
 use Prim.Native.Nat.{ℕ, min}
 use mathlib.Core.Path.{◌≡◌, refl, sym, ap, subst, ◌∙◌}
 use mathlib.Core.Bool.{Bool, true, false, not, true≢false}
@@ -24,8 +25,6 @@ use Rattle.layout.specs.Record.{LentRecord, is_record, no_record, read_record, b
 use Rattle.units.specs.Unit.{MaybeUnit}
 use Rattle.round_trips.proofs.Accepted.{opened}
 use Rattle.setup.specs.Setup.{Setup, setup_on, setup}
-use Rattle.shown.specs.declared.Found.{Found}
-use Rattle.shown.specs.declared.Found.TheVariants as found
 use Rattle.shown.specs.Shown.{setup_requests, found_among, found_in, name_in, part_by, shown_part, part_octets, shown_of}
 use Rattle.plate.specs.Name.{Name, called, nameless, name_among}
 use Rattle.plate.specs.Plate.{name_handed, name_on, name_found, name_read, Sent, Plate}
@@ -40,36 +39,36 @@ not_called : {os : List ℕ} {A : Type 0} → nameless ≡ called os → A
 not_called q = absurd (let z : ◌≡◌ {A = ℕ} 0 1 = cc in omega arith)
 
 -- a name that is there is refused exactly if it is not allowed
-record Tested (vs : List (Given (List ℕ))) (os : List ℕ) : Type 0 where
-  passed : some bad_name vs ≡ false → name_allowed os ≡ true
-  refused : name_allowed os ≡ false → some bad_name vs ≡ true
+record Tested (bad : Bool) (os : List ℕ) : Type 0 where
+  passed : bad ≡ false → name_allowed os ≡ true
+  refused : name_allowed os ≡ false → bad ≡ true
 
-tested : (vs : List (Given (List ℕ))) (os : List ℕ) → name_among vs ≡ called os → Tested vs os
+tested : (vs : List (Given (List ℕ))) (os : List ℕ) → name_among vs ≡ called os → Tested (some bad_name vs) os
 tested [] os q = not_called q
-tested (absent ∷ vs) os q = let h = tested vs os q in record { passed = h.passed; refused = h.refused }
+tested (absent ∷ vs) os q = tested vs os q
 tested (given (value.name ps) ∷ vs) os q =
     let e = same_called q in
     record {
       passed = λ n. subst (λ (x : List ℕ). name_allowed x ≡ true) e (not-false (name_allowed ps) (or_left (not (name_allowed ps)) (some bad_name vs) n));
       refused = λ n. rw (ap name_allowed e ∙ n);
     }
-tested (given (value.carried x) ∷ vs) os q = let h = tested vs os q in record { passed = h.passed; refused = h.refused }
-tested (given (value.mme x) ∷ vs) os q = let h = tested vs os q in record { passed = h.passed; refused = h.refused }
-tested (given (value.mce x) ∷ vs) os q = let h = tested vs os q in record { passed = h.passed; refused = h.refused }
-tested (given (value.tmgi x) ∷ vs) os q = let h = tested vs os q in record { passed = h.passed; refused = h.refused }
-tested (given (value.one x) ∷ vs) os q = let h = tested vs os q in record { passed = h.passed; refused = h.refused }
-tested (given (value.two x) ∷ vs) os q = let h = tested vs os q in record { passed = h.passed; refused = h.refused }
-tested (given (value.cause x) ∷ vs) os q = let h = tested vs os q in record { passed = h.passed; refused = h.refused }
-tested (given (value.wait x) ∷ vs) os q = let h = tested vs os q in record { passed = h.passed; refused = h.refused }
-tested (given (value.reset x) ∷ vs) os q = let h = tested vs os q in record { passed = h.passed; refused = h.refused }
-tested (given (value.list x) ∷ vs) os q = let h = tested vs os q in record { passed = h.passed; refused = h.refused }
-tested (given (value.diagnostics t x) ∷ vs) os q = let h = tested vs os q in record { passed = h.passed; refused = h.refused }
+tested (given (value.carried x) ∷ vs) os q = tested vs os q
+tested (given (value.mme x) ∷ vs) os q = tested vs os q
+tested (given (value.mce x) ∷ vs) os q = tested vs os q
+tested (given (value.tmgi x) ∷ vs) os q = tested vs os q
+tested (given (value.one x) ∷ vs) os q = tested vs os q
+tested (given (value.two x) ∷ vs) os q = tested vs os q
+tested (given (value.cause x) ∷ vs) os q = tested vs os q
+tested (given (value.wait x) ∷ vs) os q = tested vs os q
+tested (given (value.reset x) ∷ vs) os q = tested vs os q
+tested (given (value.list x) ∷ vs) os q = tested vs os q
+tested (given (value.diagnostics t x) ∷ vs) os q = tested vs os q
 
 -- ---- the name that is found stands where its characters do
 
-abbrev name_at : List ℕ → Found → Name
-name_at s (found.Name v) = called (octets_in s v)
-name_at s found.Nothing = nameless
+abbrev name_at : List ℕ → Option Span → Name
+name_at s (Some v) = called (octets_in s v)
+name_at s None = nameless
 
 among_found : (s : List ℕ) (vs : List (Given Span)) → name_among (map (on_given (octets_in s)) vs) ≡ name_at s (found_among vs)
 unfolding on_carried found_among
@@ -100,13 +99,13 @@ in_octets s v os n = by (leb v.to (length s))
     by true q = q
     by false q = absurd (n q)
 
-shown_name : (s l os : List ℕ) (x : Found) → name_allowed os ≡ true → name_at s x ≡ called os → part_octets s l (part_by l x) ≡ os
-shown_name s l os (found.Name v) a q = in_octets s v os (some_octets os a) (same_called q)
-shown_name s l os found.Nothing a q = not_called q
+shown_name : (s l os : List ℕ) (x : Option Span) → name_allowed os ≡ true → name_at s x ≡ called os → part_octets s l (part_by l x) ≡ os
+shown_name s l os (Some v) a q = in_octets s v os (some_octets os a) (same_called q)
+shown_name s l os None a q = not_called q
 
-shown_label : (s l : List ℕ) (x : Found) → name_at s x ≡ nameless → part_octets s l (part_by l x) ≡ take 150 l
-shown_label s l (found.Name v) q = not_called (sym q)
-shown_label s l found.Nothing q = by (leb 150 (length l)) refl
+shown_label : (s l : List ℕ) (x : Option Span) → name_at s x ≡ nameless → part_octets s l (part_by l x) ≡ take 150 l
+shown_label s l (Some v) q = not_called (sym q)
+shown_label s l None q = by (leb 150 (length l)) refl
   where
     by : (b : Bool) → leb 150 (length l) ≡ b → take (min 150 (length l)) l ≡ take 150 l
     by true h = let z = leb-true 150 (length l) h in let m : min 150 (length l) ≡ 150 = omega (arith, z) in ap (λ (n : ℕ). take n l) m

@@ -1,5 +1,6 @@
 -- A setup that was answered 0 wrote what its record says: it is a record of M3 SETUP REQUEST, its name is not refused, and the request is read back as what the record says.
 -- Assumes nothing.
+use Rattle.std.specs.Prelude.{Some}
 use Prim.Native.Nat.{ℕ}
 use mathlib.Core.Path.{◌≡◌, refl, sym, ap, ◌∙◌}
 use mathlib.Core.Bool.{Bool, true, false}
@@ -14,7 +15,6 @@ use Rattle.editions.specs.declared.Edition.{Edition}
 use Rattle.editions.specs.declared.Edition.TheVariants.{Release18, Warnings, WarningsLab}
 use Rattle.editions.specs.declared.Message.{Message}
 use Rattle.editions.specs.declared.Message.TheVariants as message
-use Rattle.editions.specs.declared.Named.TheVariants as named
 use Rattle.editions.specs.Editions.{printed, number_of, first_of, numbered_by}
 use Rattle.meaning.specs.Value.{said_by}
 use Rattle.meaning.specs.Written.{Encoded, octets, none}
@@ -78,11 +78,11 @@ request_record_lem e c q h = by (is_request e c.said) refl h
     by true i h = (i, h)
     by false i h = absurd (let z : ◌≡◌ {A = ℕ} 0 1 = cc in omega arith)
 
-same_name : {m n : Message} → named.Is m ≡ named.Is n → m ≡ n
+same_name : {m n : Message} → Some m ≡ Some n → m ≡ n
 same_name q = cc
 
 -- what has its number is an M3 SETUP REQUEST; other editions have none
-numbered_nine : (e : Edition) {m : Message} → numbered_by e (number_of e message.SetupRequest) ≡ named.Is m → m ≡ message.SetupRequest
+numbered_nine : (e : Edition) {m : Message} → numbered_by e (number_of e message.SetupRequest) ≡ Some m → m ≡ message.SetupRequest
 unfolding numbered_by first_of printed
 numbered_nine Release18 q = same_name (sym q)
 numbered_nine Warnings q = absurd (let z : ◌≡◌ {A = ℕ} 0 1 = cc in omega arith)

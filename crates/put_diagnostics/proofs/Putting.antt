@@ -5,6 +5,7 @@
 --     listing_none, -more, -all        entries, one after another
 --     listed_yes, listed_no            and all, with entries that words say, and without
 -- Assumes nothing.
+use Rattle.std.specs.Prelude.{None, Some}
 use mathlib.Core.Path.{◌≡◌, ◌∙◌, refl, sym, ap, subst}
 use mathlib.Core.Bool.{Bool, true, false}
 use mathlib.Core.List.{List, [], ◌∷◌, ◌++◌, map, append_assoc, append-nil}
@@ -18,14 +19,14 @@ use lib.Dec.{ltb, eqb}
 use lib.ListN.{length, get_or, drop, drop_of_length-le}
 use lib.Seq.{drop-cons}
 use lib.Pow.{pow_pos}
+use mir.Val.{bool_byte}
 use Rattle.lists.specs.Lists.{pick}
 use Rattle.packed.specs.Packed.{Field, ◌bits◌, bit, widths, packed, packed_in, placed}
 use Rattle.octets.specs.Write.{Wrote}
 use Rattle.packed.proofs.Packed.{together}
 use Rattle.octets.proofs.Writing.{number_one, wrote_none, wrote_then}
 use Rattle.entries.specs.declared.Entry.{Entry}
-use Rattle.diagnostics.specs.Diagnostics.{Marks}
-use Rattle.diagnostics.specs.declared.Number.TheVariants.{Is, Absent}
+use Rattle.diagnostics.specs.declared.Marks.{Marks}
 use Rattle.diagnostics.specs.Written.{marks, octet_of, pairs, with_code, head_octets, crit_fields, error_fields, entries_octets, entry_list_octets, diagnostics_octets}
 use Rattle.diagnostics.proofs.Fields.{bits_width, widths_join}
 use Rattle.diagnostics.proofs.Pairs.{Begun, begun_none, begun_more, begun_marks, more, more_width, octet_some}
@@ -45,12 +46,12 @@ with_more fs x b w v e d l r =
     let m = mod-mod v (2 ^ w) in
     rw (e, ← d) (rw m at (together fs w (v % 2 ^ w) (rw d r) (rw d l) (mod-lt v (pow_pos w))))
 
-bit_value : (v : Bool) → 1 bits ((bit v).value % 2) ≡ bit v
+bit_value : (v : Bool) → 1 bits (bool_byte v % 2) ≡ bit v
 bit_value true = refl
 bit_value false = refl
 
-pub with_bit_lem : (fs : List Field) (x b : ℕ) (v : Bool) → x ≡ packed fs → widths fs ≡ b → b < 8 → bit_or x (placed b 1 (bit v).value) ≡ packed (fs ++ bit v ∷ [])
-with_bit_lem fs x b v e d l = with_more fs x b 1 (bit v).value e d l (omega arith) ∙ ap (λ (f : Field). packed (fs ++ f ∷ [])) (bit_value v)
+pub with_bit_lem : (fs : List Field) (x b : ℕ) (v : Bool) → x ≡ packed fs → widths fs ≡ b → b < 8 → bit_or x (placed b 1 (bool_byte v)) ≡ packed (fs ++ bit v ∷ [])
+with_bit_lem fs x b v e d l = with_more fs x b 1 (bool_byte v) e d l (omega arith) ∙ ap (λ (f : Field). packed (fs ++ f ∷ [])) (bit_value v)
 
 -- a bit that is not set changes nothing
 pub with_none : (fs : List Field) → widths fs < 8 → packed fs ≡ packed (fs ++ bit false ∷ [])
@@ -101,7 +102,7 @@ pairs_from_lem us (v ∷ vs) x b p e d k =
 -- ---- the fields before the list
 
 pub marks_put : (m : Marks)
-    → bit_or (bit_or (bit_or (bit_or 0 (placed 1 1 (bit m.code).value)) (placed 2 1 (bit m.trigger).value)) (placed 3 1 (bit m.crit).value)) (placed 4 1 (bit m.listed).value)
+    → bit_or (bit_or (bit_or (bit_or 0 (placed 1 1 (bool_byte m.code))) (placed 2 1 (bool_byte m.trigger))) (placed 3 1 (bool_byte m.crit))) (placed 4 1 (bool_byte m.listed))
     ≡ packed (map bit (marks m))
 unfolding packed_in
 marks_put m =
@@ -116,11 +117,11 @@ marks_put m =
     with_bit_lem (map bit k) _ 4 m.listed d (bits_width k) (omega arith) ∙ with_none (map bit all) (omega arith)
 
 module _ (m : Marks) (x : ℕ) (vs : List ℕ) (e : x ≡ packed (map bit (marks m))) where
-  pub with_code_lem : (v : ℕ) → v < 256 → x ∷ v ∷ pairs_from 0 0 vs ≡ with_code (Is v) (map bit (marks m)) vs
+  pub with_code_lem : (v : ℕ) → v < 256 → x ∷ v ∷ pairs_from 0 0 vs ≡ with_code (Some v) (map bit (marks m)) vs
   unfolding packed_in
   with_code_lem v h = rw (e, number_one v h, pairs_from_lem [] vs 0 0 0 refl refl (begun_none 0 refl))
 
-  pub without_code : pairs_from x 6 vs ≡ with_code Absent (map bit (marks m)) vs
+  pub without_code : pairs_from x 6 vs ≡ with_code None (map bit (marks m)) vs
   without_code = pairs_from_lem (map bit (marks m)) vs x 6 6 e (sym (bits_width (marks m))) (begun_marks m)
 
 -- ---- entries

@@ -1,9 +1,10 @@
 -- How many octets Criticality Diagnostics take.
 -- Assumes nothing.
+use Rattle.std.specs.Prelude.{None, Option, Some}
 use mathlib.Core.Path.{◌≡◌, refl, sym, ap}
 use mathlib.Core.Bool.{Bool, true, false}
 use mathlib.Core.List.{List, [], ◌++◌}
-use Prim.Native.Nat.{ℕ, min, ◌+◌, ◌*◌, ◌-◌, ◌/◌, ◌<◌, ◌≤◌}
+use Prim.Native.Nat.{ℕ, min, ◌+◌, ◌*◌, ◌-◌, ◌/◌, ◌≤◌}
 use native.Mathlib.Omega.{arith}
 use native.Mathlib.Nat.{add-zero}
 use lib.ListN.{length, length-append}
@@ -12,21 +13,19 @@ use Rattle.octets.specs.Write.{number_octets}
 use Rattle.octets.proofs.Back.{length_number}
 use Rattle.entries.specs.declared.Entry.{Entry}
 use Rattle.diagnostics.specs.declared.Head.{Head}
-use Rattle.diagnostics.specs.declared.Number.{Number}
-use Rattle.diagnostics.specs.declared.Number.TheVariants.{Is, Absent}
 use Rattle.diagnostics.specs.Diagnostics.{after}
 use Rattle.diagnostics.specs.Written.{has_number, head_octets, entries_octets, entry_list_octets, diagnostics_octets}
 use Rattle.diagnostics.proofs.HeadBack.{head_length}
 use Rattle.diagnostics.proofs.EntriesBack.{entries_length}
 use Rattle.put_diagnostics.specs.Put.{listed_size, bits_for}
 
-pub bits_le : (n : Number) (w : ℕ) → bits_for n w ≤ w
-bits_le (Is v) w = omega arith
-bits_le Absent w = omega arith
+pub bits_le : (n : Option ℕ) (w : ℕ) → bits_for n w ≤ w
+bits_le (Some v) w = omega arith
+bits_le None w = omega arith
 
-after_bits : (n : Number) (w p : ℕ) → after (has_number n) w p ≡ p + bits_for n w
-after_bits (Is v) w p = refl
-after_bits Absent w p = sym (add-zero p)
+after_bits : (n : Option ℕ) (w p : ℕ) → after (has_number n) w p ≡ p + bits_for n w
+after_bits (Some v) w p = refl
+after_bits None w p = sym (add-zero p)
 
 module _ (h : Head) where
   pub head_size : (6 + bits_for h.code 10 + bits_for h.trigger 2 + bits_for h.crit 2 + 7) / 8 ≡ length (head_octets h)
@@ -36,9 +35,6 @@ module _ (h : Head) where
 
   pub head_small : length (head_octets h) ≤ 3
   head_small = omega (arith, sym head_size, bits_le h.code 10, bits_le h.trigger 2, bits_le h.crit 2)
-
-  pub head_some : 1 ≤ length (head_octets h)
-  head_some = omega (arith, sym head_size)
 
 pub list_size : (es : List Entry) → length (entry_list_octets true es) ≡ 2 + 3 * length es
 list_size es =
@@ -64,15 +60,9 @@ module _ (h : Head) (n : ℕ) where
   pub size_no : h.listed ≡ false → length (head_octets h) ≡ min (listed_size h n) 18446744073709551615
   size_no e = omega (arith, said_as e, head_small h)
 
-  pub size_over : h.listed ≡ true → 6148914691236517203 < n → 18446744073709551615 ≡ min (listed_size h n) 18446744073709551615
-  size_over e b = omega (arith, said_as e, head_some h)
-
   pub size_fits : n ≤ 6148914691236517203 → min (listed_size h n) 18446744073709551615 ≡ listed_size h n
   size_fits b = by h.listed refl
     where
       by : (t : Bool) → h.listed ≡ t → min (listed_size h n) 18446744073709551615 ≡ listed_size h n
       by true e = omega (arith, said_as e, head_small h)
       by false e = omega (arith, said_as e, head_small h)
-
-  pub size_yes : h.listed ≡ true → n ≤ 6148914691236517203 → length (head_octets h) + 2 + 3 * n ≡ min (listed_size h n) 18446744073709551615
-  size_yes e b = omega (arith, said_as e, size_fits b)

@@ -1,11 +1,9 @@
 -- Scaffolding: no demand speaks of it. Criticality Diagnostics whose entries words say; and what the steps of the writer put, by the octet that has begun and how many of its bits are used.
-use Rattle.std.specs.Prelude.{ℕ, ◌+◌, ◌*◌, List, [], ◌∷◌, map, ltb, eqb, length}
+use Rattle.std.specs.Prelude.{ℕ, ◌+◌, ◌*◌, List, [], ◌∷◌, map, ltb, eqb, length, None, Option, Some}
 use Rattle.std.specs.Int.Bits.{bit_or}
 use Rattle.lists.specs.Lists.{pick}
 use Rattle.packed.specs.Packed.{placed}
 use Rattle.octets.specs.Write.{number_octets}
-use Rattle.diagnostics.specs.declared.Number.{Number}
-use Rattle.diagnostics.specs.declared.Number.TheVariants.{Is, Absent}
 use Rattle.diagnostics.specs.declared.Head.{Head}
 use Rattle.diagnostics.specs.Diagnostics.{Diagnostics}
 use Rattle.diagnostics.specs.Written.{head_octets}
@@ -31,6 +29,6 @@ abbrev pub entry_octets : ℕ → ℕ → ℕ → ℕ → List ℕ
 entry_octets x b crit id = bit_or x (placed (b + 2) 2 crit) ∷ number_octets 2 id
 
 -- the bits of a field, if it is there
-abbrev pub bits_for : Number → ℕ → ℕ
-bits_for (Is v) w = w
-bits_for Absent w = 0
+abbrev pub bits_for : Option ℕ → ℕ → ℕ
+bits_for (Some v) w = w
+bits_for None w = 0

@@ -4,130 +4,123 @@
 ghost use Rattle.std.specs.Prelude.{◌≡◌, true, [], ◌∷◌, ◌++◌, map, min, ◌-◌, ◌≤◌, length};
 ghost use Rattle.packed.specs.Packed.{bit, packed};
 ghost use Rattle.octets.specs.Write.{Wrote, number_octets};
-ghost use Rattle.diagnostics.specs.Written.{has_number, marks_of, marks, present_number, head_octets, entry_list_octets, diagnostics_octets};
+ghost use Rattle.diagnostics.specs.Written.{marks_of, marks, present_number, head_octets, entry_list_octets, diagnostics_octets};
 ghost use Rattle.entry_words.specs.EntryWords.{entry_by};
 ghost use Rattle.put_diagnostics.specs.Put.{listed_by, listed_size, pairs_from, entry_octets, bits_for};
 
-use diagnostics::{Head, Number};
+use diagnostics::Head;
+use entries::Entry;
 
-fn one(v: bool) -> u8
-    ensures { result ≡ (bit v).value }
-{
-    if v { 1 } else { 0 }
-}
-
-fn there(n: Number) -> bool
-    ensures { result ≡ has_number n }
-{
-    match n {
-        Number::Is(_) => true,
-        Number::Absent => false,
-    }
+// An octet that has begun, and how many of its bits are used.
+#[derive(Clone, Copy)]
+struct Begun {
+    octet: u8,
+    bits: u8,
 }
 
 // The six bits that say what is there.
 fn marks_octet(head: Head) -> u8
     ensures { result ≡ packed (map bit (marks (marks_of head))) }
 {
-    let code = head.code;
-    let trigger = head.trigger;
-    let crit = head.crit;
-    let x = packed::with_bits(0, 1, 1, one(there(code)));
-    let y = packed::with_bits(x, 2, 1, one(there(trigger)));
-    let z = packed::with_bits(y, 3, 1, one(there(crit)));
-    packed::with_bits(z, 4, 1, one(head.listed))
+    let x = packed::with_bits(0, 1, 1, u8::from(head.code.is_some()));
+    let y = packed::with_bits(x, 2, 1, u8::from(head.trigger.is_some()));
+    let z = packed::with_bits(y, 3, 1, u8::from(head.crit.is_some()));
+    packed::with_bits(z, 4, 1, u8::from(head.listed))
 }
 
-// An octet of which b bits are used, if any are.
-fn put_begun(room: &mut [u8], at: usize, x: u8, b: u8) -> usize
-    ensures { Wrote room.old at (pairs_from x b []) room.new result }
+// An octet of which some bits are used, if any are.
+#[tactic(auto, unfolding(crate::specs::Put::pairs_from))]
+fn put_begun(room: &mut [u8], at: usize, begun: Begun) -> usize
+    ensures { Wrote room.old at (pairs_from begun.octet begun.bits []) room.new result }
 {
-    if b == 0 {
-        return numbers::lesser(at, room.len());
+    if begun.bits == 0 {
+        return at.min(room.len());
     }
-    octets::put_octet(room, at, x)
+    octets::put_octet(room, at, begun.octet)
 }
 
-// A number of two bits, if it is there, behind the first b bits of an octet; and what is left of that octet.
-fn put_last(room: &mut [u8], at: usize, x: u8, b: u8, n: Number) -> usize
-    ensures { Wrote room.old at (pairs_from x b (present_number n)) room.new result }
+// A number of two bits, if it is there, in an octet that has begun; and what is left of that octet.
+#[tactic(auto, using(crate::proofs::Putting::pairs_one))]
+fn put_last(room: &mut [u8], at: usize, begun: Begun, n: Option<u8>) -> usize
+    ensures { Wrote room.old at (pairs_from begun.octet begun.bits (present_number n)) room.new result }
 {
     match n {
-        Number::Is(v) => octets::put_octet(room, at, packed::with_bits(x, b, 2, v)),
-        Number::Absent => put_begun(room, at, x, b),
+        Some(v) => octets::put_octet(room, at, packed::with_bits(begun.octet, begun.bits, 2, v)),
+        None => put_begun(room, at, begun),
     }
 }
 
 // Two of them.
-fn put_numbers(room: &mut [u8], at: usize, x: u8, b: u8, n: Number, m: Number) -> usize
-    ensures { Wrote room.old at (pairs_from x b (present_number n ++ present_number m)) room.new result }
+#[tactic(auto, unfolding(crate::specs::Put::pairs_from))]
+fn put_numbers(room: &mut [u8], at: usize, begun: Begun, n: Option<u8>, m: Option<u8>) -> usize
+    ensures { Wrote room.old at (pairs_from begun.octet begun.bits (present_number n ++ present_number m)) room.new result }
 {
-    match n {
-        Number::Is(v) => {
-            let y = packed::with_bits(x, b, 2, v);
-            if b < 6 {
-                return put_last(room, at, y, b + 2, m);
-            }
-            let next = octets::put_octet(room, at, y);
-            put_last(room, next, 0, 0, m)
-        }
-        Number::Absent => put_last(room, at, x, b, m),
+    let Some(v) = n else {
+        return put_last(room, at, begun, m);
+    };
+    let octet = packed::with_bits(begun.octet, begun.bits, 2, v);
+    if begun.bits < 6 {
+        return put_last(
+            room,
+            at,
+            Begun {
+                octet,
+                bits: begun.bits + 2,
+            },
+            m,
+        );
     }
+    let next = octets::put_octet(room, at, octet);
+    put_last(room, next, Begun { octet: 0, bits: 0 }, m)
 }
 
 // The fields before the list.
 fn put_head(room: &mut [u8], at: usize, head: Head) -> usize
     ensures { Wrote room.old at (head_octets head) room.new result }
 {
-    let x = marks_octet(head);
-    let code = head.code;
-    let trigger = head.trigger;
-    let crit = head.crit;
-    match code {
-        Number::Is(v) => {
-            let next = octets::put_octet(room, at, x);
-            let behind = octets::put_octet(room, next, v);
-            put_numbers(room, behind, 0, 0, trigger, crit)
-        }
-        Number::Absent => put_numbers(room, at, x, 6, trigger, crit),
-    }
+    let octet = marks_octet(head);
+    let Some(code) = head.code else {
+        return put_numbers(room, at, Begun { octet, bits: 6 }, head.trigger, head.crit);
+    };
+    let next = octets::put_octet(room, at, octet);
+    let behind = octets::put_octet(room, next, code);
+    put_numbers(
+        room,
+        behind,
+        Begun { octet: 0, bits: 0 },
+        head.trigger,
+        head.crit,
+    )
 }
 
-// An entry, behind the first b bits of an octet, up to its id.
-fn put_entry(room: &mut [u8], at: usize, x: u8, b: u8, crit: u8, id: u16) -> usize
-    requires { b ≤ 2 }
-    ensures { Wrote room.old at (entry_octets x b crit id) room.new result }
+// An entry up to its id, in an octet that has begun.
+fn put_entry(room: &mut [u8], at: usize, begun: Begun, entry: Entry) -> usize
+    requires { begun.bits ≤ 2 }
+    ensures { Wrote room.old at (entry_octets begun.octet begun.bits entry.crit entry.id) room.new result }
 {
-    let next = octets::put_octet(room, at, packed::with_bits(x, b + 2, 2, crit));
-    octets::put_two(room, next, id)
+    let next = octets::put_octet(
+        room,
+        at,
+        packed::with_bits(begun.octet, begun.bits + 2, 2, entry.crit),
+    );
+    octets::put_two(room, next, entry.id)
 }
 
-// The number of entries less 1, in an octet: 0 for none, and modulo 256.
-fn count_octet(n: usize) -> u8
-    ensures { result ∷ [] ≡ number_octets 1 (n - 1) }
-{
-    if n == 0 {
-        return 0;
-    }
-    ((n - 1) % 256) as u8
-}
-
-// The number of words less 1, and the entries that they say. x is the octet that the next one begins in, of which b bits are used.
+// The number of words less 1, and the entries that they say, each in the octet that the type of error before it has begun.
 fn put_words(room: &mut [u8], at: usize, words: &[u64]) -> usize
     ensures { Wrote room.old at (entry_list_octets true (map entry_by words.now)) room.new result }
 {
-    let mut next = octets::put_octet(room, at, count_octet(words.len()));
-    let mut x: u8 = 0;
-    let mut b: u8 = 0;
-    let mut i: usize = 0;
-    while i < words.len() {
-        let e = entry_words::entry_of(words[i]);
-        next = put_entry(room, next, x, b, e.crit, e.id);
-        x = packed::with_bits(0, 1, 1, e.error);
-        b = 2;
-        i += 1;
+    let mut next = octets::put_octet(room, at, numbers::count_octet(words.len()));
+    let mut begun = Begun { octet: 0, bits: 0 };
+    for w in words {
+        let entry = entry_words::entry_of(*w);
+        next = put_entry(room, next, begun, entry);
+        begun = Begun {
+            octet: packed::with_bits(0, 1, 1, entry.error),
+            bits: 2,
+        };
     }
-    octets::put_octet(room, next, x)
+    octets::put_octet(room, next, begun.octet)
 }
 
 // The fields before the list, and if the list is there the entries that words say. A number is written modulo what its field holds.
@@ -142,25 +135,21 @@ pub fn put_listed(room: &mut [u8], at: usize, head: Head, words: &[u64]) -> usiz
 }
 
 // How many bits a field takes, if it is there.
-fn bits_for(n: Number, w: usize) -> usize
+fn bits_for(n: Option<u8>, w: usize) -> usize
     ensures { result ≡ bits_for n w }
 {
-    match n {
-        Number::Is(_) => w,
-        Number::Absent => 0,
-    }
+    n.map_or(0, |_v| w)
 }
 
+#[tactic(auto, using(crate::proofs::Sizes::bits_le, crate::proofs::Sizes::head_size))]
 fn head_size(head: Head) -> usize
     ensures { result ≡ length (head_octets head) }
 {
-    let code = head.code;
-    let trigger = head.trigger;
-    let crit = head.crit;
-    (6 + bits_for(code, 10) + bits_for(trigger, 2) + bits_for(crit, 2) + 7) / 8
+    (6 + bits_for(head.code, 10) + bits_for(head.trigger, 2) + bits_for(head.crit, 2) + 7) / 8
 }
 
 // How many octets they take with n entries; more than a number can say are the largest.
+#[tactic(auto, using(crate::proofs::Sizes::head_small))]
 pub fn listed_size(head: Head, n: usize) -> usize
     ensures { result ≡ min (listed_size head n) 18446744073709551615 }
 {
@@ -168,8 +157,5 @@ pub fn listed_size(head: Head, n: usize) -> usize
     if !head.listed {
         return size;
     }
-    if 6148914691236517203 < n {
-        return 18446744073709551615;
-    }
-    size + 2 + 3 * n
+    n.saturating_mul(3).saturating_add(size + 2)
 }

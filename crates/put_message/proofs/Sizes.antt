@@ -3,21 +3,17 @@
 use mathlib.Core.Path.{◌≡◌, ◌∙◌, refl, sym, ap}
 use mathlib.Core.Bool.{Bool, true, false}
 use mathlib.Core.List.{List, [], ◌∷◌}
-use Prim.Native.Nat.{ℕ, min, ◌+◌, ◌-◌, ◌<◌, ◌≤◌}
+use Prim.Native.Nat.{ℕ, min, ◌+◌, ◌-◌, ◌≤◌}
 use native.Mathlib.Omega.{arith}
-use borrow.Author.Tests.{lt-ltb, le-ltb, le-leb, lt-leb}
+use borrow.Author.Tests.{lt-ltb, le-leb}
 use lib.ListN.{length}
 use lib.Seq.{length-slice}
 use Rattle.lists.specs.Lists.{pick}
 use Rattle.octets.specs.declared.Span.{Span}
 use Rattle.octets.proofs.Back.{length_number}
-use Rattle.identity.specs.declared.MmeId.{MmeId}
-use Rattle.identity.specs.declared.MceId.{MceId}
 use Rattle.identity.specs.declared.Tmgi.{Tmgi}
 use Rattle.identity.specs.declared.Item.{Item}
-use Rattle.values.specs.declared.Cause.{Cause}
-use Rattle.values.specs.Values.{root_of}
-use Rattle.values.specs.Written.{tmgi_octets, cause_octets, wait_octets}
+use Rattle.values.specs.Written.{tmgi_octets}
 use Rattle.names.specs.Names.{name_allowed}
 use Rattle.names.specs.Written.{name_octets}
 use Rattle.items.specs.Items.{whole, part}
@@ -27,29 +23,12 @@ use Rattle.put_diagnostics.specs.Put.{listed_size}
 use Rattle.put_diagnostics.proofs.Sizes.{listed_length, size_fits}
 use Rattle.rows.specs.declared.Triggers.{Triggers}
 use Rattle.rows.specs.Table.{meanings}
-use Rattle.meaning.specs.Value.{Value, carried, mme, mce, tmgi, one, two, cause, wait, name, reset, list, diagnostics, octets_in}
+use Rattle.meaning.specs.Value.{carried, tmgi, one, two, name, reset, list, diagnostics, octets_in}
 use Rattle.meaning.specs.Written.{octets_of, has_octets, is_list_length, under, entries_good}
 use Rattle.layout.specs.Record.{lists_in}
 use Rattle.plan.specs.Plan.{size_of}
+use Rattle.plan.proofs.Sizes.{size_has, size_none}
 use Rattle.put_message.specs.Said.{diagnostics_by}
-
-size_has : (v : Value (List ℕ)) {n : ℕ} → has_octets v ≡ true → n ≡ length (octets_of v) → n ≡ size_of v
-unfolding size_of
-size_has v e h = rw e h
-
-size_none : (v : Value (List ℕ)) → has_octets v ≡ false → 0 ≡ size_of v
-unfolding size_of
-size_none v e = rw e
-
--- ---- values without a list
-
-pub mme_size : (v : MmeId) → 2 ≡ size_of (mme v)
-unfolding size_of has_octets octets_of
-mme_size v = sym (length_number 2 v.0)
-
-pub mce_size : (v : MceId) → 2 ≡ size_of (mce v)
-unfolding size_of has_octets octets_of
-mce_size v = sym (length_number 2 v.0)
 
 pub tmgi_size : (v : Tmgi) → 7 ≡ size_of (tmgi v)
 unfolding size_of has_octets octets_of tmgi_octets
@@ -62,22 +41,6 @@ one_size v = sym (length_number 1 v)
 pub two_size : (v : ℕ) → 2 ≡ size_of (two v)
 unfolding size_of has_octets octets_of
 two_size v = sym (length_number 2 v)
-
-pub cause_size : (c : Cause) → c.value < root_of c.group → 1 ≡ size_of (cause c)
-unfolding size_of has_octets octets_of cause_octets
-cause_size c h = rw (lt-ltb _ _ h)
-
-pub cause_none : (c : Cause) → root_of c.group ≤ c.value → 0 ≡ size_of (cause c)
-unfolding size_of has_octets
-cause_none c h = rw (le-ltb _ _ h)
-
-pub wait_size : (v : ℕ) → v < 6 → 1 ≡ size_of (wait v)
-unfolding size_of has_octets octets_of wait_octets
-wait_size v h = rw (lt-ltb _ _ h)
-
-pub wait_none : (v : ℕ) → 6 ≤ v → 0 ≡ size_of (wait v)
-unfolding size_of has_octets
-wait_none v h = rw (le-ltb _ _ h)
 
 pub name_size : (os : List ℕ) {n : ℕ} → name_allowed os ≡ true → n ≡ length os → 2 + n ≡ size_of (name os)
 unfolding size_of has_octets octets_of name_octets
@@ -99,9 +62,6 @@ carried_size (o ∷ os) = rw (lt-ltb 0 (length (o ∷ os)) (omega arith))
 module _ (s : List ℕ) (v : Span) where
   pub carried_in_lem : v.to ≤ length s → v.to - v.from ≡ length (octets_in s v)
   carried_in_lem h = rw (le-leb _ _ h) (sym (length-slice v.from v.to s h))
-
-  pub is_carried_out : length s < v.to → [] ≡ octets_in s v
-  is_carried_out h = rw (lt-leb _ _ h)
 
 -- ---- items
 

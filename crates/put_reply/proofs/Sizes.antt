@@ -3,23 +3,17 @@
 use mathlib.Core.Path.{◌≡◌, ◌∙◌, refl, sym, ap}
 use mathlib.Core.Bool.{Bool, true, false, not}
 use mathlib.Core.List.{List, [], map}
-use Prim.Native.Nat.{ℕ, min, ◌+◌, ◌*◌, ◌<◌, ◌≤◌}
+use Prim.Native.Nat.{ℕ, min, ◌+◌, ◌*◌, ◌≤◌}
 use native.Mathlib.Omega.{arith}
 use native.Mathlib.Nat.{add-zero}
-use borrow.Author.Tests.{lt-ltb, le-ltb, leb-true}
+use borrow.Author.Tests.{leb-true}
 use lib.Dec.{ltb, leb}
 use lib.ListN.{length, length-map}
 use lib.Seq.{slice, take_all}
 use Rattle.lists.specs.Lists.{pick, some}
 use Rattle.lists.proofs.Some.{some_map}
 use Rattle.lists.proofs.Tests.{and_left, and_right}
-use Rattle.octets.proofs.Back.{length_number}
-use Rattle.identity.specs.declared.MmeId.{MmeId}
-use Rattle.identity.specs.declared.MceId.{MceId}
 use Rattle.identity.specs.declared.Item.{Item}
-use Rattle.values.specs.declared.Cause.{Cause}
-use Rattle.values.specs.Values.{root_of}
-use Rattle.values.specs.Written.{cause_octets}
 use Rattle.items.specs.Written.{acknowledgement_crit, items_octets}
 use Rattle.entries.specs.declared.Entry.{Entry}
 use Rattle.entry_words.specs.EntryWords.{entry_by}
@@ -29,33 +23,10 @@ use Rattle.diagnostics.specs.Written.{head_octets}
 use Rattle.put_diagnostics.specs.Put.{listed_by, listed_size}
 use Rattle.put_diagnostics.proofs.Sizes.{listed_length, size_fits, size_no}
 use Rattle.rows.specs.declared.Triggers.TheVariants.{Three}
-use Rattle.meaning.specs.Value.{Value, mme, mce, cause, list, diagnostics}
+use Rattle.meaning.specs.Value.{list, diagnostics}
 use Rattle.meaning.specs.Written.{octets_of, has_octets, is_list_length, under, entry_good, entries_good}
-use Rattle.plan.specs.Plan.{size_of, fitted}
-
-size_has : (v : Value (List ℕ)) {n : ℕ} → has_octets v ≡ true → n ≡ length (octets_of v) → n ≡ size_of v
-unfolding size_of
-size_has v e h = rw e h
-
-size_none : (v : Value (List ℕ)) → has_octets v ≡ false → 0 ≡ size_of v
-unfolding size_of
-size_none v e = rw e
-
-pub mme_size : (v : MmeId) → 2 ≡ fitted (size_of (mme v))
-unfolding size_of has_octets octets_of fitted
-mme_size v = rw (length_number 2 v.0)
-
-pub mce_size : (v : MceId) → 2 ≡ fitted (size_of (mce v))
-unfolding size_of has_octets octets_of fitted
-mce_size v = rw (length_number 2 v.0)
-
-pub cause_size : (c : Cause) → c.value < root_of c.group → 1 ≡ size_of (cause c)
-unfolding size_of has_octets octets_of cause_octets
-cause_size c h = rw (lt-ltb _ _ h)
-
-pub cause_none : (c : Cause) → root_of c.group ≤ c.value → 0 ≡ size_of (cause c)
-unfolding size_of has_octets
-cause_none c h = rw (le-ltb _ _ h)
+use Rattle.plan.specs.Plan.{size_of}
+use Rattle.plan.proofs.Sizes.{size_has, size_none}
 
 -- ---- items
 
@@ -75,13 +46,6 @@ module _ (ws : List ℕ) where
 
 abbrev pub is_bad : ℕ → Bool
 is_bad w = not (entry_good (entry_by w))
-
-module _ (y x : Entry) (e : x ≡ y) where
-  pub entry_test : x.crit < 3 → ltb x.error 2 ≡ entry_good y
-  entry_test h = rw (← e, lt-ltb x.crit 3 h)
-
-  pub entry_bad : 3 ≤ x.crit → false ≡ entry_good y
-  entry_bad h = rw (← e, le-ltb x.crit 3 h)
 
 -- without a list they are few octets, however many words there are
 unlisted : (h : Head) (n : ℕ) → h.listed ≡ false → min (listed_size h n) 18446744073709551615 ≡ listed_size h n

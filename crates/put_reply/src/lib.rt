@@ -11,33 +11,25 @@ ghost use Rattle.entry_words.specs.EntryWords.{entry_by};
 ghost use Rattle.put_diagnostics.specs.Put.{listed_by};
 ghost use Rattle.plan.specs.Plan.{size_of, size_given, sizes_of, elements_to};
 ghost use Rattle.meaning.specs.Value as value;
-ghost use Rattle.meaning.specs.Written.{is_list_length, under, entry_good, entries_good, element_octets, encoded};
+ghost use Rattle.meaning.specs.Written.{is_list_length, under, entry_good, entries_good, octets_of, element_octets, encoded};
 ghost use Rattle.plan.specs.Written.{written_in, Writes};
 ghost use Rattle.editions.specs.Editions.{table_of};
 ghost use Rattle.replies.specs.Replies.{replied, reply_octets};
-ghost use Rattle.put_reply.specs.Parts.{part_of, mme_part, mce_part, list_part, only_list, frame_part, frame_if_noted, parts_of, replied_by, given_by, given_octets, given_rows, Ready, sent_as, sent_in, Sends};
+ghost use Rattle.put_reply.specs.Parts.{part_of, only_list, frame_part, frame_if_noted, parts_of, replied_by, value_by, given_by, given_rows, Ready, sent_as, sent_in, Sends};
 
-use diagnostics::{Head, Number};
-use editions::{Edition, Message, Named};
+use diagnostics::Head;
+use editions::{Edition, Message};
 use frames::Frame;
-use identity::{Mce, MceId, Mme, MmeId};
-use plan::Written;
+use identity::{MceId, MmeId};
+use plan::{Unwritten, Written};
 use put_values::Criticality;
 use replies::Reply;
 use rows::{Kind, Row, Rows};
 use values::Cause;
 
-// The reply stands in front of the room, with so many octets (0 where there is none); or the room is too small for it.
-#[derive(Clone, Copy)]
-pub enum Sent {
-    Done(usize),
-    NoRoom,
-}
-
 // What a reply gives for a row. The items of a list and the entries of diagnostics stand beside it.
 #[derive(Clone, Copy)]
 pub enum Part {
-    Absent,
     Mme(MmeId),
     Mce(MceId),
     Cause(Cause),
@@ -45,222 +37,136 @@ pub enum Part {
     Diagnostics(Head),
 }
 
-// One for each kind that a reply can have.
+// What a reply gives, and whether it has a list.
 #[derive(Clone, Copy)]
 pub struct Parts {
-    pub mme: Part,
-    pub mce: Part,
-    pub cause: Part,
-    pub list: Part,
-    pub diagnostics: Part,
+    pub mme: Option<MmeId>,
+    pub mce: Option<MceId>,
+    pub cause: Option<Cause>,
+    pub list: bool,
+    pub diagnostics: Option<Head>,
 }
+
+const NOTHING: Parts = Parts {
+    mme: None,
+    mce: None,
+    cause: None,
+    list: false,
+    diagnostics: None,
+};
 
 // Unknown or inconsistent pair of MBMS M3AP IDs.
 const UNKNOWN_PAIR: Cause = Cause { group: 0, value: 2 };
 
-fn part_of(p: Parts, kind: Kind) -> Part
+fn part_of(p: Parts, kind: Kind) -> Option<Part>
     ensures { result ≡ part_of p kind }
 {
-    let mme = p.mme;
-    let mce = p.mce;
-    let cause = p.cause;
-    let list = p.list;
-    let diagnostics = p.diagnostics;
     match kind {
-        Kind::Mme => mme,
-        Kind::Mce => mce,
-        Kind::Cause => cause,
-        Kind::Acknowledged => list,
-        Kind::Diagnostics(_) => diagnostics,
-        Kind::Carried => Part::Absent,
-        Kind::Tmgi => Part::Absent,
-        Kind::OneOctet => Part::Absent,
-        Kind::TwoOctets => Part::Absent,
-        Kind::Wait => Part::Absent,
-        Kind::Name => Part::Absent,
-        Kind::ResetType => Part::Absent,
+        Kind::Mme => p.mme.map(Part::Mme),
+        Kind::Mce => p.mce.map(Part::Mce),
+        Kind::Cause => p.cause.map(Part::Cause),
+        Kind::Acknowledged => p.list.then_some(Part::List),
+        Kind::Diagnostics(_) => p.diagnostics.map(Part::Diagnostics),
+        _ => None,
     }
-}
-
-fn mme_part(x: Mme) -> Part
-    ensures { result ≡ mme_part x }
-{
-    match x {
-        Mme::Is(m) => Part::Mme(m),
-        Mme::Absent => Part::Absent,
-    }
-}
-
-fn mce_part(x: Mce) -> Part
-    ensures { result ≡ mce_part x }
-{
-    match x {
-        Mce::Is(c) => Part::Mce(c),
-        Mce::Absent => Part::Absent,
-    }
-}
-
-// Of no item there is no list.
-fn list_part(kept: usize) -> Part
-    ensures { result ≡ list_part kept }
-{
-    if 0 < kept { Part::List } else { Part::Absent }
 }
 
 // The list of diagnostics alone, if it is not empty.
-fn only_list(noted: usize) -> Part
+fn only_list(noted: usize) -> Option<Head>
     ensures { result ≡ only_list noted }
 {
-    if 0 < noted {
-        return Part::Diagnostics(Head {
-            code: Number::Absent,
-            trigger: Number::Absent,
-            crit: Number::Absent,
-            listed: true,
-        });
-    }
-    Part::Absent
-}
-
-// What the frame said, and the list if it is not empty: of an ERROR INDICATION.
-fn frame_part(f: Frame, noted: usize) -> Part
-    ensures { result ≡ frame_part f noted }
-{
-    Part::Diagnostics(Head {
-        code: Number::Is(f.code),
-        trigger: Number::Is(f.kind),
-        crit: Number::Is(f.crit),
-        listed: 0 < noted,
+    (0 < noted).then_some(Head {
+        code: None,
+        trigger: None,
+        crit: None,
+        listed: true,
     })
 }
 
+// What the frame said, and the list if it is not empty: of an ERROR INDICATION.
+fn frame_part(f: Frame, noted: usize) -> Head
+    ensures { result ≡ frame_part f noted }
+{
+    Head {
+        code: Some(f.code),
+        trigger: Some(f.kind),
+        crit: Some(f.crit),
+        listed: 0 < noted,
+    }
+}
+
 // The same, only with a list.
-fn frame_if_noted(f: Frame, noted: usize) -> Part
+fn frame_if_noted(f: Frame, noted: usize) -> Option<Head>
     ensures { result ≡ frame_if_noted f noted }
 {
-    if noted == 0 {
-        return Part::Absent;
-    }
-    frame_part(f, noted)
+    (0 < noted).then_some(frame_part(f, noted))
 }
 
 // What a reply gives. kept is how many items have an identity, noted how many diagnostics there are.
+#[tactic(auto, unfolding(crate::specs::Parts::parts_of))]
 fn parts_of(f: Frame, kept: usize, noted: usize, r: Reply) -> Parts
     ensures { result ≡ parts_of f kept noted r }
 {
-    let none = Part::Absent;
+    let only_noted = Parts {
+        diagnostics: only_list(noted),
+        ..NOTHING
+    };
     match r {
-        Reply::None => Parts {
-            mme: none,
-            mce: none,
-            cause: none,
-            list: none,
-            diagnostics: none,
-        },
-        Reply::StartResponse(m, c) => Parts {
-            mme: Part::Mme(m),
-            mce: Part::Mce(c),
-            cause: none,
-            list: none,
-            diagnostics: only_list(noted),
+        Reply::None => NOTHING,
+        Reply::StartResponse(m, c) | Reply::StopResponse(m, c) => Parts {
+            mme: Some(m),
+            mce: Some(c),
+            ..only_noted
         },
         Reply::StartFailure(m, why) => Parts {
-            mme: Part::Mme(m),
-            mce: none,
-            cause: Part::Cause(why),
-            list: none,
-            diagnostics: only_list(noted),
+            mme: Some(m),
+            cause: Some(why),
+            ..only_noted
         },
-        Reply::StopResponse(m, c) => Parts {
-            mme: Part::Mme(m),
-            mce: Part::Mce(c),
-            cause: none,
-            list: none,
-            diagnostics: only_list(noted),
-        },
-        Reply::Acknowledge => Parts {
-            mme: none,
-            mce: none,
-            cause: none,
-            list: none,
-            diagnostics: only_list(noted),
-        },
+        Reply::Acknowledge => only_noted,
+        // of no item there is no list
         Reply::AcknowledgeItems => Parts {
-            mme: none,
-            mce: none,
-            cause: none,
-            list: list_part(kept),
-            diagnostics: only_list(noted),
+            list: 0 < kept,
+            ..only_noted
         },
         Reply::Rejection(x, y, why) => Parts {
-            mme: mme_part(x),
-            mce: mce_part(y),
-            cause: Part::Cause(why),
-            list: none,
-            diagnostics: frame_part(f, noted),
+            mme: x,
+            mce: y,
+            cause: Some(why),
+            list: false,
+            diagnostics: Some(frame_part(f, noted)),
         },
         Reply::PairNotHeld(m, c) => Parts {
-            mme: Part::Mme(m),
-            mce: Part::Mce(c),
-            cause: Part::Cause(UNKNOWN_PAIR),
-            list: none,
+            mme: Some(m),
+            mce: Some(c),
+            cause: Some(UNKNOWN_PAIR),
+            list: false,
             diagnostics: frame_if_noted(f, noted),
         },
     }
 }
 
 // Which message a reply is.
-fn message_of(r: Reply) -> Named
+fn message_of(r: Reply) -> Option<Message>
     ensures { result ≡ replied_by r }
 {
     match r {
-        Reply::None => Named::Other,
-        Reply::StartResponse(_, _) => Named::Is(Message::StartResponse),
-        Reply::StartFailure(_, _) => Named::Is(Message::StartFailure),
-        Reply::StopResponse(_, _) => Named::Is(Message::StopResponse),
-        Reply::Acknowledge => Named::Is(Message::ResetAcknowledge),
-        Reply::AcknowledgeItems => Named::Is(Message::ResetAcknowledge),
-        Reply::Rejection(_, _, _) => Named::Is(Message::ErrorIndication),
-        Reply::PairNotHeld(_, _) => Named::Is(Message::ErrorIndication),
+        Reply::None => None,
+        Reply::StartResponse(_, _) => Some(Message::StartResponse),
+        Reply::StartFailure(_, _) => Some(Message::StartFailure),
+        Reply::StopResponse(_, _) => Some(Message::StopResponse),
+        Reply::Acknowledge | Reply::AcknowledgeItems => Some(Message::ResetAcknowledge),
+        Reply::Rejection(..) | Reply::PairNotHeld(..) => Some(Message::ErrorIndication),
     }
-}
-
-// A cause outside its root has no octets.
-fn cause_size(c: Cause) -> usize
-    ensures { result ≡ size_of (value.cause c) }
-{
-    if c.value < values::root_of(c.group) {
-        return 1;
-    }
-    0
-}
-
-// A list has 1 to 256.
-fn fits_a_list(n: usize) -> bool
-    ensures { result ≡ is_list_length n }
-{
-    if n == 0 {
-        return false;
-    }
-    n <= 256
 }
 
 fn list_size(kept: &[u64]) -> usize
     ensures { result ≡ size_of (value.list (map item_of kept.now)) }
 {
-    if !fits_a_list(kept.len()) {
-        return 0;
-    }
-    item_words::words_size(kept)
-}
-
-// A triggering message or a criticality, if it is there, is one of three.
-fn is_under_3(n: Number) -> bool
-    ensures { result ≡ under 3 n }
-{
-    match n {
-        Number::Is(v) => v < 3,
-        Number::Absent => true,
+    if plan::fits_a_list(kept.len()) {
+        item_words::words_size(kept)
+    } else {
+        0
     }
 }
 
@@ -269,24 +175,19 @@ fn is_entry_good(w: u64) -> bool
     ensures { result ≡ entry_good (entry_by w) }
 {
     let e = entry_words::entry_of(w);
-    if e.crit < 3 {
-        return e.error < 2;
-    }
-    false
+    e.crit < 3 && e.error < 2
 }
 
 fn are_good(noted: &[u64]) -> bool
     ensures { result ≡ entries_good (map entry_by noted.now) }
 {
-    if !fits_a_list(noted.len()) {
+    if !plan::fits_a_list(noted.len()) {
         return false;
     }
-    let mut i: usize = 0;
-    while i < noted.len() {
-        if !is_entry_good(noted[i]) {
+    for w in noted {
+        if !is_entry_good(*w) {
             return false;
         }
-        i += 1;
     }
     true
 }
@@ -295,22 +196,17 @@ fn are_good(noted: &[u64]) -> bool
 fn is_list_good(listed: bool, noted: &[u64]) -> bool
     ensures { result ≡ pick listed (entries_good (map entry_by noted.now)) true }
 {
-    if listed {
-        return are_good(noted);
-    }
-    true
+    !listed || are_good(noted)
 }
 
 // Where no list is there, the entries are not counted.
 fn diagnostics_size(h: Head, noted: &[u64]) -> usize
     ensures { result ≡ size_of (value.diagnostics Three (listed_by h noted.now)) }
 {
-    let trigger = h.trigger;
-    let crit = h.crit;
-    if !is_under_3(trigger) {
+    if !plan::is_under(3, h.trigger) {
         return 0;
     }
-    if !is_under_3(crit) {
+    if !plan::is_under(3, h.crit) {
         return 0;
     }
     if !is_list_good(h.listed, noted) {
@@ -319,56 +215,58 @@ fn diagnostics_size(h: Head, noted: &[u64]) -> usize
     put_diagnostics::listed_size(h, noted.len())
 }
 
+#[tactic(auto, using(plan::proofs::Sizes::mme_size, plan::proofs::Sizes::mce_size), unfolding(crate::specs::Parts::value_by))]
+fn part_size(p: Part, kept: &[u64], noted: &[u64]) -> usize
+    ensures { result ≡ size_of (value_by (map item_of kept.now) (map entry_by noted.now) p) }
+{
+    match p {
+        Part::Mme(_) | Part::Mce(_) => 2,
+        Part::Cause(c) => plan::cause_size(c),
+        Part::List => list_size(kept),
+        Part::Diagnostics(h) => diagnostics_size(h, noted),
+    }
+}
+
 // 0 for a part that is absent, 8,193 for one that is not written.
-fn size_of(p: Part, kept: &[u64], noted: &[u64]) -> usize
+#[tactic(auto, unfolding(plan::specs::Plan::size_given))]
+fn size_of(p: Option<Part>, kept: &[u64], noted: &[u64]) -> usize
     ensures { result ≡ size_given (given_by (map item_of kept.now) (map entry_by noted.now) p) }
 {
     match p {
-        Part::Absent => 0,
-        Part::Mme(_) => 2,
-        Part::Mce(_) => 2,
-        Part::Cause(c) => plan::fit(cause_size(c)),
-        Part::List => plan::fit(list_size(kept)),
-        Part::Diagnostics(h) => plan::fit(diagnostics_size(h, noted)),
+        Some(part) => plan::fit(part_size(part, kept, noted)),
+        None => 0,
     }
 }
 
 fn sizes_of(t: Rows, p: Parts, kept: &[u64], noted: &[u64]) -> [usize; 12]
-    ensures { result ≡ sizes_of (given_rows (map item_of kept.now) (map entry_by noted.now) p (rows_in t)) }
+    ensures { result ≡ sizes_of (given_rows (map item_of kept.now) (map entry_by noted.now) p (rows_in t.entry)) }
 {
-    let n = rows::row_count(t);
-    let mut sizes: [usize; 12] = [0; 12];
-    let mut i: usize = 0;
-    while i < n {
-        let row = t.rows[i];
-        let kind = row.kind;
-        let size = size_of(part_of(p, kind), kept, noted);
-        sizes[i] = size;
-        i += 1;
+    let mut sizes = [0; 12];
+    for (i, row) in t.rows.iter().enumerate() {
+        sizes[i] = size_of(part_of(p, row.kind), kept, noted);
     }
     sizes
 }
 
+#[tactic(auto, unfolding(meaning::specs::Written::octets_of, crate::specs::Parts::value_by))]
 fn put_part(room: &mut [u8], at: usize, p: Part, kept: &[u64], noted: &[u64]) -> usize
-    requires { at ≤ length room.old }
-    ensures { Wrote room.old at (given_octets (given_by (map item_of kept.now) (map entry_by noted.now) p)) room.new result }
+    ensures { Wrote room.old at (octets_of (value_by (map item_of kept.now) (map entry_by noted.now) p)) room.new result }
 {
     match p {
-        Part::Absent => at,
-        Part::Mme(m) => put_values::put_mme(room, at, m),
-        Part::Mce(c) => put_values::put_mce(room, at, c),
+        Part::Mme(m) => put_values::put_identity(room, at, m),
+        Part::Mce(c) => put_values::put_identity(room, at, c),
         Part::Cause(c) => put_values::put_cause(room, at, c),
         Part::List => item_words::put_words(room, at, Criticality::Ignore, kept),
         Part::Diagnostics(h) => put_diagnostics::put_listed(room, at, h, noted),
     }
 }
 
-// An element; nothing where the size says that there is no value.
+// An element; nothing where there is no part.
 fn put_row(
     room: &mut [u8],
     at: usize,
     row: Row,
-    p: Part,
+    p: Option<Part>,
     size: usize,
     kept: &[u64],
     noted: &[u64],
@@ -376,11 +274,11 @@ fn put_row(
     requires { (at ≤ length room.old) × (row.crit < 4) × (size ≡ size_given (given_by (map item_of kept.now) (map entry_by noted.now) p)) × (size ≤ 8192) }
     ensures { Wrote room.old at (element_octets row (given_by (map item_of kept.now) (map entry_by noted.now) p)) room.new result }
 {
-    if size == 0 {
+    let Some(part) = p else {
         return at;
-    }
+    };
     let value = plan::put_front(room, at, row.id, row.crit, size);
-    put_part(room, value, p, kept, noted)
+    put_part(room, value, part, kept, noted)
 }
 
 // The elements, row by row.
@@ -389,22 +287,24 @@ fn put_rows(
     at: usize,
     t: Rows,
     p: Parts,
-    sizes: [usize; 12],
+    sizes: &[usize; 12],
     kept: &[u64],
     noted: &[u64],
 ) -> usize
-    requires { (at ≤ length room.old) × ((i : ℕ) → i < length (rows_in t) → Ready (map item_of kept.now) (map entry_by noted.now) p t sizes i) }
-    ensures { Wrote room.old at (elements_to t.rows (given_rows (map item_of kept.now) (map entry_by noted.now) p t.rows) (length (rows_in t))) room.new result }
+    requires { (at ≤ length room.old) × ((i : ℕ) → i < length (rows_in t) → Ready (map item_of kept.now) (map entry_by noted.now) p (rows_in t) sizes.now i) }
+    ensures { Wrote room.old at (elements_to (rows_in t.entry) (given_rows (map item_of kept.now) (map entry_by noted.now) p (rows_in t.entry)) (length (rows_in t.entry))) room.new result }
 {
-    let n = rows::row_count(t);
     let mut next = at;
-    let mut i: usize = 0;
-    while i < n {
-        let row = t.rows[i];
-        let kind = row.kind;
-        let size = sizes[i];
-        next = put_row(room, next, row, part_of(p, kind), size, kept, noted);
-        i += 1;
+    for (i, row) in t.rows.iter().enumerate() {
+        next = put_row(
+            room,
+            next,
+            *row,
+            part_of(p, row.kind),
+            sizes[i],
+            kept,
+            noted,
+        );
     }
     next
 }
@@ -421,28 +321,23 @@ fn put_parts(
     ensures { Writes (written_in room.old (encoded e (record { message = m; values = given_rows (map item_of kept.now) (map entry_by noted.now) p (table_of e m) }))) result room.new }
 {
     let t = editions::rows_of(e, m);
-    let code = editions::code_of(e, m);
     let sizes = sizes_of(t, p, kept, noted);
-    let plan = plan::plan_of(t, sizes);
-    match plan::begin(room, code, plan) {
-        Written::NotWritten => Written::NotWritten,
-        Written::NoRoom => Written::NoRoom,
-        Written::Done(first) => Written::Done(put_rows(room, first, t, p, sizes, kept, noted)),
-    }
+    let first = plan::begin(room, editions::code_of(e, m), plan::plan_of(t, &sizes))?;
+    Ok(put_rows(room, first, t, p, &sizes, kept, noted))
 }
 
 // A message that is not written has no octets.
-fn sent_as(w: Written) -> Sent
+fn sent_as(w: Written) -> Option<usize>
     ensures { result ≡ sent_as w }
 {
     match w {
-        Written::Done(n) => Sent::Done(n),
-        Written::NoRoom => Sent::NoRoom,
-        Written::NotWritten => Sent::Done(0),
+        Ok(n) => Some(n),
+        Err(Unwritten::NotWritten) => Some(0),
+        Err(Unwritten::NoRoom) => None,
     }
 }
 
-// A reply that has no octets leaves the room as it was, as none does.
+// How many octets the reply has that stands in front of the room; or the room is too small for it. A reply that has no octets leaves the room as it was, as none does.
 pub fn put_reply(
     e: Edition,
     f: Frame,
@@ -450,14 +345,11 @@ pub fn put_reply(
     kept: &[u64],
     noted: &[u64],
     room: &mut [u8],
-) -> Sent
+) -> Option<usize>
     ensures { Sends (sent_in room.old (reply_octets e (replied e f (map item_of kept.now) (map entry_by noted.now) r))) result room.new }
 {
-    let m = match message_of(r) {
-        Named::Is(m) => m,
-        Named::Other => {
-            return Sent::Done(0);
-        }
+    let Some(m) = message_of(r) else {
+        return Some(0);
     };
     let p = parts_of(f, kept.len(), noted.len(), r);
     sent_as(put_parts(e, m, p, kept, noted, room))

@@ -1,30 +1,42 @@
 -- Rows written one by one from a row on, and zeros behind them.
+use Rattle.std.specs.Option.{is_some, unwrap_or}
+use Rattle.std.specs.Prelude.{None, Option, Some}
+use mir.Val.{bool_byte}
 use mathlib.Core.Path.{◌≡◌, refl, ap, sym, ◌∙◌}
 use mathlib.Core.List.{List, [], ◌∷◌, ◌++◌, append_assoc, append-nil}
-use Prim.Native.Nat.{ℕ, min, ◌+◌, ◌-◌, ◌*◌, ◌≤◌, ◌<◌}
+use Prim.Native.Nat.{ℕ, min, ◌+◌, ◌-◌, ◌*◌, ◌/◌, ◌%◌, ◌≤◌, ◌<◌}
 use native.Mathlib.Omega.{arith}
-use lib.ListN.{length, length-append, length-drop, length-replicate, take, drop, get_or, set, replicate, drop_of_length-le}
+use lib.ListN.{length, length-append, length-drop, length-replicate, take, drop, get_or, replicate, drop_of_length-le}
 use lib.Seq.{sets, sets-eq, length-sets, take-add, take_at, drop_at, drop-drop, drop-append-le, length-take-le}
 use Rattle.lists.proofs.Slices.{take_next, take_within}
 use Rattle.octets.specs.Write.{number_octets, Wrote}
 use Rattle.octets.proofs.Back.{length_number}
-use Rattle.octets.proofs.Writing.{sets_front, wrote_length, wrote_then, wrote_none}
+use Rattle.octets.proofs.Writing.{number_two, sets_front, wrote_length, wrote_then, wrote_none}
 use Rattle.table.specs.Table.{State, held}
 use Rattle.table.specs.declared.Association.{Association}
 use Rattle.table.specs.declared.Table.{Table}
-use Rattle.lent.specs.Lent.{row_octets, rows_octets, table_octets}
+use Rattle.lent.specs.Lent.{flag_of, session_octet, row_octets, rows_octets, table_octets}
 use Rattle.lent.proofs.Rows.{length_octets_lem, octets_more}
 use Rattle.put_table.specs.Out.{from_row}
 use Rattle.put_table.proofs.Back.{rest_of}
 
--- octets into as many from the front
-whole : (d vs : List ℕ) → length d ≡ length vs → sets d 0 vs ≡ vs
-whole d vs e = sets_front d vs (omega arith) ∙ rw (drop_of_length-le d {i = length vs} (omega arith), append-nil)
+-- ---- the octets of a row, as they are copied in
+flag_is : (s : Option ℕ) → bool_byte (is_some s) ≡ flag_of s
+flag_is (Some v) = refl
+flag_is None = refl
 
-pub twelve : (d : List ℕ) (a₀ a₁ a₂ a₃ a₄ a₅ a₆ a₇ a₈ a₉ b₀ b₁ : ℕ) → length d ≡ 12 →
-    set (set (set (set (set (set (set (set (set (set (set (set d 0 a₀) 1 a₁) 2 a₂) 3 a₃) 4 a₄) 5 a₅) 6 a₆) 7 a₇) 8 a₈) 9 a₉) 10 b₀) 11 b₁
-    ≡ a₀ ∷ a₁ ∷ a₂ ∷ a₃ ∷ a₄ ∷ a₅ ∷ a₆ ∷ a₇ ∷ a₈ ∷ a₉ ∷ b₀ ∷ b₁ ∷ []
-twelve d a₀ a₁ a₂ a₃ a₄ a₅ a₆ a₇ a₈ a₉ b₀ b₁ e = whole d (a₀ ∷ a₁ ∷ a₂ ∷ a₃ ∷ a₄ ∷ a₅ ∷ a₆ ∷ a₇ ∷ a₈ ∷ a₉ ∷ b₀ ∷ b₁ ∷ []) e
+octet_is : (s : Option ℕ) → unwrap_or s 0 ≡ session_octet s
+octet_is (Some v) = refl
+octet_is None = refl
+
+pub row_put : (a : Association) → a.mme.0 < 65536 → a.mce.0 < 65536 →
+    (a.mme.0 / 256 % 256) ∷ (a.mme.0 % 256) ∷ (a.mce.0 / 256 % 256) ∷ (a.mce.0 % 256)
+    ∷ a.tmgi.plmn.0 ∷ a.tmgi.plmn.1 ∷ a.tmgi.plmn.2 ∷ a.tmgi.service.0 ∷ a.tmgi.service.1 ∷ a.tmgi.service.2
+    ∷ bool_byte (is_some a.session) ∷ unwrap_or a.session 0 ∷ [] ≡ row_octets a
+row_put a h k =
+    let p : a.mme.0 / 256 % 256 ≡ a.mme.0 / 256 = omega arith in
+    let q : a.mce.0 / 256 % 256 ≡ a.mce.0 / 256 = omega arith in
+    rw (number_two a.mme.0 h, number_two a.mce.0 k, p, q, flag_is, octet_is)
 
 -- ---- a part of 12, lent and come back
 pub part_long : (d : List ℕ) (at : ℕ) → at + 12 ≤ length d → length (take (at + 12 - at) (drop at d)) ≡ 12
@@ -54,9 +66,10 @@ written_none l k d n h b c w =
 
 module _ {l : State} {k : ℕ} {d₀ d : List ℕ} {n i at : ℕ} (g : WrittenTo l k d₀ d n i at) where
   pub written_more : (z : Association) {ys : List ℕ} → i < n → n ≤ 256 → n ≤ length l → ys ≡ row_octets (get_or l i z) →
-      WrittenTo l k d₀ (take at d ++ (ys ++ drop (at + 12 - at) (drop at d))) n (i + 1) (at + 12)
+      WrittenTo l k d₀ (take at d ++ (ys ++ drop (at + 12 - at) (drop at d))) n (i + 1) (2 + 12 * (i + 1))
   unfolding number_octets
   written_more z {ys} h b c e =
+      let j : 2 + 12 * (i + 1) ≡ at + 12 = omega (arith, g.place) in
       let p = g.place in
       let w = g.long in
       let v : length ys ≡ 12 = rw e in
@@ -64,7 +77,7 @@ module _ {l : State} {k : ℕ} {d₀ d : List ℕ} {n i at : ℕ} (g : WrittenTo
       let f : k ≤ length (take i l) = rw (length-take-le i l (omega arith)) g.begun in
       let q : rows_octets (drop k (take (i + 1) l)) ≡ rows_octets (drop k (take i l)) ++ ys =
       rw (take_next l i z (omega arith), drop-append-le k (take i l) (get_or l i z ∷ []) f, e) (octets_more (drop k (take i l)) (get_or l i z)) in
-      record { begun = omega (arith, g.begun); within = omega arith; place = omega arith; long = wrote_length x ∙ w; wrote = rw q (wrote_then g.wrote x) }
+      record { begun = omega (arith, g.begun); within = omega arith; place = refl; long = wrote_length x ∙ w; wrote = rw (j, q) (wrote_then g.wrote x) }
 
 -- the count stands in the first two octets
 pub count_wrote : (n : ℕ) {d d₀ : List ℕ} {r : ℕ} → length d ≡ 3074 → Wrote d 0 (number_octets 2 n) d₀ r → length d₀ ≡ 3074
@@ -85,14 +98,15 @@ module _ (d vs : List ℕ) (n k : ℕ) (w : length d ≡ 3074) (e : 2 + 12 * k +
       ∙ rw (drop_of_length-le (sets d 0 (number_octets 2 n)) {i = 2 + 12 * k + length vs} (omega arith), append-nil, t) (append_assoc (number_octets 2 n) (take (12 * k) (drop 2 d)) vs)
 
 pub written_all : {l : State} {n k i at from to : ℕ} {d d₀ d₁ d₂ : List ℕ} → length d ≡ 3074 → n ≤ 256 → n ≤ length l →
-    Wrote d 0 (number_octets 2 n) d₀ from → WrittenTo l k d₀ d₁ n i at → n ≤ i → Wrote d₁ at (replicate (3074 - at) 0) d₂ to → d₂ ≡ from_row k (take n l) d
+    Wrote d 0 (number_octets 2 n) d₀ from → WrittenTo l k d₀ d₁ n i at → n ≤ i → Wrote d₁ (2 + 12 * n) (replicate (3074 - (2 + 12 * n)) 0) d₂ to → d₂ ≡ from_row k (take n l) d
 written_all {l} {n} {k} {i} {at} {from} {to} {d} {d₀} {d₁} {d₂} w b c a g h z =
     let e : i ≡ n = omega (arith, g.within) in
+    let f : 2 + 12 * n ≡ at = omega (arith, g.place) in
     let m : length (take n l) ≡ n = length-take-le n l c in
     let q : k ≤ length (take n l) = rw m (omega (arith, g.begun)) in
     let p : 3074 - at ≡ 3074 - (2 + 12 * length (take n l)) = rw m (omega (arith, g.place)) in
     let vs : List ℕ = rows_octets (drop k (take n l)) ++ replicate (3074 - at) 0 in
-    let x : Wrote d₀ (2 + 12 * k) vs d₂ to = wrote_then (rw e at g.wrote) z in
+    let x : Wrote d₀ (2 + 12 * k) vs d₂ to = wrote_then (rw e at g.wrote) (rw f at z) in
     let v : 2 + 12 * k + length vs ≡ 3074 = rw (length-append, length_octets_lem (drop k (take n l)), length-drop, m, length-replicate) (omega (arith, g.place)) in
     let y : vs ≡ drop (2 + 12 * k) (table_octets (take n l)) = rw p (sym (rest_of (take n l) k q)) in
     x.octets ∙ ap (λ (s : List ℕ). sets s (2 + 12 * k) vs) a.octets ∙ rest_put d vs n k w v

@@ -6,57 +6,30 @@ ghost use Rattle.table.specs.Table.{held};
 ghost use Rattle.lent.specs.Lent.{flag_of, session_octet, row_octets};
 ghost use Rattle.put_table.specs.Out.{table_out};
 
-use identity::Session;
 use table::{Association, Table};
-
-fn high(x: u16) -> u8
-    ensures { result ≡ x / 256 }
-{
-    (x / 256) as u8
-}
-
-fn low(x: u16) -> u8
-    ensures { result ≡ x % 256 }
-{
-    (x % 256) as u8
-}
-
-fn flag(s: Session) -> u8
-    ensures { result ≡ flag_of s }
-{
-    match s {
-        Session::Is(_) => 1,
-        Session::Absent => 0,
-    }
-}
-
-fn value(s: Session) -> u8
-    ensures { result ≡ session_octet s }
-{
-    match s {
-        Session::Is(v) => v,
-        Session::Absent => 0,
-    }
-}
 
 // A row into the 12 octets that are its own.
 fn put_row(d: &mut [u8], a: Association)
     requires { length d.old ≡ 12 }
     ensures { d.new ≡ row_octets a }
 {
-    let session = a.session;
-    d[0] = high(a.mme.0);
-    d[1] = low(a.mme.0);
-    d[2] = high(a.mce.0);
-    d[3] = low(a.mce.0);
-    d[4] = a.tmgi.plmn.0;
-    d[5] = a.tmgi.plmn.1;
-    d[6] = a.tmgi.plmn.2;
-    d[7] = a.tmgi.service.0;
-    d[8] = a.tmgi.service.1;
-    d[9] = a.tmgi.service.2;
-    d[10] = flag(session);
-    d[11] = value(session);
+    let mme = a.mme.0.to_be_bytes();
+    let mce = a.mce.0.to_be_bytes();
+    let (plmn, service) = (a.tmgi.plmn, a.tmgi.service);
+    d.copy_from_slice(&[
+        mme[0],
+        mme[1],
+        mce[0],
+        mce[1],
+        plmn.0,
+        plmn.1,
+        plmn.2,
+        service.0,
+        service.1,
+        service.2,
+        u8::from(a.session.is_some()),
+        a.session.unwrap_or(0),
+    ]);
 }
 
 // The table into what is lent, if that is as long as a table: the count, the rows from one on, and zeros behind. The rows before it stay.
@@ -66,16 +39,12 @@ pub fn table_out(t: Table, from: usize, d: &mut [u8])
     if d.len() != 3074 {
         return;
     }
-    let n = numbers::lesser(t.count, 256);
+    let n = t.count.min(256);
     octets::put_two(d, 0, n as u16);
-    let mut i = numbers::lesser(from, n);
-    let mut at = 2 + 12 * i;
-    while i < n {
-        let a = t.rows[i];
-        let e = at + 12;
-        put_row(&mut d[at..e], a);
-        i += 1;
-        at = e;
+    for i in from.min(n)..n {
+        let at = 2 + 12 * i;
+        put_row(&mut d[at..at + 12], t.rows[i]);
     }
-    octets::put_zeros(d, at, 3074 - at);
+    let end = 2 + 12 * n;
+    octets::put_zeros(d, end, 3074 - end);
 }

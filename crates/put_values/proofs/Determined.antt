@@ -2,10 +2,8 @@
 -- Assumes nothing.
 use mathlib.Core.Path.{refl}
 use Rattle.lists.proofs.Unique.{Determined, ◌same◌, ◌&◌}
-use Rattle.put_values.proofs.put_mme.Kinds as put_mme'
-use Rattle.put_values.proofs.put_mme.Reads as put_mme
-use Rattle.put_values.proofs.put_mce.Kinds as put_mce'
-use Rattle.put_values.proofs.put_mce.Reads as put_mce
+use Rattle.put_values.proofs.put_identity.Kinds as put_identity'
+use Rattle.put_values.proofs.put_identity.Reads as put_identity
 use Rattle.put_values.proofs.put_one.Kinds as put_one'
 use Rattle.put_values.proofs.put_one.Reads as put_one
 use Rattle.put_values.proofs.put_tmgi.Kinds as put_tmgi'
@@ -15,11 +13,8 @@ use Rattle.put_values.proofs.put_cause.Reads as put_cause
 use Rattle.put_values.proofs.put_wait.Kinds as put_wait'
 use Rattle.put_values.proofs.put_wait.Reads as put_wait
 
-pub put_mme_is : Determined put_mme'.ps put_mme'.r put_mme.Asked put_mme.Learnt
-put_mme_is κs a p x y e f = (e.next same f.next) & (e.octets same f.octets) & refl
-
-pub put_mce_is : Determined put_mce'.ps put_mce'.r put_mce.Asked put_mce.Learnt
-put_mce_is κs a p x y e f = (e.next same f.next) & (e.octets same f.octets) & refl
+pub put_identity_is : (I : _) (l : _) (k : _) (i : _) (d : _) (j : _) (b : _) → Determined (put_identity'.ps I l k) (put_identity'.r I l k) (put_identity.Asked I l k i d j b) (put_identity.Learnt I l k i d j b)
+put_identity_is I l k i d j b κs a p x y e f = (e.next same f.next) & (e.octets same f.octets) & refl
 
 pub put_one_is : Determined put_one'.ps put_one'.r put_one.Asked put_one.Learnt
 put_one_is κs a p x y e f = (e.next same f.next) & (e.octets same f.octets) & refl

@@ -2,11 +2,11 @@
 #![tactic(auto)]
 
 ghost use Rattle.std.specs.Prelude.{◌≡◌, ◌<◌};
-ghost use Rattle.octets.specs.Write.{Wrote};
+ghost use Rattle.octets.specs.Write.{Wrote, number_octets};
 ghost use Rattle.values.specs.Values.{root_of};
-ghost use Rattle.values.specs.Written.{mme_octets, mce_octets, one_octets, tmgi_octets, cause_octet, cause_octets, wait_octets};
+ghost use Rattle.values.specs.Written.{one_octets, tmgi_octets, cause_octet, cause_octets, wait_octets};
 
-use identity::{MceId, MmeId, Tmgi};
+use identity::{Identity, Plmn, Service, Tmgi};
 use values::Cause;
 
 // Of the envelopes of items: reject in a RESET, ignore in an acknowledgement.
@@ -16,18 +16,14 @@ pub enum Criticality {
     Ignore,
 }
 
-pub fn put_mme(room: &mut [u8], at: usize, v: MmeId) -> usize
-    ensures { Wrote room.old at (mme_octets v) room.new result }
+// An identity, of the MME's series or of the MCE's.
+pub fn put_identity<I: Identity>(room: &mut [u8], at: usize, v: I) -> usize
+    ensures { Wrote room.old at (number_octets 2 (I.number v)) room.new result }
 {
-    octets::put_two(room, at, v.0)
+    octets::put_two(room, at, v.number())
 }
 
-pub fn put_mce(room: &mut [u8], at: usize, v: MceId) -> usize
-    ensures { Wrote room.old at (mce_octets v) room.new result }
-{
-    octets::put_two(room, at, v.0)
-}
-
+#[tactic(auto, using(octets::proofs::Writing::number_one))]
 pub fn put_one(room: &mut [u8], at: usize, v: u8) -> usize
     ensures { Wrote room.old at (one_octets v) room.new result }
 {
@@ -35,14 +31,15 @@ pub fn put_one(room: &mut [u8], at: usize, v: u8) -> usize
 }
 
 // A TMGI, without extensions.
+#[tactic(auto, using(octets::proofs::Writing::wrote_then), unfolding(values::specs::Written::tmgi_octets, packed::specs::Packed::packed_in))]
 pub fn put_tmgi(room: &mut [u8], at: usize, t: Tmgi) -> usize
     ensures { Wrote room.old at (tmgi_octets t) room.new result }
 {
-    let p = t.plmn;
-    let v = t.service;
+    let Plmn(a, b, c) = t.plmn;
+    let Service(d, e, f) = t.service;
     let plmn = octets::put_octet(room, at, 0);
-    let service = octets::put_three(room, plmn, p.0, p.1, p.2);
-    octets::put_three(room, service, v.0, v.1, v.2)
+    let service = octets::put_three(room, plmn, a, b, c);
+    octets::put_three(room, service, d, e, f)
 }
 
 fn cause_octet(c: Cause) -> u8
@@ -55,27 +52,23 @@ fn cause_octet(c: Cause) -> u8
 }
 
 // A cause; nothing for one outside the root.
+#[tactic(auto, using(octets::proofs::Writing::wrote_none), unfolding(values::specs::Written::cause_octets))]
 pub fn put_cause(room: &mut [u8], at: usize, c: Cause) -> usize
     ensures { Wrote room.old at (cause_octets c) room.new result }
 {
     if c.value < values::root_of(c.group) {
         return octets::put_octet(room, at, cause_octet(c));
     }
-    if at < room.len() {
-        return at;
-    }
-    room.len()
+    at.min(room.len())
 }
 
 // A Time to Wait; nothing for one outside the root.
+#[tactic(auto, using(octets::proofs::Writing::wrote_none, crate::proofs::Put::wait_together), unfolding(values::specs::Written::wait_octets))]
 pub fn put_wait(room: &mut [u8], at: usize, v: u8) -> usize
     ensures { Wrote room.old at (wait_octets v) room.new result }
 {
     if v < 6 {
         return octets::put_octet(room, at, packed::with_bits(0, 1, 3, v));
     }
-    if at < room.len() {
-        return at;
-    }
-    room.len()
+    at.min(room.len())
 }

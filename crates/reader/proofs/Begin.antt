@@ -4,15 +4,14 @@
 use mathlib.Core.Path.{◌≡◌, refl, sym}
 use mathlib.Core.Bool.{Bool, true, false}
 use mathlib.Core.List.{List, ◌∷◌}
-use Prim.Native.Nat.{ℕ, ◌+◌, ◌≤◌}
-use lib.ListN.{length, take}
+use Prim.Native.Nat.{ℕ, ◌+◌}
+use lib.ListN.{take}
 use Rattle.lists.specs.Lists.{pick}
-use Rattle.octets.specs.Read.{Read, got, stop, ◌>>=◌}
-use Rattle.octets.specs.Field.{number_at}
+use Rattle.std.specs.Prelude.{Ok, Err, None, Some}
+use Rattle.std.specs.Bool.{then_some}
+use Rattle.octets.specs.Read.{Read}
 use Rattle.octets.specs.declared.Span.{Span}
 use Rattle.octets.specs.Span.{present}
-use Rattle.octets.proofs.Chain.{then_got}
-use Rattle.octets.proofs.Got.{number_got}
 use Rattle.identity.specs.declared.Item.{Item}
 use Rattle.values.specs.Values.{mme_at, mce_at, tmgi_at, one_at, two_at, cause_at, wait_at}
 use Rattle.names.specs.Names.{name_at}
@@ -28,14 +27,12 @@ use Rattle.rows.specs.Table.{meanings}
 use Rattle.meaning.specs.Value.{Value, Given, given, absent, carried, mme, mce, tmgi, one, two, cause, wait, name, reset, list, diagnostics}
 use Rattle.meaning.specs.Reading.{read_as, value_in}
 use Rattle.layout.specs.Record.{lists_of}
-use Rattle.reader.specs.declared.Begins.TheVariants.{At, Nowhere}
-use Rattle.reader.specs.Steps.{given_read, ItemsBegin, EntriesBegin}
+use Rattle.reader.specs.Steps.{ResetIs, given_read, ItemsBegin, EntriesBegin}
 
 -- what holds of an absent value, and of each that a reading may give, holds of what stands there
 on_value : {A : Type 0} (P : Given Span → Type 0) (b : Bool) (r : Read A) (is : A → Value Span) → P absent → ((a : A) → P (given (is a))) → P (pick b (given_read is r) absent)
-unfolding ◌>>=◌
-on_value P true (got a) is n g = g a
-on_value P true (stop x) is n g = n
+on_value P true (Ok a) is n g = g a
+on_value P true (Err x) is n g = n
 on_value P false r is n g = n
 
 module _ (s : List ℕ) (v : Span) where
@@ -43,35 +40,32 @@ module _ (s : List ℕ) (v : Span) where
   unfolding value_in
   none_there k e = rw e
 
-  pub no_items_there : (k : Kind) → present v ≡ false → ItemsBegin (value_in k s v) (take v.to s) Nowhere
+  pub no_items_there : (k : Kind) → present v ≡ false → ItemsBegin (value_in k s v) (take v.to s) None
   unfolding lists_of
   no_items_there k e vs = rw (none_there k e)
 
-  pub no_entries_there : (k : Kind) → present v ≡ false → EntriesBegin (value_in k s v) (take v.to s) Nowhere
+  pub no_entries_there : (k : Kind) → present v ≡ false → EntriesBegin (value_in k s v) (take v.to s) None
   unfolding lists_of
   no_entries_there k e vs = rw (none_there k e)
 
   -- ---- items
 
-  pub part_items_lem : (is : List Item) → present v ≡ true → reset_at (take v.to s) v.from ≡ got (part is) → items_at (take v.to s) (v.from + 1) ≡ got is
-      → ItemsBegin (value_in kind.ResetType s v) (take v.to s) (At (v.from + 1))
-  unfolding value_in read_as lists_of ◌>>=◌
-  part_items_lem is p q r = (is, r, λ vs. rw (p, q))
+  pub reset_items : (b : Bool) → present v ≡ true → ResetIs b (reset_at (take v.to s) v.from) (items_at (take v.to s) (v.from + 1))
+      → ItemsBegin (value_in kind.ResetType s v) (take v.to s) (then_some b (v.from + 1))
+  unfolding value_in read_as lists_of
+  reset_items true p r = (r.0, r.2, λ vs. rw (p, r.1))
+  reset_items false p r = λ vs. rw (p, r)
 
-  pub whole_items : present v ≡ true → reset_at (take v.to s) v.from ≡ got whole → ItemsBegin (value_in kind.ResetType s v) (take v.to s) Nowhere
-  unfolding value_in read_as lists_of ◌>>=◌
-  whole_items p q vs = rw (p, q)
-
-  pub list_items : (is : List Item) → present v ≡ true → items_at (take v.to s) v.from ≡ got is → ItemsBegin (value_in kind.Acknowledged s v) (take v.to s) (At v.from)
-  unfolding value_in read_as lists_of ◌>>=◌
+  pub list_items : (is : List Item) → present v ≡ true → items_at (take v.to s) v.from ≡ Ok is → ItemsBegin (value_in kind.Acknowledged s v) (take v.to s) (Some v.from)
+  unfolding value_in read_as lists_of
   list_items is p q = (is, q, λ vs. rw (p, q))
 
-  pub no_items : (k : Kind) → (k ≡ kind.ResetType → ⊥) × (k ≡ kind.Acknowledged → ⊥) → ItemsBegin (value_in k s v) (take v.to s) Nowhere
-  unfolding value_in read_as lists_of ◌>>=◌
+  pub no_items : (k : Kind) → (k ≡ kind.ResetType → ⊥) × (k ≡ kind.Acknowledged → ⊥) → ItemsBegin (value_in k s v) (take v.to s) None
+  unfolding value_in read_as lists_of
   no_items k o vs = by k o
     where
       by : (k : Kind) → (k ≡ kind.ResetType → ⊥) × (k ≡ kind.Acknowledged → ⊥) → (lists_of (value_in k s v ∷ vs)).items ≡ (lists_of vs).items
-      by kind.Carried o = on_value (λ g. (lists_of (g ∷ vs)).items ≡ (lists_of vs).items) (present v) (got v) carried refl (λ a. refl)
+      by kind.Carried o = on_value (λ g. (lists_of (g ∷ vs)).items ≡ (lists_of vs).items) (present v) (Ok v) carried refl (λ a. refl)
       by kind.Mme o = on_value (λ g. (lists_of (g ∷ vs)).items ≡ (lists_of vs).items) (present v) (mme_at (take v.to s) v.from) mme refl (λ a. refl)
       by kind.Mce o = on_value (λ g. (lists_of (g ∷ vs)).items ≡ (lists_of vs).items) (present v) (mce_at (take v.to s) v.from) mce refl (λ a. refl)
       by kind.Tmgi o = on_value (λ g. (lists_of (g ∷ vs)).items ≡ (lists_of vs).items) (present v) (tmgi_at (take v.to s) v.from) tmgi refl (λ a. refl)
@@ -91,8 +85,8 @@ module _ (s : List ℕ) (v : Span) where
   unfolding value_in read_as
   diagnostics_entries t x p b = rw p b
 
-  pub no_entries : (k : Kind) → ((t : Triggers) → k ≡ kind.Diagnostics t → ⊥) → EntriesBegin (value_in k s v) (take v.to s) Nowhere
-  unfolding value_in read_as lists_of ◌>>=◌
+  pub no_entries : (k : Kind) → ((t : Triggers) → k ≡ kind.Diagnostics t → ⊥) → EntriesBegin (value_in k s v) (take v.to s) None
+  unfolding value_in read_as lists_of
   no_entries k o vs = by k o
     where
       resetting : (a : ResetType) → (lists_of (given (reset a) ∷ vs)).entries ≡ (lists_of vs).entries
@@ -100,7 +94,7 @@ module _ (s : List ℕ) (v : Span) where
       resetting (part is) = refl
 
       by : (k : Kind) → ((t : Triggers) → k ≡ kind.Diagnostics t → ⊥) → (lists_of (value_in k s v ∷ vs)).entries ≡ (lists_of vs).entries
-      by kind.Carried o = on_value (λ g. (lists_of (g ∷ vs)).entries ≡ (lists_of vs).entries) (present v) (got v) carried refl (λ a. refl)
+      by kind.Carried o = on_value (λ g. (lists_of (g ∷ vs)).entries ≡ (lists_of vs).entries) (present v) (Ok v) carried refl (λ a. refl)
       by kind.Mme o = on_value (λ g. (lists_of (g ∷ vs)).entries ≡ (lists_of vs).entries) (present v) (mme_at (take v.to s) v.from) mme refl (λ a. refl)
       by kind.Mce o = on_value (λ g. (lists_of (g ∷ vs)).entries ≡ (lists_of vs).entries) (present v) (mce_at (take v.to s) v.from) mce refl (λ a. refl)
       by kind.Tmgi o = on_value (λ g. (lists_of (g ∷ vs)).entries ≡ (lists_of vs).entries) (present v) (tmgi_at (take v.to s) v.from) tmgi refl (λ a. refl)
@@ -114,16 +108,11 @@ module _ (s : List ℕ) (v : Span) where
       by (kind.Diagnostics t) o = absurd (o t refl)
 
 -- Criticality Diagnostics, by their fields
-module _ (t : Triggers) (s : List ℕ) (from : ℕ) {h : Head} {es : List Entry} (n : ℕ) (d : diagnostics_at (meanings t) s from ≡ got (record { head = h; entries = es })) (q : got es ≡ maybe_list_at h.listed s n) where
-  pub listed_entries : h.listed ≡ true → EntriesBegin (given_read (diagnostics t) (diagnostics_at (meanings t) s from)) s (At n)
-  unfolding lists_of ◌>>=◌
-  listed_entries e = (es, rw e at (sym q), λ vs. rw (d, e))
-
-  pub unlisted_entries : h.listed ≡ false → EntriesBegin (given_read (diagnostics t) (diagnostics_at (meanings t) s from)) s Nowhere
-  unfolding lists_of ◌>>=◌
-  unlisted_entries e vs = rw (d, e)
-
--- a list of items begins inside
-pub items_inside : (s : List ℕ) (at : ℕ) {is : List Item} → items_at s at ≡ got is → at + 1 ≤ length s
-unfolding items_at
-items_inside s at q = let x = then_got (number_at 1 s at) _ (sym q) in (number_got s at 1 x.1).0
+pub fields_entries : (t : Triggers) (s : List ℕ) (from : ℕ) {h : Head} {es : List Entry} (n : ℕ) → diagnostics_at (meanings t) s from ≡ Ok (record { head = h; entries = es })
+    → Ok es ≡ maybe_list_at h.listed s n → EntriesBegin (given_read (diagnostics t) (diagnostics_at (meanings t) s from)) s (then_some h.listed n)
+unfolding lists_of
+fields_entries t s from {h} {es} n d q = by h.listed refl
+  where
+    by : (b : Bool) → h.listed ≡ b → EntriesBegin (given_read (diagnostics t) (diagnostics_at (meanings t) s from)) s (then_some b n)
+    by true e = (es, rw e at (sym q), λ vs. rw (d, e))
+    by false e = λ vs. rw (d, e)

@@ -10,7 +10,8 @@ use lib.Dec.{ltb}
 use lib.ListN.{length, take, get_or}
 use lib.Seq.{length-take-le}
 use Rattle.lists.specs.Lists.{pick}
-use Rattle.octets.specs.Read.{Read, got, stop, ◌>>=◌}
+use Rattle.std.specs.Prelude.{Ok, Err}
+use Rattle.octets.specs.Read.{Read}
 use Rattle.octets.specs.Many.{Each}
 use Rattle.octets.specs.Stands.{Octets}
 use Rattle.octets.specs.declared.Span.{Span}
@@ -64,10 +65,10 @@ FitsAs : Kind → Given Span → Type 0
 FitsAs k (given v) = (value_kind v ≡ k) × Fits v
 FitsAs k absent = Unit
 
-by_reading : {A : Type 0} (k : Kind) (is : A → Value Span) (r : Read A) → ((a : A) → got a ≡ r → (value_kind (is a) ≡ k) × Fits (is a)) → FitsAs k (given_read is r)
-unfolding FitsAs ◌>>=◌
-by_reading k is (got a) g = g a refl
-by_reading k is (stop x) g = tt
+by_reading : {A : Type 0} (k : Kind) (is : A → Value Span) (r : Read A) → ((a : A) → Ok a ≡ r → (value_kind (is a) ≡ k) × Fits (is a)) → FitsAs k (given_read is r)
+unfolding FitsAs
+by_reading k is (Ok a) g = g a refl
+by_reading k is (Err x) g = tt
 
 module _ (s : List ℕ) (o : Octets s) (b : length s ≤ 8192) (v : Span) where
   octets : Octets (take v.to s)

@@ -11,7 +11,8 @@ use lib.ListN.{length, get_or, take, set, replicate, length-set, length-replicat
 use Rattle.lists.specs.Lists.{fill}
 use Rattle.lists.proofs.Tests.{on-pick}
 use Rattle.lists.proofs.Fill.{get_d_fill}
-use Rattle.octets.specs.Read.{Read, got, stop, ◌>>=◌, ◌>>◌}
+use Rattle.std.specs.Prelude.{Ok, Err}
+use Rattle.octets.specs.Read.{Read, ◌>>=◌, ◌>>◌}
 use Rattle.octets.specs.Many.{Each}
 use Rattle.octets.specs.declared.Span.{Span}
 use Rattle.octets.specs.Span.{no_span, present}
@@ -32,12 +33,11 @@ use Rattle.reader.specs.Steps.{Got, Legible, IfPresent, AllLegible}
 
 -- ---- one value
 
-got_then_none : {A : Type 0} (r : Read A) → ◌≡◌ {A = Read Unit} (got tt) (r >> got tt) → Got r
-unfolding ◌>>=◌
-got_then_none (got a) q = tt
-got_then_none (stop x) q = got_stop q
+got_then_none : {A : Type 0} (r : Read A) → ◌≡◌ {A = Read Unit} (Ok tt) (r >> Ok tt) → Got r
+got_then_none (Ok a) q = tt
+got_then_none (Err x) q = got_stop q
 
-pub value_legible : (k : Kind) (s : List ℕ) (v : Span) → got tt ≡ legible_at k (take v.to s) v.from → Got (read_as k s v)
+pub value_legible : (k : Kind) (s : List ℕ) (v : Span) → Ok tt ≡ legible_at k (take v.to s) v.from → Got (read_as k s v)
 value_legible k s v q = got_then_none (read_as k s v) (q ∙ as_read k s v)
 
 -- ---- elements, and the rows that have them
@@ -62,23 +62,23 @@ module _ (t : List Row) (s : List ℕ) where
   abbrev Read' : Head → Type 0
   Read' h = Legible (kind_of t h.id) s h.value
 
-  heads_legible : (n row at : ℕ) {end : ℕ} → got end ≡ scan_at t s n at → Each Read' (front t row (heads_at s n at))
-  unfolding front heads_at scan_at ◌>>=◌
+  heads_legible : (n row at : ℕ) {end : ℕ} → Ok end ≡ scan_at t s n at → Each Read' (front t row (heads_at s n at))
+  unfolding front heads_at scan_at
   heads_legible zero row at q = tt
   heads_legible (suc n) row at {end} q = by (envelope_at s at) refl q (λ row to. heads_legible n row to)
     where
       by : (r : Read Head) → r ≡ envelope_at s at
-          → got end ≡ (r >>= λ h. legible_at (kind_of t h.id) (take h.value.to s) h.value.from >> scan_at t s n h.value.to)
-          → ((row to : ℕ) → got end ≡ scan_at t s n to → Each Read' (front t row (heads_at s n to)))
+          → Ok end ≡ (r >>= λ h. legible_at (kind_of t h.id) (take h.value.to s) h.value.from >> scan_at t s n h.value.to)
+          → ((row to : ℕ) → Ok end ≡ scan_at t s n to → Each Read' (front t row (heads_at s n to)))
           → Each Read' (front t row (on_head (λ h. heads_at s n h.value.to) r))
-      by (got h) e q go =
+      by (Ok h) e q go =
           let x = then_got (legible_at (kind_of t h.id) (take h.value.to s) h.value.from) _ q in
           let i = envelope_in s at e in
           let w : Read' h = record { order = omega arith; within = i.2; value = value_legible (kind_of t h.id) s h.value x.1 } in
           on-pick (Each Read') (known t h.id)
           (on-pick (Each Read') (ltb (find h.id t) row) tt (w, go (find h.id t + 1) h.value.to x.2))
           (w, go row h.value.to x.2)
-      by (stop x) e q go = tt
+      by (Err x) e q go = tt
 
   abbrev At : ℕ → Span → Type 0
   At k v = IfPresent (get_or t k no_row).kind s v
@@ -97,7 +97,7 @@ module _ (t : List Row) (s : List ℕ) where
     pub count : length l ≡ length t
     pub each : (k : ℕ) → IfPresent (get_or t k no_row).kind s (get_or l k no_span)
 
-  pub opened_spans : (c : Bool) (from : ℕ) {o : Opening} → got o ≡ opened_at t c s from → Spans o.spans
+  pub opened_spans : (c : Bool) (from : ℕ) {o : Opening} → Ok o ≡ opened_at t c s from → Spans o.spans
   unfolding opened_at elements_at judged_of
   opened_spans c from {o} q =
       let a = then_got (count_at c s from) _ q in

@@ -10,18 +10,15 @@ use borrow.Author.Tests.{le-leb, lt-leb, ltb-false}
 use lib.Dec.{ltb}
 use lib.ListN.{length, drop}
 use Rattle.lists.specs.Lists.{pick}
-use Rattle.octets.specs.Read.{Read, got, stop}
+use Rattle.std.specs.Prelude.{Result, Ok, Err, None, Option, Some}
+use Rattle.octets.specs.Read.{Read}
 use Rattle.octets.specs.Stands.{Octets}
-use Rattle.octets.specs.declared.Gate.TheVariants as gate
+use Rattle.octets.specs.declared.Span.{Span}
+use Rattle.rows.specs.declared.Row.{Row}
 use Rattle.octets.proofs.Writing.{sets_front}
-use Rattle.places.specs.Places.{spans_in}
-use Rattle.rows.specs.declared.Rows.{Rows}
-use Rattle.rows.specs.Table.{rows_in}
 use Rattle.editions.specs.declared.Edition.{Edition}
 use Rattle.editions.specs.declared.Message.{Message}
-use Rattle.editions.specs.declared.Named.{Named}
-use Rattle.editions.specs.declared.Named.TheVariants as named
-use Rattle.editions.specs.Editions.{table_of, container_of, table_rows, named_by}
+use Rattle.editions.specs.Editions.{table_of, container_of, named_by}
 use Rattle.editions.proofs.Tables.{table_lawful}
 use Rattle.editions.proofs.Names.{number_names, named_listed}
 use Rattle.frames.specs.declared.Frame.{Frame}
@@ -33,12 +30,13 @@ use Rattle.verdicts.specs.declared.Refusal.TheVariants.{TooLong}
 use Rattle.verdicts.specs.Verdict.{Opening, opened_at, Understood, Verdict, refused, understood, understood_by, verdict_of, every, of_those, framed, read_of}
 use Rattle.judging.specs.declared.Opened.{Opened}
 use Rattle.judging.specs.Judging.{Opens}
-use Rattle.judging.proofs.Steps.{Passed, passed, rows_of}
+use Rattle.judging.proofs.Steps.{Passed, passed}
 use Rattle.layout.specs.Held.{Held}
 use Rattle.layout.specs.Record.{record_octets, is_record, read_record}
 use Rattle.layout.proofs.RecordBack.{held_size, record_back}
-use Rattle.reader.specs.declared.Reading.{Reading}
-use Rattle.reader.specs.declared.Reading.TheVariants.{Refused, NoRoom, Put}
+use Rattle.verdicts.specs.declared.Outcome.{Outcome}
+use Rattle.reader.specs.declared.Unread.{Unread}
+use Rattle.reader.specs.declared.Unread.TheVariants.{Refused, NoRoom}
 use Rattle.reader.specs.Reader.{Answers}
 use Rattle.reader.specs.Steps.{AllLegible, PutIn}
 use Rattle.reader.proofs.Judged.{opened_spans, array_legible}
@@ -46,8 +44,8 @@ use Rattle.reader.proofs.Fitting.{values_fit}
 
 -- ---- what was read can be held
 
-module _ (e : Edition) (m : Message) (f : Frame) (n : named_by e f.kind f.code ≡ named.Is m) (s : List ℕ) (o : Octets s) (b : length s ≤ 8192) where
-  opening_held : {y : Opening} → got y ≡ opened_at (table_of e m) (container_of e m) s f.from → Held e (understood_by (table_of e m) m f s y).what
+module _ (e : Edition) (m : Message) (f : Frame) (n : named_by e f.kind f.code ≡ Some m) (s : List ℕ) (o : Octets s) (b : length s ≤ 8192) where
+  opening_held : {y : Opening} → Ok y ≡ opened_at (table_of e m) (container_of e m) s f.from → Held e (understood_by (table_of e m) m f s y).what
   opening_held {y} q =
       let g = opened_spans (table_of e m) s (container_of e m) f.from q in
       record { message = number_names e m (named_listed e f.kind f.code m n); table = table_lawful e m; values = values_fit (table_of e m) s y.spans o b g.count g.each }
@@ -59,18 +57,18 @@ same_understood : {u w : Understood} → understood u ≡ understood w → u ≡
 same_understood q = cc
 
 module _ (e : Edition) (s : List ℕ) (o : Octets s) {u : Understood} where
-  inside_held : length s ≤ 8192 → (m : Message) (f : Frame) → named_by e f.kind f.code ≡ named.Is m → (r : Read Opening) → r ≡ opened_at (table_of e m) (container_of e m) s f.from
+  inside_held : length s ≤ 8192 → (m : Message) (f : Frame) → named_by e f.kind f.code ≡ Some m → (r : Read Opening) → r ≡ opened_at (table_of e m) (container_of e m) s f.from
       → verdict_of (table_of e m) m f s r ≡ understood u → Held e u.what
-  inside_held b m f n (got y) q v = subst (λ (w : Understood). Held e w.what) (same_understood v) (opening_held e m f n s o b q)
-  inside_held b m f n (stop x) q v = not_refused v
+  inside_held b m f n (Ok y) q v = subst (λ (w : Understood). Held e w.what) (same_understood v) (opening_held e m f n s o b q)
+  inside_held b m f n (Err x) q v = not_refused v
 
-  named_held : length s ≤ 8192 → (f : Frame) (n : Named) → named_by e f.kind f.code ≡ n → of_those e every s f n ≡ understood u → Held e u.what
-  named_held b f (named.Is m) n v = inside_held b m f n (opened_at (table_of e m) (container_of e m) s f.from) refl v
-  named_held b f named.Other n v = not_refused v
+  named_held : length s ≤ 8192 → (f : Frame) (n : Option Message) → named_by e f.kind f.code ≡ n → of_those e every s f n ≡ understood u → Held e u.what
+  named_held b f (Some m) n v = inside_held b m f n (opened_at (table_of e m) (container_of e m) s f.from) refl v
+  named_held b f None n v = not_refused v
 
   framed_held : length s ≤ 8192 → (r : Read Frame) → framed e every s r ≡ understood u → Held e u.what
-  framed_held b (got f) v = named_held b f (named_by e f.kind f.code) refl v
-  framed_held b (stop x) v = not_refused v
+  framed_held b (Ok f) v = named_held b f (named_by e f.kind f.code) refl v
+  framed_held b (Err x) v = not_refused v
 
   pub read_held : read_of e every s ≡ understood u → Held e u.what
   unfolding read_of
@@ -90,34 +88,33 @@ put_front e r d g h p =
     let z = held_size e r g in
     p ∙ (sets_front d (record_octets e r) (omega arith) ∙ ap (λ (n : ℕ). record_octets e r ++ drop n d) z)
 
--- ---- as the code has it: a table in an array, and what the judging hands back
+-- ---- as the code has it: the table, and what the judging hands back
 
-module _ (e : Edition) (m : Message) (f : Frame) (s : List ℕ) {t : Rows} {x : Opened} {ps : List ℕ} (is : t ≡ table_rows e m) {c : Bool} (container : c ≡ container_of e m) (q : Opens (opened_at (rows_in t) c s f.from) x ps) where
-  module _ (g : x.gate ≡ gate.Pass) where
-    found : Passed e m f s t x ps
-    found = passed e m f s is container q g
+module _ (e : Edition) (m : Message) (f : Frame) (s : List ℕ) {t : List Row} (rows : t ≡ table_of e m) {c : Bool} (container : c ≡ container_of e m) {r : Read Opened} {ps : List Span} (q : Opens (opened_at t c s f.from) r ps) {x : Opened} (g : r ≡ Ok x) where
+  found : Passed e m f s t x ps
+  found = passed e m f s rows container q g
 
-    pub all_legible : AllLegible (rows_in t) s (spans_in ps)
-    all_legible = rw (rows_of e m is, found.spans) (array_legible (table_of e m) s (opened_spans (table_of e m) s (container_of e m) f.from (sym found.is)))
+  pub all_legible : AllLegible t s ps
+  all_legible = rw (rows, found.spans) (array_legible (table_of e m) s (opened_spans (table_of e m) s (container_of e m) f.from (sym found.is)))
 
-    pub too_small : {d : List ℕ} → length d < 2662 → Answers e (verdict_of (table_of e m) m f s (opened_at (table_of e m) (container_of e m) s f.from)) d NoRoom d
-    too_small {d} h =
-        let z = lt-leb 2662 (length d) h in
-        subst (λ (r : Read Opening). Answers e (verdict_of (table_of e m) m f s r) d NoRoom d) (sym found.is) (rw z, rw z)
+  pub too_small : {d : List ℕ} → length d < 2662 → Answers e (verdict_of (table_of e m) m f s (opened_at (table_of e m) (container_of e m) s f.from)) d (Err NoRoom) d
+  too_small {d} h =
+      let z = lt-leb 2662 (length d) h in
+      subst (λ (r : Read Opening). Answers e (verdict_of (table_of e m) m f s r) d (Err NoRoom) d) (sym found.is) (rw z, rw z)
 
-    pub is_put : Octets s → length s ≤ 8192 → named_by e f.kind f.code ≡ named.Is m → (d : List ℕ) {k : List ℕ} → 2662 ≤ length d
-        → PutIn e (record { message = m; crit = f.crit; values = values_in (rows_in t) s (spans_in ps) }) d k
-        → Answers e (verdict_of (table_of e m) m f s (opened_at (table_of e m) (container_of e m) s f.from)) d (Put x.outcome) k
-    is_put o b n d {k} h p =
-        let put : PutIn e (record { message = m; crit = f.crit; values = values_in (table_of e m) s found.opening.spans }) d k = rw found.values at p in
-        let z = le-leb 2662 (length d) h in
-        let front = put_front e (understood_by (table_of e m) m f s found.opening).what d (opening_held e m f n s o b (sym found.is)) h put in
-        subst (λ (r : Read Opening). Answers e (verdict_of (table_of e m) m f s r) d (Put x.outcome) k) (sym found.is) (rw z (ap Put found.outcome), rw z front)
+  pub is_put : Octets s → length s ≤ 8192 → named_by e f.kind f.code ≡ Some m → (d : List ℕ) {k : List ℕ} → 2662 ≤ length d
+      → PutIn e (record { message = m; crit = f.crit; values = values_in t s ps }) d k
+      → Answers e (verdict_of (table_of e m) m f s (opened_at (table_of e m) (container_of e m) s f.from)) d (Ok x.outcome) k
+  is_put o b n d {k} h p =
+      let put : PutIn e (record { message = m; crit = f.crit; values = values_in (table_of e m) s found.opening.spans }) d k = rw found.values at p in
+      let z = le-leb 2662 (length d) h in
+      let front = put_front e (understood_by (table_of e m) m f s found.opening).what d (opening_held e m f n s o b (sym found.is)) h put in
+      subst (λ (r : Read Opening). Answers e (verdict_of (table_of e m) m f s r) d (Ok x.outcome) k) (sym found.is) (rw z (ap Ok found.outcome), rw z front)
 
 -- ---- which verdict it is
 
-pub answers_as : (e : Edition) {v w : Verdict} (d : List ℕ) {r : Reading} {k : List ℕ} → v ≡ w → Answers e w d r k → Answers e v d r k
+pub answers_as : (e : Edition) {v w : Verdict} (d : List ℕ) {r : Result Outcome Unread} {k : List ℕ} → v ≡ w → Answers e w d r k → Answers e v d r k
 answers_as e d {r} {k} q a = subst (λ (x : Verdict). Answers e x d r k) (sym q) a
 
-pub answers_refused : (e : Edition) {v : Verdict} {x : Refusal} (d : List ℕ) → v ≡ refused x → Answers e v d (Refused x) d
+pub answers_refused : (e : Edition) {v : Verdict} {x : Refusal} (d : List ℕ) → v ≡ refused x → Answers e v d (Err (Refused x)) d
 answers_refused e d q = answers_as e d q (refl, refl)

@@ -13,7 +13,8 @@ use lib.ListN.{length, get_or, take, drop, replicate, drop_of_length-le}
 use lib.Seq.{drop-cons, take_all}
 use Rattle.lists.specs.Lists.{fill}
 use Rattle.octets.specs.Many.{each_octets}
-use Rattle.octets.specs.Read.{Read, got}
+use Rattle.std.specs.Prelude.{Ok, None, Some}
+use Rattle.octets.specs.Read.{Read}
 use Rattle.octets.specs.Write.{number_octets, Wrote}
 use Rattle.octets.specs.declared.Span.{Span}
 use Rattle.octets.specs.Span.{no_span, present}
@@ -21,15 +22,12 @@ use Rattle.octets.proofs.Writing.{wrote_then}
 use Rattle.octets.proofs.EachWritten.{wrote_more}
 use Rattle.rows.specs.declared.Kind.{Kind}
 use Rattle.rows.specs.declared.Row.{Row}
-use Rattle.rows.specs.declared.Rows.{Rows}
-use Rattle.rows.specs.Table.{rows_in, no_row}
-use Rattle.rows.proofs.TableLaws.{row_at}
+use Rattle.rows.specs.Table.{no_row}
 use Rattle.meaning.specs.Value.{Given, absent}
 use Rattle.meaning.specs.Reading.{value_in, values_in}
 use Rattle.layout.specs.Rows.{item_row, entry_row, list_octets}
 use Rattle.layout.specs.Record.{Lists, lists_of, slot_octets}
 use Rattle.layout.proofs.Sizes.{slot_size, slots_size}
-use Rattle.reader.specs.declared.Begins.TheVariants.{At, Nowhere}
 use Rattle.reader.specs.Steps.{IfPresent, ListBegins}
 
 pub values_length : (t : List Row) (s : List ℕ) (l : List Span) → length t ≤ length l → length (values_in t s l) ≡ length t
@@ -46,63 +44,56 @@ values_at (r ∷ t) s [] k h z = absurd (omega arith)
 values_at (r ∷ t) s (v ∷ l) zero h z = refl
 values_at (r ∷ t) s (v ∷ l) (suc k) h z = values_at t s l k (omega arith) (omega arith)
 
-values_from : (t : List Row) (s : List ℕ) (l : List Span) (k : ℕ) → k < length t → length t ≤ length l
-    → values_in (drop k t) s (drop k l) ≡ value_in (get_or t k no_row).kind s (get_or l k no_span) ∷ values_in (drop (k + 1) t) s (drop (k + 1) l)
-unfolding values_in
-values_from t s l k h z = let b : k < length l = omega arith in rw (add-one, drop-cons t k no_row h, drop-cons l k no_span b)
+-- what the values from k on announce is what all do
+abbrev pub Rest : {A : Type 0} → (Lists → List A) → List Row → List ℕ → List Span → ℕ → Type 0
+Rest of t s l k = of (lists_of (values_in (drop k t) s (drop k l))) ≡ of (lists_of (values_in t s l))
 
-module _ (t : Rows) (s : List ℕ) (l : List Span) (z : length (rows_in t) ≤ length l) where
+module _ (t : List Row) (s : List ℕ) (l : List Span) where
   -- ---- slots
 
-  pub slot_more : {room₀ room m : List ℕ} {at next q k : ℕ} → k < length (rows_in t) → next + 8 ≤ length room
-      → Wrote room₀ at (each_octets slot_octets (take k (values_in (rows_in t) s l))) room next
-      → Wrote room next (slot_octets (value_in (get_or t.rows k no_row).kind s (get_or l k no_span))) m q
-      → (q ≡ next + 8) × Wrote room₀ at (each_octets slot_octets (take (k + 1) (values_in (rows_in t) s l))) m q
-  slot_more {room} {m} {next} {q} {k} h b w x =
-      let n = values_length (rows_in t) s l z in
-      let e : slot_octets (value_in (get_or t.rows k no_row).kind s (get_or l k no_span)) ≡ slot_octets (get_or (values_in (rows_in t) s l) k absent)
-      = rw (row_at t k h, values_at (rows_in t) s l k h z) in (
-        omega (arith, x.next, slot_size (value_in (get_or t.rows k no_row).kind s (get_or l k no_span))),
-        wrote_more slot_octets (values_in (rows_in t) s l) k absent (omega arith) w (rw e at x),
-      )
-
-  pub slots_all : (k : ℕ) {room₀ room m : List ℕ} {at next q n : ℕ} → length (rows_in t) ≤ k → n ≡ length (rows_in t)
-      → Wrote room₀ at (each_octets slot_octets (take k (values_in (rows_in t) s l))) room next
-      → Wrote room next (replicate (96 - 8 * n) 0) m q
-      → Wrote room₀ at (fill 0 96 (each_octets slot_octets (values_in (rows_in t) s l))) m q
-  slots_all k {n = n} h e w x =
-      let v = values_in (rows_in t) s l in
-      let c = values_length (rows_in t) s l z in
-      let f : length (each_octets slot_octets v) ≡ 8 * n = slots_size v ∙ ap (8 *◌) (c ∙ sym e) in
+  pub slots_all : {room₀ room m : List ℕ} {at next q : ℕ} (k : ℕ) → k ≡ length t → length t ≤ length l
+      → Wrote room₀ at (each_octets slot_octets (take k (values_in t s l))) room next
+      → Wrote room next (replicate (96 - 8 * length t) 0) m q
+      → Wrote room₀ at (fill 0 96 (each_octets slot_octets (values_in t s l))) m q
+  slots_all k e z w x =
+      let v = values_in t s l in
+      let n = values_length t s l z in
+      let f : length (each_octets slot_octets v) ≡ 8 * length t = slots_size v ∙ ap (8 *◌) n in
       rw f (wrote_then (rw (take_all k v (omega arith)) at w) x)
 
-  -- ---- lists
+  -- the row at k, and where its value stands
+  module _ (z : length t ≤ length l) (k : ℕ) (h : k < length t) {r : Row} {v : Span} (d : r ≡ get_or t k no_row) (f : v ≡ get_or l k no_span) where
+    value_here : get_or (values_in t s l) k absent ≡ value_in r.kind s v
+    value_here = rw (d, f) (values_at t s l k h z)
 
-  module _ {A : Type 0} (of : Lists → List A) where
-    -- what the values from k on announce is what all do
-    abbrev pub Rest : ℕ → Type 0
-    Rest k = of (lists_of (values_in (drop k (rows_in t)) s (drop k l))) ≡ of (lists_of (values_in (rows_in t) s l))
+    pub slot_more : {room₀ room m : List ℕ} {at next q : ℕ} → next + 8 ≤ length room
+        → Wrote room₀ at (each_octets slot_octets (take k (values_in t s l))) room next
+        → Wrote room next (slot_octets (value_in r.kind s v)) m q
+        → (q ≡ next + 8) × Wrote room₀ at (each_octets slot_octets (take (k + 1) (values_in t s l))) m q
+    slot_more {room} {m} {next} {q} b w x =
+        let n = values_length t s l z in (
+          omega (arith, x.next, slot_size (value_in r.kind s v)),
+          wrote_more slot_octets (values_in t s l) k absent (omega arith) w (rw (← value_here) at x),
+        )
 
-    pub rest_more : (reading : List ℕ → ℕ → Read (List A)) (front : List ℕ) (k : ℕ) → k < length (rows_in t)
-        → ListBegins of reading (value_in (get_or t.rows k no_row).kind s (get_or l k no_span)) front Nowhere → Rest k → Rest (k + 1)
-    rest_more reading front k h b r =
-        let g = value_in (get_or t.rows k no_row).kind s (get_or l k no_span) in
-        let e : values_in (drop k (rows_in t)) s (drop k l) ≡ g ∷ values_in (drop (k + 1) (rows_in t)) s (drop (k + 1) l)
-        = rw (row_at t k h) (values_from (rows_in t) s l k h z) in
-        sym (b (values_in (drop (k + 1) (rows_in t)) s (drop (k + 1) l))) ∙ (ap (λ (vs : List (Given Span)). of (lists_of vs)) (sym e) ∙ r)
-
-    pub rest_found : (reading : List ℕ → ℕ → Read (List A)) (front : List ℕ) (k at : ℕ) → k < length (rows_in t)
-        → ListBegins of reading (value_in (get_or t.rows k no_row).kind s (get_or l k no_span)) front (At at) → Rest k
-        → reading front at ≡ got (of (lists_of (values_in (rows_in t) s l)))
-    rest_found reading front k at h b r =
-        let g = value_in (get_or t.rows k no_row).kind s (get_or l k no_span) in
-        let e : values_in (drop k (rows_in t)) s (drop k l) ≡ g ∷ values_in (drop (k + 1) (rows_in t)) s (drop (k + 1) l)
-        = rw (row_at t k h) (values_from (rows_in t) s l k h z) in
-        b.1 ∙ ap got (sym (b.2 (values_in (drop (k + 1) (rows_in t)) s (drop (k + 1) l))) ∙ (ap (λ (vs : List (Given Span)). of (lists_of vs)) (sym e) ∙ r))
-
-    pub rest_none : (k : ℕ) → length (rows_in t) ≤ k → Rest k → of (lists_of (values_in (rows_in t) s l)) ≡ of (lists_of {C = Span} [])
+    values_from : values_in (drop k t) s (drop k l) ≡ value_in r.kind s v ∷ values_in (drop (k + 1) t) s (drop (k + 1) l)
     unfolding values_in
-    rest_none k h r = sym r ∙ ap (λ (x : List Row). of (lists_of (values_in x s (drop k l)))) (drop_of_length-le (rows_in t) h)
+    values_from = let b : k < length l = omega arith in rw (d, f, add-one k, drop-cons t k no_row h, drop-cons l k no_span b)
+
+    -- ---- lists
+    module _ {A : Type 0} (of : Lists → List A) (reading : List ℕ → ℕ → Read (List A)) (front : List ℕ) where
+      abbrev behind : List (Given Span)
+      behind = values_in (drop (k + 1) t) s (drop (k + 1) l)
+
+      pub rest_more : ListBegins of reading (value_in r.kind s v) front None → Rest of t s l k → Rest of t s l (k + 1)
+      rest_more b r = sym (b behind) ∙ (ap (λ (vs : List (Given Span)). of (lists_of vs)) (sym values_from) ∙ r)
+
+      pub rest_found : {at : ℕ} → ListBegins of reading (value_in r.kind s v) front (Some at) → Rest of t s l k → reading front at ≡ Ok (of (lists_of (values_in t s l)))
+      rest_found b r = b.1 ∙ ap Ok (sym (b.2 behind) ∙ (ap (λ (vs : List (Given Span)). of (lists_of vs)) (sym values_from) ∙ r))
+
+  pub rest_none : {A : Type 0} (of : Lists → List A) (k : ℕ) → length t ≤ k → Rest of t s l k → of (lists_of (values_in t s l)) ≡ of (lists_of {C = Span} [])
+  unfolding values_in
+  rest_none of k h r = sym r ∙ ap (λ (x : List Row). of (lists_of (values_in x s (drop k l)))) (drop_of_length-le t h)
 
 -- ---- no list
 

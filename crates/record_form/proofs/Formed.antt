@@ -1,5 +1,6 @@
 -- Octets are a record's: slot by slot, then zeros, then the items and the entries that the slots announce, or none.
 -- Assumes nothing.
+use Rattle.std.specs.Prelude.{None, Some}
 use mathlib.Core.Path.{◌≡◌, ◌∙◌, refl, sym, ap}
 use mathlib.Core.Bool.{Bool, true, false, not, ◌&&◌, ◌||◌, and_assoc, and-false, or_assoc, or-false}
 use mathlib.Core.List.{List, [], ◌∷◌, ◌++◌, append_assoc}
@@ -29,9 +30,7 @@ use Rattle.octets.specs.declared.Span.{Span}
 use Rattle.layout.specs.Rows.{unless0, item_row, row_item, entry_row, row_entry, each_row, list_octets}
 use Rattle.layout.specs.Record.{Lists, no_lists, announced, lists_of, slot_octets, slot_of, slot_says, slots_say, lists_in, record_octets, said_record}
 use Rattle.layout.proofs.Sizes.{slot_size, slots_size, items_size, entries_size, rows_size}
-use Rattle.record_form.specs.declared.Form.{Form}
-use Rattle.record_form.specs.declared.Form.TheVariants.{Is, Not}
-use Rattle.record_form.specs.Form.{slot_good, says_items, says_entries, form_from, items_part, entries_part, zeros_at, behind_slots, formed}
+use Rattle.record_form.specs.Form.{Form, slot_good, says_items, says_entries, form_from, items_part, entries_part, zeros_at, behind_slots, formed}
 
 -- ---- parts of octets that are the same
 
@@ -85,16 +84,16 @@ abbrev some_entries : List Row → List ℕ → Bool
 some_entries [] p = false
 some_entries (r ∷ t) p = says_entries r.kind (get_or p 0 0) (get_or p 7 0) || some_entries t (drop 8 p)
 
-form_all : (a b : Bool) (t : List Row) (p : List ℕ) → form_from a b t p ≡ pick (slots_good t p) (Is (a || some_items t p) (b || some_entries t p)) Not
+form_all : (a b : Bool) (t : List Row) (p : List ℕ) → form_from a b t p ≡ pick (slots_good t p) (Some (record { items = a || some_items t p; entries = b || some_entries t p })) None
 unfolding form_from
 form_all a b [] p = rw (or-false a, or-false b)
 form_all a b (r ∷ t) p =
     let x = says_items r.kind (get_or p 0 0) in
     let y = says_entries r.kind (get_or p 0 0) (get_or p 7 0) in
-    by (slot_good r.kind p) (slots_good t (drop 8 p)) (Is (a || (x || some_items t (drop 8 p))) (b || (y || some_entries t (drop 8 p))))
+    by (slot_good r.kind p) (slots_good t (drop 8 p)) (Some (record { items = a || (x || some_items t (drop 8 p)); entries = b || (y || some_entries t (drop 8 p)) }))
     (form_all (a || x) (b || y) t (drop 8 p) ∙ rw (or_assoc a x (some_items t (drop 8 p)), or_assoc b y (some_entries t (drop 8 p))))
   where
-    by : (g s : Bool) (h : Form) {f : Form} → f ≡ pick s h Not → pick g f Not ≡ pick (g && s) h Not
+    by : (g s : Bool) (h : Form) {f : Form} → f ≡ pick s h None → pick g f None ≡ pick (g && s) h None
     by true s h e = e
     by false s h e = refl
 
@@ -276,7 +275,7 @@ module _ (t : List Row) (s : List ℕ) (l : length s ≡ 2662) (h : length t ≤
   pub formed_by : {f : Form} → f ≡ form_from false false t (drop 2 s) → behind_slots (length t) s f ≡ formed t s
   formed_by e = ap (behind_slots (length t) s) (e ∙ form_all false false t (drop 2 s)) ∙ by (slots_good t (drop 2 s)) ∙ sym parts
     where
-      by : (g : Bool) → behind_slots (length t) s (pick g (Is (some_items t (drop 2 s)) (some_entries t (drop 2 s))) Not)
+      by : (g : Bool) → behind_slots (length t) s (pick g (Some (record { items = some_items t (drop 2 s); entries = some_entries t (drop 2 s) })) None)
           ≡ (g && (zeros_at s (2 + 8 * length t) (96 - 8 * length t) && (items_part s (some_items t (drop 2 s)) && entries_part s (some_entries t (drop 2 s)))))
       by true = refl
       by false = refl

@@ -1,5 +1,6 @@
 -- A slot is that of what it says: by its first octet, what stands behind it, and zeros.
 -- Assumes nothing.
+use Rattle.std.specs.Prelude.{None, Option, Some}
 use mathlib.Core.Path.{◌≡◌, ◌∙◌, refl, sym, ap}
 use mathlib.Core.Bool.{Bool, true, false, not, ◌&&◌, and-true}
 use mathlib.Core.List.{List, [], ◌∷◌, ◌++◌}
@@ -15,10 +16,9 @@ use Rattle.octets.specs.Stands.{Octets}
 use Rattle.lent.specs.Lent.{same}
 use Rattle.rows.specs.declared.Kind.{Kind}
 use Rattle.rows.specs.declared.Kind.TheVariants as kind
-use Rattle.diagnostics.specs.declared.Number.{Number}
-use Rattle.diagnostics.specs.declared.Number.TheVariants as number
 use Rattle.layout.specs.Record.{slot_of, slot_says, head_slot_octets}
 use Rattle.record_form.specs.Form.{mark_of, used_by, maybe_good, head_good, rest_good, slot_good}
+use Rattle.record_form.specs.BadNames.{name_bad, slot_bad}
 use Rattle.record_form.proofs.Zeros.{eqb_sym}
 
 pub used_small : (k : Kind) → used_by k ≤ 8
@@ -48,14 +48,14 @@ two_same a b h k =
 
 -- ---- the head of diagnostics
 
-abbrev number_then : Number → ℕ → ℕ → Bool → Bool
-number_then (number.Is v) x y z = eqb 1 x && (eqb v y && z)
-number_then number.Absent x y z = eqb 0 x && (eqb 0 y && z)
+abbrev number_then : Option ℕ → ℕ → ℕ → Bool → Bool
+number_then (Some v) x y z = eqb 1 x && (eqb v y && z)
+number_then None x y z = eqb 0 x && (eqb 0 y && z)
 
-number_then_lem : (x y : ℕ) (z : Bool) → number_then (pick (eqb x 0) number.Absent (number.Is y)) x y z ≡ (maybe_good x y && z)
+number_then_lem : (x y : ℕ) (z : Bool) → number_then (pick (eqb x 0) None (Some y)) x y z ≡ (maybe_good x y && z)
 number_then_lem x y z = by (eqb x 0) refl
   where
-    by : (b : Bool) → eqb x 0 ≡ b → number_then (pick b number.Absent (number.Is y)) x y z ≡ (pick b (eqb y 0) (eqb x 1) && z)
+    by : (b : Bool) → eqb x 0 ≡ b → number_then (pick b None (Some y)) x y z ≡ (pick b (eqb y 0) (eqb x 1) && z)
     by true e = rw (eq-eqb 0 x (sym (eqb-true x 0 e)), eqb_sym y 0)
     by false e = rw (eqb_self y, eqb_sym x 1)
 
@@ -69,26 +69,26 @@ listed_then h = and-true (eqb (pick (not (eqb h 0)) 1 0) h) ∙ by (eqb h 0) ref
         both_ways (eqb 1 h) (ltb h 2) (λ f. let o = eqb-true 1 h f in lt-ltb h 2 (omega arith)) (λ f. let o = ltb-true h 2 f in eq-eqb 1 h (omega arith))
 
 module _ (b c d e f g h : ℕ) where
-  head_same : (x y z : Number) (l : Bool) → let os = head_slot_octets (record { code = x; trigger = y; crit = z; listed = l }) in
+  head_same : (x y z : Option ℕ) (l : Bool) → let os = head_slot_octets (record { code = x; trigger = y; crit = z; listed = l }) in
       same (os ++ replicate (8 - length (1 ∷ os)) 0) (b ∷ c ∷ d ∷ e ∷ f ∷ g ∷ h ∷ [])
       ≡ number_then x b c (number_then y d e (number_then z f g (eqb (pick l 1 0) h && true)))
   unfolding same
-  head_same (number.Is u) (number.Is v) (number.Is w) true = refl
-  head_same (number.Is u) (number.Is v) (number.Is w) false = refl
-  head_same (number.Is u) (number.Is v) number.Absent true = refl
-  head_same (number.Is u) (number.Is v) number.Absent false = refl
-  head_same (number.Is u) number.Absent (number.Is w) true = refl
-  head_same (number.Is u) number.Absent (number.Is w) false = refl
-  head_same (number.Is u) number.Absent number.Absent true = refl
-  head_same (number.Is u) number.Absent number.Absent false = refl
-  head_same number.Absent (number.Is v) (number.Is w) true = refl
-  head_same number.Absent (number.Is v) (number.Is w) false = refl
-  head_same number.Absent (number.Is v) number.Absent true = refl
-  head_same number.Absent (number.Is v) number.Absent false = refl
-  head_same number.Absent number.Absent (number.Is w) true = refl
-  head_same number.Absent number.Absent (number.Is w) false = refl
-  head_same number.Absent number.Absent number.Absent true = refl
-  head_same number.Absent number.Absent number.Absent false = refl
+  head_same (Some u) (Some v) (Some w) true = refl
+  head_same (Some u) (Some v) (Some w) false = refl
+  head_same (Some u) (Some v) None true = refl
+  head_same (Some u) (Some v) None false = refl
+  head_same (Some u) None (Some w) true = refl
+  head_same (Some u) None (Some w) false = refl
+  head_same (Some u) None None true = refl
+  head_same (Some u) None None false = refl
+  head_same None (Some v) (Some w) true = refl
+  head_same None (Some v) (Some w) false = refl
+  head_same None (Some v) None true = refl
+  head_same None (Some v) None false = refl
+  head_same None None (Some w) true = refl
+  head_same None None (Some w) false = refl
+  head_same None None None true = refl
+  head_same None None None false = refl
 
 -- ---- a slot of eight octets
 
@@ -118,7 +118,7 @@ module _ (a b c d e f g h : ℕ) (q : List ℕ) (bo : b < 256) (co : c < 256) (d
   parts kind.Acknowledged z = rw (ne_eqb a 0 z) (simp (and-true, eqb_sym 1 a))
   parts (kind.Diagnostics t) z =
       rw (ne_eqb a 0 z, eqb_sym 1 a)
-      (ap (eqb a 1 &&◌) (head_same b c d e f g h (pick (eqb b 0) number.Absent (number.Is c)) (pick (eqb d 0) number.Absent (number.Is e)) (pick (eqb f 0) number.Absent (number.Is g)) (not (eqb h 0))
+      (ap (eqb a 1 &&◌) (head_same b c d e f g h (pick (eqb b 0) None (Some c)) (pick (eqb d 0) None (Some e)) (pick (eqb f 0) None (Some g)) (not (eqb h 0))
       ∙ rw (number_then_lem b c, number_then_lem d e, number_then_lem f g, listed_then h)))
 
 module _ (k : Kind) (p : List ℕ) (l : 8 ≤ length p) (o : Octets p) where
@@ -139,3 +139,54 @@ module _ (k : Kind) (p : List ℕ) (l : 8 ≤ length p) (o : Octets p) where
 pub slot_none : (k : Kind) (p : List ℕ) → get_or p 0 0 ≡ 0 → slot_good k p ≡ same (replicate 8 0) (take 8 p)
 unfolding slot_good
 slot_none k p e = rw (eq-eqb (get_or p 0 0) 0 e)
+
+-- ---- what stands behind eight octets says nothing of their slot
+
+pub front_of : {A : Type 0} (f : List ℕ → A)
+    → ((a b c d e f₁ g h : ℕ) (q : List ℕ) → f (a ∷ b ∷ c ∷ d ∷ e ∷ f₁ ∷ g ∷ h ∷ []) ≡ f (a ∷ b ∷ c ∷ d ∷ e ∷ f₁ ∷ g ∷ h ∷ q))
+    → (p : List ℕ) → 8 ≤ length p → f (take 8 p) ≡ f p
+front_of f is (a ∷ b ∷ c ∷ d ∷ e ∷ x ∷ g ∷ h ∷ q) l = is a b c d e x g h q
+front_of f is (a ∷ b ∷ c ∷ d ∷ e ∷ x ∷ g ∷ []) l = absurd (omega arith)
+front_of f is (a ∷ b ∷ c ∷ d ∷ e ∷ x ∷ []) l = absurd (omega arith)
+front_of f is (a ∷ b ∷ c ∷ d ∷ e ∷ []) l = absurd (omega arith)
+front_of f is (a ∷ b ∷ c ∷ d ∷ []) l = absurd (omega arith)
+front_of f is (a ∷ b ∷ c ∷ []) l = absurd (omega arith)
+front_of f is (a ∷ b ∷ []) l = absurd (omega arith)
+front_of f is (a ∷ []) l = absurd (omega arith)
+front_of f is [] l = absurd (omega arith)
+
+pub slot_front : (k : Kind) (p : List ℕ) → 8 ≤ length p → slot_good k (take 8 p) ≡ slot_good k p
+unfolding slot_good slot_says
+slot_front k = front_of (slot_good k) (by k)
+  where
+    by : (k : Kind) (a b c d e f g h : ℕ) (q : List ℕ) → slot_good k (a ∷ b ∷ c ∷ d ∷ e ∷ f ∷ g ∷ h ∷ []) ≡ slot_good k (a ∷ b ∷ c ∷ d ∷ e ∷ f ∷ g ∷ h ∷ q)
+    by kind.Carried a b c d e f g h q = refl
+    by kind.Mme a b c d e f g h q = refl
+    by kind.Mce a b c d e f g h q = refl
+    by kind.Tmgi a b c d e f g h q = refl
+    by kind.OneOctet a b c d e f g h q = refl
+    by kind.TwoOctets a b c d e f g h q = refl
+    by kind.Cause a b c d e f g h q = refl
+    by kind.Wait a b c d e f g h q = refl
+    by kind.Name a b c d e f g h q = refl
+    by kind.ResetType a b c d e f g h q = refl
+    by kind.Acknowledged a b c d e f g h q = refl
+    by (kind.Diagnostics t) a b c d e f g h q = refl
+
+pub bad_front : (values : List ℕ) (k : Kind) (p : List ℕ) → 8 ≤ length p → slot_bad values k (take 8 p) ≡ slot_bad values k p
+unfolding name_bad
+bad_front values k = front_of (slot_bad values k) (by k)
+  where
+    by : (k : Kind) (a b c d e f g h : ℕ) (q : List ℕ) → slot_bad values k (a ∷ b ∷ c ∷ d ∷ e ∷ f ∷ g ∷ h ∷ []) ≡ slot_bad values k (a ∷ b ∷ c ∷ d ∷ e ∷ f ∷ g ∷ h ∷ q)
+    by kind.Carried a b c d e f g h q = refl
+    by kind.Mme a b c d e f g h q = refl
+    by kind.Mce a b c d e f g h q = refl
+    by kind.Tmgi a b c d e f g h q = refl
+    by kind.OneOctet a b c d e f g h q = refl
+    by kind.TwoOctets a b c d e f g h q = refl
+    by kind.Cause a b c d e f g h q = refl
+    by kind.Wait a b c d e f g h q = refl
+    by kind.Name a b c d e f g h q = refl
+    by kind.ResetType a b c d e f g h q = refl
+    by kind.Acknowledged a b c d e f g h q = refl
+    by (kind.Diagnostics t) a b c d e f g h q = refl

@@ -1,5 +1,5 @@
 -- Scaffolding: no demand speaks of it. Whether octets are a record's, slot by slot, and what the slots announce.
-use Rattle.std.specs.Prelude.{ℕ, ◌+◌, ◌*◌, ◌-◌, Bool, true, false, not, ◌&&◌, ◌||◌, List, [], ◌∷◌, ◌++◌, ltb, eqb, get_or, take, drop, replicate}
+use Rattle.std.specs.Prelude.{ℕ, ◌+◌, ◌*◌, ◌-◌, Bool, true, false, not, ◌&&◌, ◌||◌, List, [], ◌∷◌, ◌++◌, ltb, eqb, get_or, take, drop, replicate, None, Option, Some}
 use Rattle.std.proofs.Math.Seq.{slice}
 use Rattle.lists.specs.Lists.{pick, fill}
 use Rattle.octets.specs.Many.{each_octets}
@@ -10,8 +10,7 @@ use Rattle.rows.specs.declared.Row.{Row}
 use Rattle.meaning.specs.Value.{given, absent}
 use Rattle.layout.specs.Rows.{unless0, item_row, entry_row, list_octets}
 use Rattle.layout.specs.Record.{lists_of, slot_octets, slot_says, slots_say, lists_in}
-use Rattle.record_form.specs.declared.Form.{Form}
-use Rattle.record_form.specs.declared.Form.TheVariants.{Is, Not}
+use Rattle.record_form.specs.declared.Announced.{Announced}
 
 -- ---- a slot
 
@@ -105,11 +104,14 @@ says_entries (kind.Diagnostics t) x y = pick (eqb x 0) false (not (eqb y 0))
 
 -- ---- the slots of a table's rows, behind some that announce items, or entries, or do not
 
+abbrev pub Form : Type 0
+Form = Option Announced
+
 unfoldable pub form_from : Bool → Bool → List Row → List ℕ → Form
-form_from items entries [] p = Is items entries
+form_from items entries [] p = Some (record { items = items; entries = entries })
 form_from items entries (r ∷ t) p =
     pick (slot_good r.kind p)
-    (form_from (items || says_items r.kind (get_or p 0 0)) (entries || says_entries r.kind (get_or p 0 0) (get_or p 7 0)) t (drop 8 p)) Not
+    (form_from (items || says_items r.kind (get_or p 0 0)) (entries || says_entries r.kind (get_or p 0 0) (get_or p 7 0)) t (drop 8 p)) None
 
 -- ---- a record behind its first two octets
 
@@ -131,5 +133,5 @@ entries_part s said = same (list_octets 1024 entry_row (pick said (lists_in s).e
 
 -- behind the slots of n rows: zeros, and the lists
 abbrev pub behind_slots : ℕ → List ℕ → Form → Bool
-behind_slots n s (Is items entries) = zeros_at s (2 + 8 * n) (96 - 8 * n) && (items_part s items && entries_part s entries)
-behind_slots n s Not = false
+behind_slots n s (Some a) = zeros_at s (2 + 8 * n) (96 - 8 * n) && (items_part s a.items && entries_part s a.entries)
+behind_slots n s None = false

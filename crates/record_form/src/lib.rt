@@ -1,36 +1,20 @@
 // Octets are a record's if they are those of what they say: each slot by its row's kind, zeros behind the last, and lists only where a slot announces them.
 #![tactic(auto)]
 
-ghost use Rattle.std.specs.Prelude.{◌≡◌, false, ◌||◌, ◌+◌, ◌≤◌, length, take, drop, replicate};
-ghost use Rattle.lent.specs.Lent.{same};
+ghost use Rattle.std.specs.Prelude.{◌≡◌, false, ◌+◌, ◌*◌, ◌≤◌, length, take, drop, Some};
 ghost use Rattle.rows.specs.Table.{rows_in};
 ghost use Rattle.layout.specs.Record.{name_refused};
 ghost use Rattle.record_form.specs.BadNames.{name_bad, slot_bad, slots_bad};
 ghost use Rattle.record_form.specs.Form.{mark_of, used_by, maybe_good, head_good, head_of, rest_good, slot_good, says_items, says_entries, form_from, items_part, entries_part, behind_slots, formed};
 
-use editions::{Edition, Named};
+use editions::Edition;
 use rows::{Kind, Rows};
 
-// Whether a slot announces items, and whether one announces entries; or the slots are not a record's.
+// Whether a slot announces items, and whether one announces entries.
 #[derive(Clone, Copy)]
-enum Form {
-    Is(bool, bool),
-    Not,
-}
-
-// No early exit: there are few octets, or they are zero.
-fn are_zeros(s: &[u8], from: usize, n: usize) -> bool
-    requires { from + n ≤ length s.now }
-    ensures { result ≡ same (replicate n 0) (take n (drop from s.now)) }
-{
-    let to = from + n;
-    let mut all: u8 = 0;
-    let mut i = from;
-    while i < to {
-        all = all | s[i];
-        i += 1;
-    }
-    all == 0
+struct Announced {
+    items: bool,
+    entries: bool,
 }
 
 // The first octet of a slot whose value is there: 1, or 2 for part of the interface.
@@ -38,23 +22,8 @@ fn mark_of(kind: Kind, there: u8) -> u8
     ensures { result ≡ mark_of kind there }
 {
     match kind {
-        Kind::ResetType => {
-            if there == 2 {
-                return 2;
-            }
-            1
-        }
-        Kind::Carried => 1,
-        Kind::Mme => 1,
-        Kind::Mce => 1,
-        Kind::Tmgi => 1,
-        Kind::OneOctet => 1,
-        Kind::TwoOctets => 1,
-        Kind::Cause => 1,
-        Kind::Wait => 1,
-        Kind::Name => 1,
-        Kind::Acknowledged => 1,
-        Kind::Diagnostics(_) => 1,
+        Kind::ResetType if there == 2 => 2,
+        _ => 1,
     }
 }
 
@@ -63,17 +32,11 @@ fn used_by(kind: Kind) -> usize
     ensures { result ≡ used_by kind }
 {
     match kind {
-        Kind::Carried => 5,
-        Kind::Mme => 3,
-        Kind::Mce => 3,
+        Kind::ResetType | Kind::Acknowledged => 1,
+        Kind::OneOctet | Kind::Wait => 2,
+        Kind::Mme | Kind::Mce | Kind::TwoOctets | Kind::Cause => 3,
+        Kind::Carried | Kind::Name => 5,
         Kind::Tmgi => 7,
-        Kind::OneOctet => 2,
-        Kind::TwoOctets => 3,
-        Kind::Cause => 3,
-        Kind::Wait => 2,
-        Kind::Name => 5,
-        Kind::ResetType => 1,
-        Kind::Acknowledged => 1,
         Kind::Diagnostics(_) => 8,
     }
 }
@@ -82,73 +45,50 @@ fn used_by(kind: Kind) -> usize
 fn is_maybe(there: u8, v: u8) -> bool
     ensures { result ≡ maybe_good there v }
 {
-    if there == 0 {
-        return v == 0;
-    }
-    there == 1
+    if there == 0 { v == 0 } else { there == 1 }
+}
+
+// The slot of the row at k.
+fn slot_at(s: &[u8], k: usize) -> &[u8; 8]
+    requires { 10 + 8 * k ≤ length s.now }
+    ensures { result.now ≡ take 8 (drop (2 + 8 * k) s.now) }
+{
+    s[2 + 8 * k..].first_chunk().unwrap()
 }
 
 // Procedure code, triggering message, criticality, and whether there is a list.
-fn is_head(s: &[u8], at: usize) -> bool
-    requires { at + 8 ≤ length s.now }
-    ensures { result ≡ head_good (drop at s.now) }
+#[tactic(auto, unfolding(crate::specs::Form::head_good))]
+fn is_head(p: &[u8; 8]) -> bool
+    ensures { result ≡ head_good p.now }
 {
-    if !is_maybe(s[at + 1], s[at + 2]) {
-        return false;
-    }
-    if !is_maybe(s[at + 3], s[at + 4]) {
-        return false;
-    }
-    if !is_maybe(s[at + 5], s[at + 6]) {
-        return false;
-    }
-    s[at + 7] < 2
+    is_maybe(p[1], p[2]) && is_maybe(p[3], p[4]) && is_maybe(p[5], p[6]) && p[7] < 2
 }
 
-fn is_head_of(kind: Kind, s: &[u8], at: usize) -> bool
-    requires { at + 8 ≤ length s.now }
-    ensures { result ≡ head_of kind (drop at s.now) }
+fn is_head_of(kind: Kind, p: &[u8; 8]) -> bool
+    ensures { result ≡ head_of kind p.now }
 {
     match kind {
-        Kind::Diagnostics(_) => is_head(s, at),
-        Kind::Carried => true,
-        Kind::Mme => true,
-        Kind::Mce => true,
-        Kind::Tmgi => true,
-        Kind::OneOctet => true,
-        Kind::TwoOctets => true,
-        Kind::Cause => true,
-        Kind::Wait => true,
-        Kind::Name => true,
-        Kind::ResetType => true,
-        Kind::Acknowledged => true,
+        Kind::Diagnostics(_) => is_head(p),
+        _ => true,
     }
 }
 
 // What a slot has behind its first octet, where its value is there.
-fn is_rest(kind: Kind, s: &[u8], at: usize) -> bool
-    requires { at + 8 ≤ length s.now }
-    ensures { result ≡ rest_good kind (drop at s.now) }
+#[tactic(auto, unfolding(crate::specs::Form::rest_good))]
+fn is_rest(kind: Kind, p: &[u8; 8]) -> bool
+    ensures { result ≡ rest_good kind p.now }
 {
-    let used = used_by(kind);
-    if !are_zeros(s, at + used, 8 - used) {
-        return false;
-    }
-    is_head_of(kind, s, at)
+    lent::all_zero(&p[used_by(kind)..]) && is_head_of(kind, p)
 }
 
-fn is_slot(kind: Kind, s: &[u8], at: usize) -> bool
-    requires { at + 8 ≤ length s.now }
-    ensures { result ≡ slot_good kind (drop at s.now) }
+fn is_slot(kind: Kind, p: &[u8; 8]) -> bool
+    ensures { result ≡ slot_good kind p.now }
 {
-    let there = s[at];
+    let there = p[0];
     if there == 0 {
-        return are_zeros(s, at, 8);
+        return lent::all_zero(p);
     }
-    if there != mark_of(kind, there) {
-        return false;
-    }
-    is_rest(kind, s, at)
+    there == mark_of(kind, there) && is_rest(kind, p)
 }
 
 // A part of the interface, or an acknowledgement.
@@ -158,16 +98,7 @@ fn says_items(kind: Kind, there: u8) -> bool
     match kind {
         Kind::ResetType => there == 2,
         Kind::Acknowledged => there != 0,
-        Kind::Carried => false,
-        Kind::Mme => false,
-        Kind::Mce => false,
-        Kind::Tmgi => false,
-        Kind::OneOctet => false,
-        Kind::TwoOctets => false,
-        Kind::Cause => false,
-        Kind::Wait => false,
-        Kind::Name => false,
-        Kind::Diagnostics(_) => false,
+        _ => false,
     }
 }
 
@@ -176,55 +107,27 @@ fn says_entries(kind: Kind, there: u8, listed: u8) -> bool
     ensures { result ≡ says_entries kind there listed }
 {
     match kind {
-        Kind::Diagnostics(_) => {
-            if there == 0 {
-                return false;
-            }
-            listed != 0
-        }
-        Kind::Carried => false,
-        Kind::Mme => false,
-        Kind::Mce => false,
-        Kind::Tmgi => false,
-        Kind::OneOctet => false,
-        Kind::TwoOctets => false,
-        Kind::Cause => false,
-        Kind::Wait => false,
-        Kind::Name => false,
-        Kind::ResetType => false,
-        Kind::Acknowledged => false,
+        Kind::Diagnostics(_) => there != 0 && listed != 0,
+        _ => false,
     }
 }
 
-fn either(a: bool, b: bool) -> bool
-    ensures { result ≡ (a || b) }
-{
-    if a {
-        return true;
-    }
-    b
-}
-
-fn form_of(rows: Rows, s: &[u8]) -> Form
+// What the slots announce, if they are a record's.
+fn form_of(rows: Rows, s: &[u8]) -> Option<Announced>
     requires { length s.now ≡ 2662 }
-    ensures { result ≡ form_from false false (rows_in rows) (drop 2 s.now) }
+    ensures { result ≡ form_from false false (rows_in rows.entry) (drop 2 s.now) }
 {
-    let n = rows::row_count(rows);
     let mut items = false;
     let mut entries = false;
-    let mut i: usize = 0;
-    while i < n {
-        let row = rows.rows[i];
-        let kind = row.kind;
-        let at = 2 + 8 * i;
-        if !is_slot(kind, s, at) {
-            return Form::Not;
+    for (i, row) in rows.rows.iter().enumerate() {
+        let slot = slot_at(s, i);
+        if !is_slot(row.kind, slot) {
+            return None;
         }
-        items = either(items, says_items(kind, s[at]));
-        entries = either(entries, says_entries(kind, s[at], s[at + 7]));
-        i += 1;
+        items |= says_items(row.kind, slot[0]);
+        entries |= says_entries(row.kind, slot[0], slot[7]);
     }
-    Form::Is(items, entries)
+    Some(Announced { items, entries })
 }
 
 // The items that a slot announces, or none.
@@ -232,9 +135,10 @@ fn is_items_part(said: bool, s: &[u8]) -> bool
     ensures { result ≡ items_part s.now said }
 {
     if said {
-        return item_rows::are_items(s);
+        item_rows::are_items(s)
+    } else {
+        item_rows::no_items(s)
     }
-    item_rows::no_items(s)
 }
 
 // The entries that a slot announces, or none.
@@ -242,79 +146,67 @@ fn is_entries_part(said: bool, s: &[u8]) -> bool
     ensures { result ≡ entries_part s.now said }
 {
     if said {
-        return entry_rows::are_entries(s);
+        entry_rows::are_entries(s)
+    } else {
+        entry_rows::no_entries_said(s)
     }
-    entry_rows::no_entries_said(s)
 }
 
 // What stands behind the slots of n rows.
-fn is_behind(n: usize, s: &[u8], form: Form) -> bool
+fn is_behind(n: usize, s: &[u8], announced: Announced) -> bool
     requires { (n ≤ 12) × (length s.now ≡ 2662) }
-    ensures { result ≡ behind_slots n s.now form }
+    ensures { result ≡ behind_slots n s.now (Some announced) }
 {
-    match form {
-        Form::Not => false,
-        Form::Is(items, entries) => {
-            if !are_zeros(s, 2 + 8 * n, 96 - 8 * n) {
-                return false;
-            }
-            if !is_items_part(items, s) {
-                return false;
-            }
-            is_entries_part(entries, s)
-        }
+    if !lent::all_zero(&s[2 + 8 * n..98]) {
+        return false;
     }
+    is_items_part(announced.items, s) && is_entries_part(announced.entries, s)
 }
 
 // Octets are those of a record of this table, behind the first two.
 pub fn is_formed(rows: Rows, s: &[u8]) -> bool
-    ensures { result ≡ formed (rows_in rows) s.now }
+    ensures { result ≡ formed (rows_in rows.entry) s.now }
 {
-    let n = rows::row_count(rows);
     if s.len() != 2662 {
         return false;
     }
-    is_behind(n, s, form_of(rows, s))
+    match form_of(rows, s) {
+        Some(announced) => is_behind(rows.rows.len(), s, announced),
+        None => false,
+    }
 }
 
 // ---- names
 
 // The slot's name is there, and is not allowed.
-fn is_name_bad(s: &[u8], at: usize, values: &[u8]) -> bool
-    requires { at + 8 ≤ length s.now }
-    ensures { result ≡ name_bad values.now (drop at s.now) }
+fn is_name_bad(p: &[u8; 8], values: &[u8]) -> bool
+    ensures { result ≡ name_bad values.now p.now }
 {
-    if s[at] == 0 {
+    if p[0] == 0 {
         return false;
     }
-    let from = numbers::wide16(numbers::two(s[at + 1], s[at + 2]));
-    let size = numbers::wide16(numbers::two(s[at + 3], s[at + 4]));
+    let from = usize::from(u16::from_be_bytes([p[1], p[2]]));
+    let size = usize::from(u16::from_be_bytes([p[3], p[4]]));
     !names::is_name(values, from, from + size)
 }
 
-fn is_slot_bad(kind: Kind, s: &[u8], at: usize, values: &[u8]) -> bool
-    requires { at + 8 ≤ length s.now }
-    ensures { result ≡ slot_bad values.now kind (drop at s.now) }
+fn is_slot_bad(kind: Kind, p: &[u8; 8], values: &[u8]) -> bool
+    ensures { result ≡ slot_bad values.now kind p.now }
 {
     match kind {
-        Kind::Name => is_name_bad(s, at, values),
+        Kind::Name => is_name_bad(p, values),
         _ => false,
     }
 }
 
 fn are_slots_bad(rows: Rows, s: &[u8], values: &[u8]) -> bool
     requires { length s.now ≡ 2662 }
-    ensures { result ≡ slots_bad values.now (rows_in rows) (drop 2 s.now) }
+    ensures { result ≡ slots_bad values.now (rows_in rows.entry) (drop 2 s.now) }
 {
-    let n = rows::row_count(rows);
-    let mut i: usize = 0;
-    while i < n {
-        let row = rows.rows[i];
-        let kind = row.kind;
-        if is_slot_bad(kind, s, 2 + 8 * i, values) {
+    for (i, row) in rows.rows.iter().enumerate() {
+        if is_slot_bad(row.kind, slot_at(s, i), values) {
             return true;
         }
-        i += 1;
     }
     false
 }
@@ -326,14 +218,9 @@ pub fn name_refused(e: Edition, s: &[u8], values: &[u8]) -> bool
     if s.len() != 2662 {
         return false;
     }
-    match editions::numbered(e, s[0]) {
-        Named::Other => false,
-        Named::Is(m) => {
-            let rows = editions::rows_of(e, m);
-            if are_slots_bad(rows, s, values) {
-                return is_formed(rows, s);
-            }
-            false
-        }
-    }
+    let Some(m) = editions::numbered(e, s[0]) else {
+        return false;
+    };
+    let rows = editions::rows_of(e, m);
+    are_slots_bad(rows, s, values) && is_formed(rows, s)
 }

@@ -1,14 +1,11 @@
 -- A reply as elements, by id and value; the table of its message lays them out. f and noted are of the message that is answered, kept are its items that have an identity.
 -- What a reply says of its own stands in Reply; the diagnostics and the items stand beside it.
-use Rattle.std.specs.Prelude.{ℕ, Bool, true, false, List, [], ◌∷◌, ◌++◌, map, eqb, ltb, length}
+use Rattle.identity.specs.declared.MceId.{MceId}
+use Rattle.identity.specs.declared.MmeId.{MmeId}
+use Rattle.std.specs.Prelude.{ℕ, Bool, true, false, List, [], ◌∷◌, ◌++◌, map, eqb, ltb, length, None, Option, Some}
 use Rattle.lists.specs.Lists.{pick}
-use Rattle.identity.specs.declared.Mme.{Mme}
-use Rattle.identity.specs.declared.Mme.TheVariants as mme
-use Rattle.identity.specs.declared.Mce.{Mce}
-use Rattle.identity.specs.declared.Mce.TheVariants as mce
 use Rattle.identity.specs.declared.Item.{Item}
 use Rattle.values.specs.declared.Cause.{Cause}
-use Rattle.diagnostics.specs.declared.Number.TheVariants as number
 use Rattle.diagnostics.specs.declared.Head.{Head}
 use Rattle.entries.specs.declared.Entry.{Entry}
 use Rattle.rows.specs.declared.Row.{Row}
@@ -74,13 +71,13 @@ falsely_constructed = protocol 5
 
 -- ---- elements that may be there
 
-abbrev pub mme_if : Mme → List Element
-mme_if (mme.Is m) = id_mme_mbms_m3ap_id is value.mme m ∷ []
-mme_if mme.Absent = []
+abbrev pub mme_if : Option MmeId → List Element
+mme_if (Some m) = id_mme_mbms_m3ap_id is value.mme m ∷ []
+mme_if None = []
 
-abbrev pub mce_if : Mce → List Element
-mce_if (mce.Is c) = id_mce_mbms_m3ap_id is value.mce c ∷ []
-mce_if mce.Absent = []
+abbrev pub mce_if : Option MceId → List Element
+mce_if (Some c) = id_mce_mbms_m3ap_id is value.mce c ∷ []
+mce_if None = []
 
 abbrev pub some_of : {A : Type 0} → List A → Bool
 some_of l = ltb 0 (length l)
@@ -90,17 +87,17 @@ diagnosing h es = id_criticality_diagnostics is value.diagnostics Three (record 
 
 -- the list alone; without one, none
 unfoldable pub list_only : List Entry → List Element
-list_only es = pick (some_of es) (diagnosing (record { code = number.Absent; trigger = number.Absent; crit = number.Absent; listed = true }) es) []
+list_only es = pick (some_of es) (diagnosing (record { code = None; trigger = None; crit = None; listed = true }) es) []
 
 -- procedure code, triggering message and procedure criticality as received in the frame; the list, if it is not empty
 unfoldable pub of_frame : Frame → List Entry → List Element
-of_frame f es = diagnosing (record { code = number.Is f.code; trigger = number.Is f.kind; crit = number.Is f.crit; listed = some_of es }) es
+of_frame f es = diagnosing (record { code = Some f.code; trigger = Some f.kind; crit = Some f.crit; listed = some_of es }) es
 
 -- whether an item has an identity
-abbrev carries : Mme → Mce → Bool
-carries (mme.Is m) c = true
-carries mme.Absent (mce.Is c) = true
-carries mme.Absent mce.Absent = false
+abbrev carries : Option MmeId → Option MceId → Bool
+carries (Some m) c = true
+carries None (Some c) = true
+carries None None = false
 
 abbrev pub has_identity : Item → Bool
 has_identity i = carries i.mme i.mce

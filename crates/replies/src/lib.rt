@@ -1,7 +1,7 @@
 // The replies, by what each says of its own. No code: their octets are put by `put_reply`.
 #![tactic(auto)]
 
-use identity::{Mce, MceId, Mme, MmeId};
+use identity::{MceId, MmeId};
 use values::Cause;
 
 #[derive(Clone, Copy)]
@@ -15,7 +15,7 @@ pub enum Reply {
     // of the items that have an identity
     AcknowledgeItems,
     // answer 5's ERROR INDICATION, with the identities that were read
-    Rejection(Mme, Mce, Cause),
+    Rejection(Option<MmeId>, Option<MceId>, Cause),
     // answer 8's
     PairNotHeld(MmeId, MceId),
 }

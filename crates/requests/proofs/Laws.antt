@@ -5,18 +5,19 @@
 --     seen_value    what a row gives, by the reading of its value
 --     seen_row      one row more
 -- Assumes nothing.
-use Prim.Native.Nat.{ℕ, suc, min, ◌+◌, ◌-◌, ◌<◌, ◌≤◌}
-use mathlib.Core.Path.{◌≡◌, ◌∙◌, refl, sym, ap}
+use Prim.Native.Nat.{ℕ, suc, min, ◌+◌, ◌<◌}
+use mathlib.Core.Path.{◌≡◌, ◌∙◌, refl, sym, ap, subst}
 use mathlib.Core.Bool.{Bool, true, false}
 use mathlib.Core.List.{List, []}
-use native.Mathlib.Omega.{arith}
 use native.Mathlib.Numerals.{add-one}
 use borrow.Author.Tests.{lt-ltb}
-use lib.ListN.{length, take, drop, get_or, length-take}
-use lib.Seq.{drop-cons, drop-length, get_or-take}
+use lib.ListN.{length, take, drop, get_or}
+use lib.Seq.{drop-cons, drop-length}
 use Rattle.lists.specs.Lists.{pick}
 use Rattle.lists.proofs.Slices.{take_within}
-use Rattle.octets.specs.Read.{Read, got, stop, ◌>>=◌, ◌>>◌}
+use Rattle.std.specs.Prelude.{Ok, Err, None, Some, Option}
+use Rattle.std.specs.Result.{result_ok}
+use Rattle.octets.specs.Read.{Read, ◌>>=◌, ◌>>◌}
 use Rattle.octets.specs.Field.{flag_at, plain_at, pad_at, ends_at}
 use Rattle.octets.specs.Span.{no_span, present}
 use Rattle.octets.specs.declared.Stop.{Stop}
@@ -25,38 +26,54 @@ use Rattle.items.specs.Items.{ResetType, whole, part, items_at, chosen_reset_at,
 use Rattle.rows.specs.declared.Row.{Row}
 use Rattle.rows.specs.declared.Kind.{Kind}
 use Rattle.rows.specs.declared.Kind.TheVariants as kind
-use Rattle.rows.specs.declared.Rows.{Rows}
-use Rattle.rows.specs.Table.{no_row, rows_in}
+use Rattle.rows.specs.Table.{no_row, meanings}
+use Rattle.values.specs.Values.{two_at, cause_at}
+use Rattle.names.specs.Names.{name_at}
+use Rattle.diagnostics.specs.Diagnostics.{diagnostics_at}
 use Rattle.octets.specs.declared.Span.{Span}
 use Rattle.meaning.specs.Value as value
 use Rattle.meaning.specs.Value.{Value, given, absent}
 use Rattle.meaning.specs.Reading.{within, or_absent, read_as, value_in, values_in}
 use Rattle.requests.specs.declared.Seen.{Seen}
-use Rattle.requests.specs.declared.MaybeReset.{MaybeReset}
-use Rattle.requests.specs.declared.MaybeReset.TheVariants as reset
+use Rattle.requests.specs.declared.Extent.{Extent}
+use Rattle.requests.specs.declared.Extent.TheVariants as extent
 use Rattle.requests.specs.Requests.{nothing, seeing, also, also_read, reset_seen, seen}
 
 pub also_within : {A : Type 0} (reading : List ℕ → ℕ → Read A) (kind : A → Value Span) (s : List ℕ) (v : Span) (x : Seen)
     → also (or_absent (within reading kind s v)) x ≡ also_read kind (reading (take v.to s) v.from) x
-unfolding ◌>>=◌
 also_within {A} reading kind s v x = by (reading (take v.to s) v.from)
   where
-    by : (r : Read A) → also (or_absent (r >>= λ a. got (kind a))) x ≡ also_read kind r x
-    by (got a) = refl
-    by (stop y) = refl
+    by : (r : Read A) → also (or_absent (r >>= λ a. Ok (kind a))) x ≡ also_read kind r x
+    by (Ok a) = refl
+    by (Err y) = refl
 
 pub unseen : {A : Type 0} (kind : A → Value Span) (r : Read A) (x : Seen) → ((a : A) → seeing (kind a) x ≡ x) → also_read kind r x ≡ x
-unseen kind (got a) x e = e a
-unseen kind (stop y) x e = refl
+unseen kind (Ok a) x e = e a
+unseen kind (Err y) x e = refl
+
+some_none : {A B : Type 0} {a : A} → ◌≡◌ {A = Option A} (Some a) None → B
+some_none {A} {B} {a} q = absurd (subst (λ (o : Option A). There o) q tt)
+  where
+    There : Option A → Type 0
+    There (Some x) = Unit
+    There None = ⊥
 
 -- ---- a Reset Type
 
-pub reset_none : (r : Read ResetType) {x : Stop} → ◌≡◌ {A = Read Unit} (stop x) (r >> got tt) → reset.Absent ≡ reset_seen r
-unfolding ◌>>=◌
-reset_none (got v) e = got_stop (sym e)
-reset_none (stop y) e = refl
+-- what a reading gives, where its stop is let go
+pub ok_some : {A : Type 0} (r : Read A) {o : Option A} {a : A} → o ≡ result_ok r → o ≡ Some a → Ok a ≡ r
+ok_some {A = A} (Ok v) {a = a} e q = let h : v ≡ a = cc in ap (λ x. Ok x) (sym h)
+ok_some {A = A} (Err x) {a = a} e q = let z : ◌≡◌ {A = Option A} None (Some a) = cc in some_none (sym z)
 
-part_seen : (b : Bool) (s : List ℕ) (at : ℕ) (v : ResetType) → got v ≡ chosen_reset_at b s at → pick b reset.Part reset.Whole ≡ reset_seen (got v)
+pub ok_none : {A : Type 0} (r : Read A) {o : Option A} → o ≡ result_ok r → o ≡ None → (x : Stop) × (Err x ≡ r)
+ok_none {A = A} (Ok v) e q = some_none (sym e ∙ q)
+ok_none (Err x) e q = (x, refl)
+
+pub reset_none : (r : Read ResetType) {x : Stop} → ◌≡◌ {A = Read Unit} (Err x) (r >> Ok tt) → None ≡ reset_seen r
+reset_none (Ok v) e = got_stop (sym e)
+reset_none (Err y) e = refl
+
+part_seen : (b : Bool) (s : List ℕ) (at : ℕ) (v : ResetType) → Ok v ≡ chosen_reset_at b s at → pick b (Some extent.Part) (Some extent.Whole) ≡ reset_seen (Ok v)
 part_seen true s at v e =
     let a = then_got (pad_at s at 2) _ e in
     let d = then_got (items_at s (at + 1)) _ a.2 in
@@ -67,21 +84,21 @@ part_seen false s at v e =
     let f = then_got (ends_at s (at + 1)) _ d.2 in
     ap reset_seen (sym f.2)
 
-pub reset_seen_lem : (s : List ℕ) (at : ℕ) {b : Bool} → ◌≡◌ {A = Read Unit} (got tt) (reset_at s at >> got tt) → got b ≡ flag_at s at 1 → pick b reset.Part reset.Whole ≡ reset_seen (reset_at s at)
+pub reset_seen_lem : (s : List ℕ) (at : ℕ) {b : Bool} → ◌≡◌ {A = Read Unit} (Ok tt) (reset_at s at >> Ok tt) → Ok b ≡ flag_at s at 1 → pick b (Some extent.Part) (Some extent.Whole) ≡ reset_seen (reset_at s at)
 unfolding reset_at
 reset_seen_lem s at {b} g h =
     let v = then_got (reset_at s at) _ g in
     let a = then_got (plain_at s at 0) _ v.1 in
     let d = then_got (flag_at s at 1) _ a.2 in
     let e : d.0 ≡ b = same_got (d.1 ∙ sym h) in
-    let r : got v.0 ≡ chosen_reset_at b s at = rw (← e) d.2 in
+    let r : Ok v.0 ≡ chosen_reset_at b s at = rw (← e) d.2 in
     part_seen b s at v.0 r ∙ ap reset_seen v.1
 
-pub reset_by_flag : (s : List ℕ) (at : ℕ) {b d : Bool} → ◌≡◌ {A = Read Unit} (got tt) (reset_at s at >> got tt) → got b ≡ flag_at s at 1 → b ≡ d → pick d reset.Part reset.Whole ≡ reset_seen (reset_at s at)
-reset_by_flag s at g h e = ap (λ y. pick y reset.Part reset.Whole) (sym e) ∙ reset_seen_lem s at g h
+pub reset_by_flag : (s : List ℕ) (at : ℕ) {b d : Bool} → ◌≡◌ {A = Read Unit} (Ok tt) (reset_at s at >> Ok tt) → Ok b ≡ flag_at s at 1 → b ≡ d → pick d (Some extent.Part) (Some extent.Whole) ≡ reset_seen (reset_at s at)
+reset_by_flag s at g h e = ap (λ y. pick y (Some extent.Part) (Some extent.Whole)) (sym e) ∙ reset_seen_lem s at g h
 
 -- where it can be read, its second bit is there
-pub flag_there : (s : List ℕ) (at : ℕ) {y : Stop} {A : Type 0} → ◌≡◌ {A = Read Unit} (got tt) (reset_at s at >> got tt) → ◌≡◌ {A = Read Bool} (stop y) (flag_at s at 1) → A
+pub flag_there : (s : List ℕ) (at : ℕ) {y : Stop} {A : Type 0} → ◌≡◌ {A = Read Unit} (Ok tt) (reset_at s at >> Ok tt) → ◌≡◌ {A = Read Bool} (Err y) (flag_at s at 1) → A
 unfolding reset_at
 flag_there s at g h =
     let v = then_got (reset_at s at) _ g in
@@ -89,15 +106,15 @@ flag_there s at g h =
     let d = then_got (flag_at s at 1) _ a.2 in
     got_stop (d.1 ∙ sym h)
 
-abbrev pub with_reset : MaybeReset → Seen → Seen
-with_reset reset.Absent x = x
-with_reset reset.Whole x = seeing {C = Span} (value.reset whole) x
-with_reset reset.Part x = seeing {C = Span} (value.reset (part [])) x
+abbrev pub with_reset : Option Extent → Seen → Seen
+with_reset None x = x
+with_reset (Some extent.Whole) x = seeing {C = Span} (value.reset whole) x
+with_reset (Some extent.Part) x = seeing {C = Span} (value.reset (part [])) x
 
 pub also_reset : (r : Read ResetType) (x : Seen) → with_reset (reset_seen r) x ≡ also_read value.reset r x
-also_reset (got whole) x = refl
-also_reset (got (part is)) x = refl
-also_reset (stop y) x = refl
+also_reset (Ok whole) x = refl
+also_reset (Ok (part is)) x = refl
+also_reset (Err y) x = refl
 
 -- ---- a row
 
@@ -138,6 +155,24 @@ carried_not_seen s v x = on (present v)
     on true = refl
     on false = refl
 
+-- of the other kinds the rules see nothing
+pub others_not_seen : (k : Kind) (s : List ℕ) (v : Span) (x : Seen)
+    → (k ≡ kind.Mme → ⊥) → (k ≡ kind.Mce → ⊥) → (k ≡ kind.Tmgi → ⊥) → (k ≡ kind.OneOctet → ⊥) → (k ≡ kind.ResetType → ⊥) → (k ≡ kind.Wait → ⊥)
+    → x ≡ also (value_in k s v) x
+unfolding read_as
+others_not_seen kind.Carried s v x _ _ _ _ _ _ = carried_not_seen s v x
+others_not_seen kind.Mme s v x e _ _ _ _ _ = absurd (e refl)
+others_not_seen kind.Mce s v x _ e _ _ _ _ = absurd (e refl)
+others_not_seen kind.Tmgi s v x _ _ e _ _ _ = absurd (e refl)
+others_not_seen kind.OneOctet s v x _ _ _ e _ _ = absurd (e refl)
+others_not_seen kind.TwoOctets s v x _ _ _ _ _ _ = not_seen kind.TwoOctets s v x two_at value.two refl (λ _. refl)
+others_not_seen kind.Cause s v x _ _ _ _ _ _ = not_seen kind.Cause s v x cause_at value.cause refl (λ _. refl)
+others_not_seen kind.Wait s v x _ _ _ _ _ e = absurd (e refl)
+others_not_seen kind.Name s v x _ _ _ _ _ _ = not_seen kind.Name s v x name_at value.name refl (λ _. refl)
+others_not_seen kind.ResetType s v x _ _ _ _ e _ = absurd (e refl)
+others_not_seen kind.Acknowledged s v x _ _ _ _ _ _ = not_seen kind.Acknowledged s v x items_at value.list refl (λ _. refl)
+others_not_seen (kind.Diagnostics t) s v x _ _ _ _ _ _ = not_seen (kind.Diagnostics t) s v x (diagnostics_at (meanings t)) (value.diagnostics t) refl (λ _. refl)
+
 -- behind the last row nothing is seen
 pub seen_none : (t : List Row) (l : List Span) (s : List ℕ) {n : ℕ} {x : Seen} → n ≡ length t → x ≡ nothing → x ≡ seen (values_in (drop n t) s l)
 unfolding values_in seen
@@ -151,10 +186,3 @@ seen_row t l s k x h g e = go (rw (add-one k) at e)
   where
     go : x ≡ seen (values_in (drop (suc k) t) s (drop (suc k) l)) → also (value_in (get_or t k no_row).kind s (get_or l k no_span)) x ≡ seen (values_in (drop k t) s (drop k l))
     go q = rw (drop-cons t k no_row h, drop-cons l k no_span g, ← q)
-
-pub seen_row_at : (t : Rows) (l : List Span) (s : List ℕ) (k : ℕ) (x : Seen) → 0 < k → k ≤ length (rows_in t) → k ≤ length l → x ≡ seen (values_in (drop k (rows_in t)) s (drop k l))
-    → also (value_in (get_or t.rows (k - 1) no_row).kind s (get_or l (k - 1) no_span)) x ≡ seen (values_in (drop (k - 1) (rows_in t)) s (drop (k - 1) l))
-seen_row_at t l s k x p h g e =
-    let z : k ≡ k - 1 + 1 = omega arith in
-    let b : k - 1 < t.count = omega (arith, length-take t.count t.rows) in
-    rw (← get_or-take t.count t.rows (k - 1) no_row b) (seen_row (rows_in t) l s (k - 1) x (omega arith) (omega arith) (rw z at e))

@@ -1,44 +1,37 @@
 -- What a message asks for: which request it is, by its name; and from its values the request, of which nothing is absent.
-use Rattle.std.specs.Prelude.{Bool, true, false, List, [], ◌∷◌}
+use Rattle.requests.specs.declared.Request.{Request}
+use Rattle.identity.specs.declared.MceId.{MceId}
+use Rattle.identity.specs.declared.Tmgi.{Tmgi}
+use Rattle.identity.specs.declared.MmeId.{MmeId}
+use Rattle.std.specs.Prelude.{Bool, true, false, List, [], ◌∷◌, Ok, Err, None, Option, Some, ℕ}
 use Rattle.identity.specs.declared.Item.{Item}
-use Rattle.identity.specs.declared.Mme.{Mme}
-use Rattle.identity.specs.declared.Mme.TheVariants as mme
-use Rattle.identity.specs.declared.Mce.{Mce}
-use Rattle.identity.specs.declared.Mce.TheVariants as mce
-use Rattle.identity.specs.declared.Session.{Session}
-use Rattle.identity.specs.declared.Session.TheVariants as session
 use Rattle.items.specs.Items.{ResetType, whole, part}
 use Rattle.editions.specs.declared.Message.{Message}
 use Rattle.editions.specs.declared.Message.TheVariants as message
-use Rattle.requests.specs.declared.MaybeTmgi.{MaybeTmgi}
-use Rattle.requests.specs.declared.MaybeTmgi.TheVariants as tmgi
-use Rattle.requests.specs.declared.MaybeWait.TheVariants as wait
-use Rattle.requests.specs.declared.MaybeReset.{MaybeReset}
-use Rattle.requests.specs.declared.MaybeReset.TheVariants as reset
+use Rattle.requests.specs.declared.Extent.{Extent}
+use Rattle.requests.specs.declared.Extent.TheVariants as extent
 use Rattle.requests.specs.declared.Seen.{Seen}
 use Rattle.requests.specs.declared.Ask.{Ask}
 use Rattle.requests.specs.declared.Ask.TheVariants as ask
 use Rattle.requests.specs.declared.Request.TheVariants as request
-use Rattle.requests.specs.declared.Wanted.{Wanted}
-use Rattle.requests.specs.declared.Wanted.TheVariants.{Is, Lacking}
 use Rattle.octets.specs.declared.Span.{Span}
-use Rattle.octets.specs.Read.{Read, got, stop}
+use Rattle.octets.specs.Read.{Read}
 use Rattle.layout.specs.Record.{lists_of}
 use Rattle.meaning.specs.Value as value
 use Rattle.meaning.specs.Value.{Value, Given, given, absent, Record}
 
 abbrev pub nothing : Seen
-nothing = record { mme = mme.Absent; mce = mce.Absent; tmgi = tmgi.Absent; session = session.Absent; wait = wait.Absent; reset = reset.Absent }
+nothing = record { mme = None; mce = None; tmgi = None; session = None; wait = None; reset = None }
 
 -- with one value more; a number of one octet is a Session Identity
 abbrev pub seeing : {C : Type 0} → Value C → Seen → Seen
-seeing (value.mme v) x = record { mme = mme.Is v; mce = x.mce; tmgi = x.tmgi; session = x.session; wait = x.wait; reset = x.reset }
-seeing (value.mce v) x = record { mme = x.mme; mce = mce.Is v; tmgi = x.tmgi; session = x.session; wait = x.wait; reset = x.reset }
-seeing (value.tmgi v) x = record { mme = x.mme; mce = x.mce; tmgi = tmgi.Is v; session = x.session; wait = x.wait; reset = x.reset }
-seeing (value.one v) x = record { mme = x.mme; mce = x.mce; tmgi = x.tmgi; session = session.Is v; wait = x.wait; reset = x.reset }
-seeing (value.wait v) x = record { mme = x.mme; mce = x.mce; tmgi = x.tmgi; session = x.session; wait = wait.Is v; reset = x.reset }
-seeing (value.reset whole) x = record { mme = x.mme; mce = x.mce; tmgi = x.tmgi; session = x.session; wait = x.wait; reset = reset.Whole }
-seeing (value.reset (part is)) x = record { mme = x.mme; mce = x.mce; tmgi = x.tmgi; session = x.session; wait = x.wait; reset = reset.Part }
+seeing (value.mme v) x = record { mme = Some v; mce = x.mce; tmgi = x.tmgi; session = x.session; wait = x.wait; reset = x.reset }
+seeing (value.mce v) x = record { mme = x.mme; mce = Some v; tmgi = x.tmgi; session = x.session; wait = x.wait; reset = x.reset }
+seeing (value.tmgi v) x = record { mme = x.mme; mce = x.mce; tmgi = Some v; session = x.session; wait = x.wait; reset = x.reset }
+seeing (value.one v) x = record { mme = x.mme; mce = x.mce; tmgi = x.tmgi; session = Some v; wait = x.wait; reset = x.reset }
+seeing (value.wait v) x = record { mme = x.mme; mce = x.mce; tmgi = x.tmgi; session = x.session; wait = Some v; reset = x.reset }
+seeing (value.reset whole) x = record { mme = x.mme; mce = x.mce; tmgi = x.tmgi; session = x.session; wait = x.wait; reset = (Some extent.Whole) }
+seeing (value.reset (part is)) x = record { mme = x.mme; mce = x.mce; tmgi = x.tmgi; session = x.session; wait = x.wait; reset = (Some extent.Part) }
 seeing (value.carried v) x = x
 seeing (value.two v) x = x
 seeing (value.cause v) x = x
@@ -95,29 +88,29 @@ answers_setup ask.Indication = false
 answers_setup ask.Nothing = false
 
 -- a request of which nothing is absent
-abbrev pub start_of : Mme → MaybeTmgi → Session → Wanted
-start_of (mme.Is m) (tmgi.Is t) s = Is (request.Start m t s)
-start_of (mme.Is m) tmgi.Absent s = Lacking
-start_of mme.Absent t s = Lacking
+abbrev pub start_of : Option MmeId → Option Tmgi → Option ℕ → Option Request
+start_of (Some m) (Some t) s = Some (request.Start m t s)
+start_of (Some m) None s = None
+start_of None t s = None
 
-abbrev pub stop_of : Mme → Mce → Wanted
-stop_of (mme.Is m) (mce.Is c) = Is (request.Stop m c)
-stop_of (mme.Is m) mce.Absent = Lacking
-stop_of mme.Absent y = Lacking
+abbrev pub stop_of : Option MmeId → Option MceId → Option Request
+stop_of (Some m) (Some c) = Some (request.Stop m c)
+stop_of (Some m) None = None
+stop_of None y = None
 
-abbrev pub reset_of : MaybeReset → Wanted
-reset_of reset.Whole = Is request.Whole
-reset_of reset.Part = Is request.Part
-reset_of reset.Absent = Lacking
+abbrev pub reset_of : Option Extent → Option Request
+reset_of (Some extent.Whole) = Some request.Whole
+reset_of (Some extent.Part) = Some request.Part
+reset_of None = None
 
-abbrev pub request_of : Ask → Seen → Wanted
+abbrev pub request_of : Ask → Seen → Option Request
 request_of ask.Start x = start_of x.mme x.tmgi x.session
 request_of ask.Stop x = stop_of x.mme x.mce
 request_of ask.Reset x = reset_of x.reset
-request_of ask.Indication x = Is request.Indication
-request_of ask.SetupResponse x = Is request.SetupResponse
-request_of ask.SetupFailure x = Is (request.SetupFailure x.wait)
-request_of ask.Nothing x = Lacking
+request_of ask.Indication x = Some request.Indication
+request_of ask.SetupResponse x = Some request.SetupResponse
+request_of ask.SetupFailure x = Some (request.SetupFailure x.wait)
+request_of ask.Nothing x = None
 
 -- the items beside a request
 abbrev pub items_in : Record → List Item
@@ -125,11 +118,11 @@ items_in r = (lists_of r.values).items
 
 -- with a value that is read; where it cannot be read, nothing more is seen
 abbrev pub also_read : {A : Type 0} → (A → Value Span) → Read A → Seen → Seen
-also_read kind (got v) x = seeing (kind v) x
-also_read kind (stop y) x = x
+also_read kind (Ok v) x = seeing (kind v) x
+also_read kind (Err y) x = x
 
 -- a Reset Type that is read
-abbrev pub reset_seen : Read ResetType → MaybeReset
-reset_seen (got whole) = reset.Whole
-reset_seen (got (part is)) = reset.Part
-reset_seen (stop y) = reset.Absent
+abbrev pub reset_seen : Read ResetType → Option Extent
+reset_seen (Ok whole) = Some extent.Whole
+reset_seen (Ok (part is)) = Some extent.Part
+reset_seen (Err y) = None

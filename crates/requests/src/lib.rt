@@ -2,7 +2,6 @@
 #![tactic(auto)]
 
 ghost use Rattle.std.specs.Prelude.{◌≡◌};
-ghost use Rattle.places.specs.Places.{spans_in};
 ghost use Rattle.rows.specs.Table.{rows_in};
 ghost use Rattle.values.specs.Values.{mme_at, mce_at, tmgi_at, one_at, wait_at};
 ghost use Rattle.items.specs.Items.{reset_at};
@@ -11,41 +10,26 @@ ghost use Rattle.meaning.specs.Reading.{value_in, values_in};
 ghost use Rattle.requests.specs.Requests.{nothing, also, also_read, reset_seen, seen, ask_of, asks, answers_setup, start_of, stop_of, reset_of, request_of};
 
 use editions::Message;
-use identity::{Mce, MceId, Mme, MmeId, Session, Tmgi};
-use octets::{Flag, Gate, Span};
+use identity::{MceId, MmeId, Tmgi};
+use octets::Span;
 use rows::{Kind, Rows};
-use values::{MceRead, MmeRead, OneRead, TmgiRead, WaitRead};
 
+// What a Reset Type resets; the items of a part stand beside it.
 #[derive(Clone, Copy)]
-pub enum MaybeTmgi {
-    Is(Tmgi),
-    Absent,
-}
-
-// Time to Wait, by its number.
-#[derive(Clone, Copy)]
-pub enum MaybeWait {
-    Is(u8),
-    Absent,
-}
-
-// A Reset Type; the items of a part stand beside it.
-#[derive(Clone, Copy)]
-pub enum MaybeReset {
+pub enum Extent {
     Whole,
     Part,
-    Absent,
 }
 
 // What the rules look at, of all values of a message.
 #[derive(Clone, Copy)]
 pub struct Seen {
-    pub mme: Mme,
-    pub mce: Mce,
-    pub tmgi: MaybeTmgi,
-    pub session: Session,
-    pub wait: MaybeWait,
-    pub reset: MaybeReset,
+    pub mme: Option<MmeId>,
+    pub mce: Option<MceId>,
+    pub tmgi: Option<Tmgi>,
+    pub session: Option<u8>,
+    pub wait: Option<u8>,
+    pub reset: Option<Extent>,
 }
 
 // Which request a message is.
@@ -66,7 +50,7 @@ pub enum Ask {
 // A request of which nothing is absent.
 #[derive(Clone, Copy)]
 pub enum Request {
-    Start(MmeId, Tmgi, Session),
+    Start(MmeId, Tmgi, Option<u8>),
     Stop(MmeId, MceId),
     // a reset of the whole interface
     Whole,
@@ -74,133 +58,17 @@ pub enum Request {
     Part,
     Indication,
     SetupResponse,
-    SetupFailure(MaybeWait),
+    SetupFailure(Option<u8>),
 }
 
-// A request, or a mandatory element is lacking.
-#[derive(Clone, Copy)]
-pub enum Wanted {
-    Is(Request),
-    Lacking,
-}
-
-fn nothing_seen() -> Seen
-    ensures { result ≡ nothing }
-{
-    Seen {
-        mme: Mme::Absent,
-        mce: Mce::Absent,
-        tmgi: MaybeTmgi::Absent,
-        session: Session::Absent,
-        wait: MaybeWait::Absent,
-        reset: MaybeReset::Absent,
-    }
-}
-
-fn with_mme(s: &[u8], at: usize, x: Seen) -> Seen
-    ensures { result ≡ also_read mme (mme_at s.now at) x }
-{
-    let c = x.mce;
-    let g = x.tmgi;
-    let v = x.session;
-    let z = x.wait;
-    let w = x.reset;
-    match values::mme_at(s, at) {
-        MmeRead::Is(m) => Seen {
-            mme: Mme::Is(m),
-            mce: c,
-            tmgi: g,
-            session: v,
-            wait: z,
-            reset: w,
-        },
-        MmeRead::Stop(_) => x,
-    }
-}
-
-fn with_mce(s: &[u8], at: usize, x: Seen) -> Seen
-    ensures { result ≡ also_read mce (mce_at s.now at) x }
-{
-    let m = x.mme;
-    let g = x.tmgi;
-    let v = x.session;
-    let z = x.wait;
-    let w = x.reset;
-    match values::mce_at(s, at) {
-        MceRead::Is(c) => Seen {
-            mme: m,
-            mce: Mce::Is(c),
-            tmgi: g,
-            session: v,
-            wait: z,
-            reset: w,
-        },
-        MceRead::Stop(_) => x,
-    }
-}
-
-fn with_tmgi(s: &[u8], at: usize, x: Seen) -> Seen
-    ensures { result ≡ also_read tmgi (tmgi_at s.now at) x }
-{
-    let m = x.mme;
-    let c = x.mce;
-    let v = x.session;
-    let z = x.wait;
-    let w = x.reset;
-    match values::tmgi_at(s, at) {
-        TmgiRead::Is(g) => Seen {
-            mme: m,
-            mce: c,
-            tmgi: MaybeTmgi::Is(g),
-            session: v,
-            wait: z,
-            reset: w,
-        },
-        TmgiRead::Stop(_) => x,
-    }
-}
-
-fn with_session(s: &[u8], at: usize, x: Seen) -> Seen
-    ensures { result ≡ also_read one (one_at s.now at) x }
-{
-    let m = x.mme;
-    let c = x.mce;
-    let g = x.tmgi;
-    let z = x.wait;
-    let w = x.reset;
-    match values::one_at(s, at) {
-        OneRead::Is(v) => Seen {
-            mme: m,
-            mce: c,
-            tmgi: g,
-            session: Session::Is(v),
-            wait: z,
-            reset: w,
-        },
-        OneRead::Stop(_) => x,
-    }
-}
-
-fn with_wait(s: &[u8], at: usize, x: Seen) -> Seen
-    ensures { result ≡ also_read wait (wait_at s.now at) x }
-{
-    let m = x.mme;
-    let c = x.mce;
-    let g = x.tmgi;
-    let v = x.session;
-    let w = x.reset;
-    match values::wait_at(s, at) {
-        WaitRead::Is(n) => Seen {
-            mme: m,
-            mce: c,
-            tmgi: g,
-            session: v,
-            wait: MaybeWait::Is(n),
-            reset: w,
-        },
-        WaitRead::Stop(_) => x,
-    }
-}
+const NOTHING: Seen = Seen {
+    mme: None,
+    mce: None,
+    tmgi: None,
+    session: None,
+    wait: None,
+    reset: None,
+};
 
 // Which request a message is.
 pub fn ask_of(m: Message) -> Ask
@@ -211,16 +79,16 @@ pub fn ask_of(m: Message) -> Ask
         Message::StopRequest => Ask::Stop,
         Message::Reset => Ask::Reset,
         Message::ErrorIndication => Ask::Indication,
-        Message::StartResponse => Ask::Nothing,
-        Message::StartFailure => Ask::Nothing,
-        Message::StopResponse => Ask::Nothing,
-        Message::ResetAcknowledge => Ask::Nothing,
-        Message::SetupRequest => Ask::Nothing,
         Message::SetupResponse => Ask::SetupResponse,
         Message::SetupFailure => Ask::SetupFailure,
-        Message::StopWarningRequest => Ask::Nothing,
-        Message::StopWarningResponse => Ask::Nothing,
-        Message::WarningErrorIndication => Ask::Nothing,
+        Message::StartResponse
+        | Message::StartFailure
+        | Message::StopResponse
+        | Message::ResetAcknowledge
+        | Message::SetupRequest
+        | Message::StopWarningRequest
+        | Message::StopWarningResponse
+        | Message::WarningErrorIndication => Ask::Nothing,
     }
 }
 
@@ -228,174 +96,159 @@ pub fn ask_of(m: Message) -> Ask
 pub fn asks(m: Message) -> bool
     ensures { result ≡ asks m }
 {
-    match ask_of(m) {
-        Ask::Nothing => false,
-        Ask::Start => true,
-        Ask::Stop => true,
-        Ask::Reset => true,
-        Ask::Indication => true,
-        Ask::SetupResponse => true,
-        Ask::SetupFailure => true,
-    }
+    !matches!(ask_of(m), Ask::Nothing)
 }
 
 // It answers a setup request.
 pub fn answers_setup(m: Message) -> bool
     ensures { result ≡ answers_setup (ask_of m) }
 {
-    match ask_of(m) {
-        Ask::SetupResponse => true,
-        Ask::SetupFailure => true,
-        Ask::Start => false,
-        Ask::Stop => false,
-        Ask::Reset => false,
-        Ask::Indication => false,
-        Ask::Nothing => false,
-    }
+    matches!(ask_of(m), Ask::SetupResponse | Ask::SetupFailure)
 }
 
-fn start_of(x: Mme, g: MaybeTmgi, session: Session) -> Wanted
-    ensures { result ≡ start_of x g session }
+fn start_of(mme: Option<MmeId>, tmgi: Option<Tmgi>, session: Option<u8>) -> Option<Request>
+    ensures { result ≡ start_of mme tmgi session }
 {
-    match x {
-        Mme::Is(m) => match g {
-            MaybeTmgi::Is(tmgi) => Wanted::Is(Request::Start(m, tmgi, session)),
-            MaybeTmgi::Absent => Wanted::Lacking,
-        },
-        Mme::Absent => Wanted::Lacking,
-    }
+    Some(Request::Start(mme?, tmgi?, session))
 }
 
-fn stop_of(x: Mme, y: Mce) -> Wanted
-    ensures { result ≡ stop_of x y }
+fn stop_of(mme: Option<MmeId>, mce: Option<MceId>) -> Option<Request>
+    ensures { result ≡ stop_of mme mce }
 {
-    match x {
-        Mme::Is(m) => match y {
-            Mce::Is(c) => Wanted::Is(Request::Stop(m, c)),
-            Mce::Absent => Wanted::Lacking,
-        },
-        Mme::Absent => Wanted::Lacking,
-    }
+    Some(Request::Stop(mme?, mce?))
 }
 
-fn reset_of(x: MaybeReset) -> Wanted
-    ensures { result ≡ reset_of x }
+fn reset_of(reset: Option<Extent>) -> Option<Request>
+    ensures { result ≡ reset_of reset }
 {
-    match x {
-        MaybeReset::Whole => Wanted::Is(Request::Whole),
-        MaybeReset::Part => Wanted::Is(Request::Part),
-        MaybeReset::Absent => Wanted::Lacking,
+    match reset? {
+        Extent::Whole => Some(Request::Whole),
+        Extent::Part => Some(Request::Part),
     }
 }
 
 // The request, by what is seen of the message.
-pub fn request_of(a: Ask, x: Seen) -> Wanted
+pub fn request_of(a: Ask, x: Seen) -> Option<Request>
     ensures { result ≡ request_of a x }
 {
-    let mme = x.mme;
-    let mce = x.mce;
-    let tmgi = x.tmgi;
-    let session = x.session;
-    let wait = x.wait;
-    let reset = x.reset;
     match a {
-        Ask::Start => start_of(mme, tmgi, session),
-        Ask::Stop => stop_of(mme, mce),
-        Ask::Reset => reset_of(reset),
-        Ask::Indication => Wanted::Is(Request::Indication),
-        Ask::SetupResponse => Wanted::Is(Request::SetupResponse),
-        Ask::SetupFailure => Wanted::Is(Request::SetupFailure(wait)),
-        Ask::Nothing => Wanted::Lacking,
+        Ask::Start => start_of(x.mme, x.tmgi, x.session),
+        Ask::Stop => stop_of(x.mme, x.mce),
+        Ask::Reset => reset_of(x.reset),
+        Ask::Indication => Some(Request::Indication),
+        Ask::SetupResponse => Some(Request::SetupResponse),
+        Ask::SetupFailure => Some(Request::SetupFailure(x.wait)),
+        Ask::Nothing => None,
     }
 }
 
 // A Reset Type that can be read says in its second bit whether it is a part.
-fn reset_in(s: &[u8], at: usize) -> MaybeReset
+fn reset_in(s: &[u8], at: usize) -> Option<Extent>
     ensures { result ≡ reset_seen (reset_at s.now at) }
 {
-    match item_words::reset_gate(s, at) {
-        Gate::Pass => {}
-        Gate::Stop(_) => {
-            return MaybeReset::Absent;
-        }
+    item_words::reset_gate(s, at).ok()?;
+    let part = octets::flag_at(s, at, 1).ok()?;
+    Some(if part { Extent::Part } else { Extent::Whole })
+}
+
+fn with_mme(s: &[u8], at: usize, x: Seen) -> Seen
+    ensures { result ≡ also_read mme (mme_at s.now at) x }
+{
+    match values::identity_at::<MmeId>(s, at) {
+        Ok(mme) => Seen {
+            mme: Some(mme),
+            ..x
+        },
+        Err(_) => x,
     }
-    match octets::flag_at(s, at, 1) {
-        Flag::Is(part) => {
-            if part {
-                return MaybeReset::Part;
-            }
-            MaybeReset::Whole
-        }
-        Flag::Stop(_) => MaybeReset::Absent,
+}
+
+fn with_mce(s: &[u8], at: usize, x: Seen) -> Seen
+    ensures { result ≡ also_read mce (mce_at s.now at) x }
+{
+    match values::identity_at::<MceId>(s, at) {
+        Ok(mce) => Seen {
+            mce: Some(mce),
+            ..x
+        },
+        Err(_) => x,
+    }
+}
+
+fn with_tmgi(s: &[u8], at: usize, x: Seen) -> Seen
+    ensures { result ≡ also_read tmgi (tmgi_at s.now at) x }
+{
+    match values::tmgi_at(s, at) {
+        Ok(tmgi) => Seen {
+            tmgi: Some(tmgi),
+            ..x
+        },
+        Err(_) => x,
+    }
+}
+
+fn with_session(s: &[u8], at: usize, x: Seen) -> Seen
+    ensures { result ≡ also_read one (one_at s.now at) x }
+{
+    match values::one_at(s, at) {
+        Ok(session) => Seen {
+            session: Some(session),
+            ..x
+        },
+        Err(_) => x,
+    }
+}
+
+fn with_wait(s: &[u8], at: usize, x: Seen) -> Seen
+    ensures { result ≡ also_read wait (wait_at s.now at) x }
+{
+    match values::wait_at(s, at) {
+        Ok(wait) => Seen {
+            wait: Some(wait),
+            ..x
+        },
+        Err(_) => x,
     }
 }
 
 fn with_reset(s: &[u8], at: usize, x: Seen) -> Seen
     ensures { result ≡ also_read reset (reset_at s.now at) x }
 {
-    let m = x.mme;
-    let c = x.mce;
-    let g = x.tmgi;
-    let v = x.session;
-    let z = x.wait;
     match reset_in(s, at) {
-        MaybeReset::Absent => x,
-        MaybeReset::Whole => Seen {
-            mme: m,
-            mce: c,
-            tmgi: g,
-            session: v,
-            wait: z,
-            reset: MaybeReset::Whole,
+        Some(extent) => Seen {
+            reset: Some(extent),
+            ..x
         },
-        MaybeReset::Part => Seen {
-            mme: m,
-            mce: c,
-            tmgi: g,
-            session: v,
-            wait: z,
-            reset: MaybeReset::Part,
-        },
+        None => x,
     }
 }
 
-// With the value of a row more, by the row's kind.
+// With the value of a row more, by the row's kind. Of one that cannot be read nothing more is seen.
 fn with_value(kind: Kind, s: &[u8], v: Span, x: Seen) -> Seen
     ensures { result ≡ also (value_in kind s.now v) x }
 {
     if v.to == 0 {
         return x;
     }
-    let from = v.from;
-    let to = numbers::lesser(v.to, s.len());
+    let inside = &s[..v.to.min(s.len())];
     match kind {
-        Kind::Mme => with_mme(&s[..to], from, x),
-        Kind::Mce => with_mce(&s[..to], from, x),
-        Kind::Tmgi => with_tmgi(&s[..to], from, x),
-        Kind::OneOctet => with_session(&s[..to], from, x),
-        Kind::ResetType => with_reset(&s[..to], from, x),
-        Kind::Carried => x,
-        Kind::TwoOctets => x,
-        Kind::Cause => x,
-        Kind::Acknowledged => x,
-        Kind::Diagnostics(_) => x,
-        Kind::Name => x,
-        Kind::Wait => with_wait(&s[..to], from, x),
+        Kind::Mme => with_mme(inside, v.from, x),
+        Kind::Mce => with_mce(inside, v.from, x),
+        Kind::Tmgi => with_tmgi(inside, v.from, x),
+        Kind::OneOctet => with_session(inside, v.from, x),
+        Kind::ResetType => with_reset(inside, v.from, x),
+        Kind::Wait => with_wait(inside, v.from, x),
+        _ => x,
     }
 }
 
 // What is seen of a message, from where the value of each row of its table stands.
-pub fn seen_in(t: Rows, s: &[u8], places: &[usize; 24]) -> Seen
-    ensures { result ≡ seen (values_in (rows_in t) s.now (spans_in places.now)) }
+pub fn seen_in(t: Rows, s: &[u8], places: &[Span; 12]) -> Seen
+    ensures { result ≡ seen (values_in (rows_in t.entry) s.now places.now) }
 {
-    let mut k = rows::row_count(t);
-    let mut x = nothing_seen();
-    while 0 < k {
-        k -= 1;
-        let r = t.rows[k];
-        let kind = r.kind;
-        let v = places::span_in(places, k);
-        x = with_value(kind, s, v, x);
+    let mut x = NOTHING;
+    for k in (0..t.rows.len()).rev() {
+        x = with_value(t.rows[k].kind, s, places[k], x);
     }
     x
 }

@@ -1,4 +1,6 @@
 -- What names an association stands in one of its two slots.
+use Rattle.std.specs.Prelude.{None, Option, Some}
+use Rattle.identity.specs.declared.MceId.{MceId}
 use mathlib.Core.Path.{◌≡◌, refl, ap, sym, ◌∙◌}
 use mathlib.Core.Bool.{Bool, true, false, ◌&&◌, ◌||◌, or-true, and-true, and-false, true≢false}
 use mathlib.Core.List.{List, map}
@@ -14,10 +16,6 @@ use Rattle.lists.proofs.Slices.{take_within}
 use Rattle.lists.proofs.Places.{some_places}
 use Rattle.lists.proofs.Chains.{Walk, walk_first, walk_all, walk_at, walk_found, walk_more, walk-less}
 use Rattle.identity.specs.declared.MmeId.{MmeId}
-use Rattle.identity.specs.declared.Mme.{Mme}
-use Rattle.identity.specs.declared.Mme.TheVariants as mme
-use Rattle.identity.specs.declared.Mce.{Mce}
-use Rattle.identity.specs.declared.Mce.TheVariants as mce
 use Rattle.identity.specs.declared.Item.{Item}
 use Rattle.item_words.specs.Words.{item_of}
 use Rattle.table.specs.Table.{has_mme, has_mce, names, named}
@@ -29,11 +27,11 @@ first : (a : Association) (m : MmeId) (b : Bool) → has_mme m a ≡ true → (e
 first a m b e = let n : m.0 ≡ a.mme.0 = sym (eqb-true a.mme.0 m.0 e) in rw (eq-eqb (mme_slot m) (mme_slot a.mme) (ap (◌% 4096) n))
 
 -- what names it stands in one of them
-there : (a : Association) (x : Mme) (y : Mce) → names (record { mme = x; mce = y }) a ≡ true → (eqb (identities_slot x y) (mme_slot a.mme) || eqb (identities_slot x y) (mce_slot a.mce)) ≡ true
-there a (mme.Is m) (mce.Is c) e = first a m _ (and_left (has_mme m a) (has_mce c a) e)
-there a (mme.Is m) mce.Absent e = first a m _ e
-there a mme.Absent (mce.Is c) e = let n : c.0 ≡ a.mce.0 = sym (eqb-true _ _ e) in rw (eq-eqb (mce_slot c) (mce_slot a.mce) (ap (◌% 4096) n)) (or-true (eqb (mce_slot c) (mme_slot a.mme)))
-there a mme.Absent mce.Absent e = absurd (true≢false (sym e))
+there : (a : Association) (x : Option MmeId) (y : Option MceId) → names (record { mme = x; mce = y }) a ≡ true → (eqb (identities_slot x y) (mme_slot a.mme) || eqb (identities_slot x y) (mce_slot a.mce)) ≡ true
+there a (Some m) (Some c) e = first a m _ (and_left (has_mme m a) (has_mce c a) e)
+there a (Some m) None e = first a m _ e
+there a None (Some c) e = let n : c.0 ≡ a.mce.0 = sym (eqb-true _ _ e) in rw (eq-eqb (mce_slot c) (mce_slot a.mce) (ap (◌% 4096) n)) (or-true (eqb (mce_slot c) (mme_slot a.mme)))
+there a None None e = absurd (true≢false (sym e))
 
 in_either : (a : Association) (i : Item) → names i a ≡ (names_in (mme_slot a.mme) a i || names_in (mce_slot a.mce) a i)
 unfolding item_slot

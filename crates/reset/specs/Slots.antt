@@ -1,13 +1,9 @@
 -- Scaffolding: no demand speaks of it. How the items of a reset are chained by identity, so that each association meets few of them. What a reset means is `without`.
-use Rattle.std.specs.Prelude.{Bool, not, ◌&&◌, List, ℕ, min, ◌%◌, eqb, length, get_or}
+use Rattle.std.specs.Prelude.{Bool, not, ◌&&◌, List, ℕ, min, ◌%◌, eqb, length, get_or, None, Option, Some}
 use Rattle.lists.specs.Lists.{some}
 use Rattle.lists.specs.Chains.{Chained}
 use Rattle.identity.specs.declared.MmeId.{MmeId}
 use Rattle.identity.specs.declared.MceId.{MceId}
-use Rattle.identity.specs.declared.Mme.{Mme}
-use Rattle.identity.specs.declared.Mme.TheVariants as mme
-use Rattle.identity.specs.declared.Mce.{Mce}
-use Rattle.identity.specs.declared.Mce.TheVariants as mce
 use Rattle.identity.specs.declared.Item.{Item}
 use Rattle.item_words.specs.Words.{item_of}
 use Rattle.table.specs.Table.{State, names}
@@ -21,10 +17,10 @@ abbrev pub mce_slot : MceId → ℕ
 mce_slot c = c.0 % 4096
 
 -- by the MME identity, else by the MCE identity; 4,096 is no slot
-abbrev pub identities_slot : Mme → Mce → ℕ
-identities_slot (mme.Is m) y = mme_slot m
-identities_slot mme.Absent (mce.Is c) = mce_slot c
-identities_slot mme.Absent mce.Absent = 4096
+abbrev pub identities_slot : Option MmeId → Option MceId → ℕ
+identities_slot (Some m) y = mme_slot m
+identities_slot None (Some c) = mce_slot c
+identities_slot None None = 4096
 
 unfoldable pub item_slot : Item → ℕ
 item_slot i = identities_slot i.mme i.mce

@@ -1,41 +1,32 @@
 // The partial reset in about linear work: the items are chained by identity, and each association looks in two chains.
 #![tactic(auto)]
 
-ghost use Rattle.std.specs.Prelude.{◌&&◌, ◌≡◌, ◌<◌, map, leb, length, replicate, take};
+ghost use Rattle.std.specs.Prelude.{◌&&◌, ◌≡◌, ◌<◌, ◌%◌, map, leb, length, replicate, take};
 ghost use Rattle.lists.specs.Lists.{some};
 ghost use Rattle.lent.specs.Lent.{first_rows};
 ghost use Rattle.item_words.specs.Words.{item_of};
 ghost use Rattle.table.specs.Table.{held, table_holding, named, without};
-ghost use Rattle.reset.specs.Slots.{mme_slot, mce_slot, item_slot, names_in, Slotted, names_none};
+ghost use Rattle.reset.specs.Slots.{item_slot, names_in, Slotted, names_none};
 
-use identity::{Item, Mce, MceId, Mme, MmeId};
+use identity::{Identity, Item};
 use table::{Association, Table};
 
 // Where items with an identity are chained: by its low bits, in slots that both series share.
-fn mme_slot(m: MmeId) -> usize
-    ensures { result ≡ mme_slot m }
+fn slot_of<I: Identity>(x: I) -> usize
+    ensures { result ≡ I.number x % 4096 }
 {
-    (m.0 % 4096) as usize
-}
-
-fn mce_slot(c: MceId) -> usize
-    ensures { result ≡ mce_slot c }
-{
-    (c.0 % 4096) as usize
+    usize::from(x.number()) % 4096
 }
 
 // Where an item is chained; 4,096 for nowhere.
+#[tactic(auto, unfolding(crate::specs::Slots::item_slot))]
 fn slot(item: Item) -> usize
     ensures { result ≡ item_slot item }
 {
-    let x = item.mme;
-    let y = item.mce;
-    match x {
-        Mme::Is(m) => mme_slot(m),
-        Mme::Absent => match y {
-            Mce::Is(c) => mce_slot(c),
-            Mce::Absent => 4096,
-        },
+    match (item.mme, item.mce) {
+        (Some(m), _) => slot_of(m),
+        (None, Some(c)) => slot_of(c),
+        (None, None) => 4096,
     }
 }
 
@@ -44,15 +35,11 @@ fn chain(words: &[u64], head: &mut [u16; 4096], next: &mut [u16; 256])
     requires { (head.old ≡ replicate 4096 0) × (next.old ≡ replicate 256 0) }
     ensures { Slotted words.now head.new next.new }
 {
-    let n = numbers::lesser(words.len(), 256);
-    let mut i: usize = 0;
-    while i < n {
+    for i in 0..words.len().min(256) {
         let h = slot(item_words::item_of(words[i]));
-        let at = i;
-        i += 1;
         if h < 4096 {
-            next[at] = head[h];
-            head[h] = i as u16;
+            next[i] = head[h];
+            head[h] = (i + 1) as u16;
         }
     }
 }
@@ -79,9 +66,7 @@ fn named(words: &[u64], head: &[u16; 4096], next: &[u16; 256], a: Association) -
     requires { Slotted words.now head.now next.now }
     ensures { result ≡ named (map item_of (take 256 words.now)) a }
 {
-    let mme = a.mme;
-    let mce = a.mce;
-    named_in(words, head, next, a, mme_slot(mme)) || named_in(words, head, next, a, mce_slot(mce))
+    named_in(words, head, next, a, slot_of(a.mme)) || named_in(words, head, next, a, slot_of(a.mce))
 }
 
 // The words say up to four items, and none of these names one of the first n rows that are lent; more are not asked about here.
@@ -91,14 +76,9 @@ pub fn names_none(s: &[u8], n: usize, words: &[u64]) -> bool
     if 4 < words.len() {
         return false;
     }
-    let mut i: usize = 0;
-    while i < words.len() {
-        if lent::names_row(s, n, item_words::item_of(words[i])) {
-            return false;
-        }
-        i += 1;
-    }
-    true
+    !words
+        .iter()
+        .any(|w| lent::names_row(s, n, item_words::item_of(*w)))
 }
 
 // The words say the items. All that some item names are removed, the others keep their order.
@@ -108,13 +88,10 @@ pub fn reset(t: Table, words: &[u64]) -> Table
     let mut head: [u16; 4096] = [0; 4096];
     let mut next: [u16; 256] = [0; 256];
     chain(words, &mut head, &mut next);
-    let n = numbers::lesser(t.count, 256);
     let mut out = table::empty();
     let mut k = 0;
-    let mut i = 0;
-    while i < n {
+    for i in 0..t.count.min(256) {
         let a = t.rows[i];
-        i += 1;
         if !named(words, &head, &next, a) {
             out.rows[k] = a;
             k += 1;

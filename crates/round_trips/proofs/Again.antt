@@ -9,7 +9,7 @@ use borrow.Author.Tests.{le-leb}
 use lib.ListN.{length, replicate, length-replicate}
 use lib.Seq.{take_all}
 use Rattle.lists.specs.Lists.{pick}
-use Rattle.octets.specs.Read.{got}
+use Rattle.std.specs.Prelude.{Ok}
 use Rattle.octets.specs.Field.{plain_at, pad_at, number_at}
 use Rattle.octets.specs.Stands.{Fills, Octets}
 use Rattle.octets.specs.declared.Span.{Span}
@@ -43,7 +43,7 @@ filled : (s os : List ℕ) → Fills s 0 os → os ≡ s
 filled s os h = let e = h.ends in sym h.stands.octets ∙ take_all (length os) s (omega arith)
 
 -- the elements begin inside
-count_in : (c : Bool) (s : List ℕ) (from : ℕ) {n : Count} → got n ≡ count_at c s from → from + 3 ≤ length s
+count_in : (c : Bool) (s : List ℕ) (from : ℕ) {n : Count} → Ok n ≡ count_at c s from → from + 3 ≤ length s
 unfolding count_at
 count_in c s from q =
     let a = then_got (plain_at s from 0) _ q in
@@ -60,7 +60,7 @@ said_length (r ∷ t) s [] e = absurd (omega arith)
 said_length (r ∷ t) s (v ∷ l) e = ap suc (said_length t s l (omega arith))
 
 -- the count and the elements
-inside_again : (t : List Row) (vs : List (Given (List ℕ))) (c : Bool) (s : List ℕ) (from n : ℕ) → Octets s → got (record { elements = n; container = false }) ≡ count_at c s from → how_many vs ≡ n → Fills s (from + 3) (elements_octets t vs)
+inside_again : (t : List Row) (vs : List (Given (List ℕ))) (c : Bool) (s : List ℕ) (from n : ℕ) → Octets s → Ok (record { elements = n; container = false }) ≡ count_at c s from → how_many vs ≡ n → Fills s (from + 3) (elements_octets t vs)
     → Fills s from (inside_octets t vs)
 unfolding inside_octets
 inside_again t vs c s from n o q e h = rw e (count_again c s from n (elements_octets t vs) o q h)

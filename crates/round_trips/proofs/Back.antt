@@ -9,7 +9,7 @@ use borrow.Author.Tests.{le-ltb, leb-true}
 use lib.ListN.{length}
 use Rattle.lists.specs.Lists.{pick}
 use Rattle.lists.proofs.Tests.{and_left, and_right}
-use Rattle.octets.specs.Read.{got}
+use Rattle.std.specs.Prelude.{Ok}
 use Rattle.octets.specs.Stands.{Fills}
 use Rattle.octets.proofs.Chain.{past}
 use Rattle.rows.specs.declared.Row.{Row}
@@ -60,7 +60,7 @@ module _ (e : Edition) (w : Said) (g : InTypes e w) (q : is_written e w ≡ true
       laid (message_octets e w) (omega arith) (table e w) w.values _ (table_lawful e w.message).rows g.values (and_left (elements_good (table e w) w.values) _ q)
       (elements_fill (message_octets e w) (begins e w) (table e w) w.values filled)
 
-  inside_read : got (opening_by (how_many w.values) (found_all e w)) ≡ opened_at (table e w) (container_of e w.message) (message_octets e w) (begins e w)
+  inside_read : Ok (opening_by (how_many w.values) (found_all e w)) ≡ opened_at (table e w) (container_of e w.message) (message_octets e w) (begins e w)
   unfolding opened_at
   inside_read =
       let l = elements in
@@ -70,7 +70,7 @@ module _ (e : Edition) (w : Said) (g : InTypes e w) (q : is_written e w ≡ true
       past _ _ (count_back (message_octets e w) (begins e w) (table e w) w.values filled (container_of e w.message) (omega arith))
       (past _ (found_all e w) (elements_back (table e w) r.distinct l) refl)
 
-  frame_read : got (frame_of e w) ≡ frame_at (message_octets e w)
+  frame_read : Ok (frame_of e w) ≡ frame_at (message_octets e w)
   unfolding message_octets inside_octets
   frame_read =
       let f = code_fits e w.message in
@@ -97,7 +97,7 @@ module _ (e : Edition) (w : Said) (g : InTypes e w) (q : is_written e w ≡ true
 
 -- elements that are not good have none
 pub no_octets : {B : Type 0} {os : List ℕ} → none ≡ octets os → B
-no_octets q = let z : ◌≡◌ {A = ℕ} 0 1 = cc in absurd (omega arith)
+no_octets q = cc
 
 pub has_octets_lem : (e : Edition) (w : Said) (os : List ℕ) → encoded e w ≡ octets os → (is_written e w ≡ true) × (message_octets e w ≡ os)
 unfolding encoded

@@ -9,7 +9,7 @@ use borrow.Author.Tests.{eqb-true, lt-ltb}
 use lib.Dec.{eqb}
 use lib.ListN.{length, get_or}
 use Rattle.lists.specs.Lists.{pick}
-use Rattle.octets.specs.Read.{got}
+use Rattle.std.specs.Prelude.{Ok}
 use Rattle.octets.specs.Stands.{Fills, Octets}
 use Rattle.octets.specs.declared.Span.{Span}
 use Rattle.octets.specs.Span.{no_span}
@@ -41,7 +41,7 @@ row_id (r ∷ t) id h = by (eqb r.id id) refl (row_id t id) h
     by false e f k = f (omega arith)
 
 -- a value that can be read where it stands is given
-value_given : (k : Kind) (s : List ℕ) (x v : Span) {a : Value Span} → x ≡ v → 0 < v.to → got a ≡ read_as k s v → on_given (octets_in s) (value_in k s x) ≡ given (on_carried (octets_in s) a)
+value_given : (k : Kind) (s : List ℕ) (x v : Span) {a : Value Span} → x ≡ v → 0 < v.to → Ok a ≡ read_as k s v → on_given (octets_in s) (value_in k s x) ≡ given (on_carried (octets_in s) a)
 unfolding value_in
 value_given k s x v e h q = rw (e, lt-ltb 0 v.to h, ← q)
 

@@ -9,7 +9,7 @@ use borrow.Author.Tests.{lt-ltb, le-ltb, eq-eqb}
 use lib.ListN.{length, get_or, set, replicate, length-append}
 use lib.Seq.{set_at}
 use Rattle.lists.specs.Lists.{apart}
-use Rattle.octets.specs.Read.{got}
+use Rattle.std.specs.Prelude.{Ok}
 use Rattle.octets.specs.declared.Span.{Span}
 use Rattle.octets.specs.Span.{no_span}
 use Rattle.octets.proofs.Chain.{past, then_got, same_got}
@@ -94,7 +94,7 @@ module _ {s : List ℕ} where
 
 module _ (t : List Row) {s : List ℕ} where
   scan_laid : (k : ℕ) {at : ℕ} {rs : List Row} {vs : List (Given (List ℕ))} → Placed t k rs → Laid s at rs vs
-      → (end : ℕ) × (got end ≡ scan_at t s (how_many vs) at) × (length s ≤ end)
+      → (end : ℕ) × (Ok end ≡ scan_at t s (how_many vs) at) × (length s ≤ end)
   unfolding scan_at how_many
   scan_laid k p (ends {at} h) = (at, refl, h)
   scan_laid k p (skip h l) = scan_laid (suc k) p.1 l
@@ -134,11 +134,11 @@ module _ (t : List Row) {s : List ℕ} where
 -- ---- the judging
 
 pub elements_back : (t : List Row) → apart alike t ≡ true → {s : List ℕ} {at : ℕ} {vs : List (Given (List ℕ))} → Laid s at t vs
-    → got (record { place = how_many vs; spans = spans_of vs at; listed = [] }) ≡ elements_at t false s (how_many vs) at
+    → Ok (record { place = how_many vs; spans = spans_of vs at; listed = [] }) ≡ elements_at t false s (how_many vs) at
 unfolding elements_at extensions_at judged_of unknown_of
 elements_back t d {s} {at} {vs} l =
     let p = placed t d in
     let x = scan_laid t 0 p l in
     past _ [] (past _ x.0 x.1 (past _ tt (ends_back s x.0 x.2) refl))
-    (ap (λ (f : Found). got f)
+    (ap (λ (f : Found). Ok f)
     (rw (heads_laid l, front_laid t 0 0 (omega arith) p l, heads_length l, eq-eqb (how_many vs) (how_many vs) refl, read_laid t 0 [] refl p l, unknown_laid t 0 p l, missing_laid l)))

@@ -7,7 +7,7 @@ use Prim.Native.Nat.{ℕ, ◌+◌, ◌-◌, ◌/◌, ◌%◌, ◌^◌}
 use native.Mathlib.Omega.{arith}
 use lib.ListN.{length, get_or, take, length-append}
 use lib.Seq.{length-take-le, take_all}
-use Rattle.octets.specs.Read.{got}
+use Rattle.std.specs.Prelude.{Ok}
 use borrow.Author.Tests.{eqb-false}
 use lib.Dec.{eqb}
 use Rattle.lists.specs.Lists.{pick}
@@ -41,7 +41,7 @@ fills_join {vs = vs} {ws = ws} h e g =
 -- ---- an open value
 
 -- octets that fill an open value stand behind their length, and end with it
-pub open_filled : (s : List ℕ) (at : ℕ) (v : Span) (os : List ℕ) → Octets s → got v ≡ open_at s at → Fills (take v.to s) v.from os
+pub open_filled : (s : List ℕ) (at : ℕ) (v : Span) (os : List ℕ) → Octets s → Ok v ≡ open_at s at → Fills (take v.to s) v.from os
     → Stands s at (length_octets (length os) ++ os) × (v.to ≡ at + length (length_octets (length os) ++ os))
 open_filled s at v os o q b =
     let a = open_again s at o q in
@@ -55,7 +55,7 @@ open_filled s at v os o q b =
 
 -- ---- an element
 
-criticality_again : (s : List ℕ) (at : ℕ) {c : ℕ} → Octets s → got c ≡ criticality_at s at → Stands s at (packed (2 bits c ∷ []) ∷ [])
+criticality_again : (s : List ℕ) (at : ℕ) {c : ℕ} → Octets s → Ok c ≡ criticality_at s at → Stands s at (packed (2 bits c ∷ []) ∷ [])
 unfolding criticality_at
 criticality_again s at o q =
     let a = then_got (choice_at 3 2 s at 0) _ q in
@@ -65,7 +65,7 @@ criticality_again s at o q =
     subst (λ (x : ℕ). Stands s at (packed (2 bits x ∷ []) ∷ [])) (sym r.1 ∙ sym (same_got b.2)) f
 
 -- the row's id and criticality are those that were read
-pub envelope_again : (s : List ℕ) (at : ℕ) (h : Head) (r : Row) (os : List ℕ) → Octets s → got h ≡ envelope_at s at → h.id ≡ r.id → h.crit ≡ r.crit
+pub envelope_again : (s : List ℕ) (at : ℕ) (h : Head) (r : Row) (os : List ℕ) → Octets s → Ok h ≡ envelope_at s at → h.id ≡ r.id → h.crit ≡ r.crit
     → Fills (take h.value.to s) h.value.from os → Stands s at (envelope_octets r os) × (h.value.to ≡ at + length (envelope_octets r os))
 unfolding envelope_at
 envelope_again s at h r os o q i c b =
@@ -76,7 +76,7 @@ envelope_again s at h r os o q i c b =
     let j : x.0 ≡ r.id = sym (ap (λ (w : Head). w.id) e) ∙ i in
     let d : y.0 ≡ r.crit = sym (ap (λ (w : Head). w.crit) e) ∙ c in
     let v : z.0 ≡ h.value = sym (ap (λ (w : Head). w.value) e) in
-    let u = open_filled s (at + 3) h.value os o (ap (λ (w : Span). got w) (sym v) ∙ z.1) b in
+    let u = open_filled s (at + 3) h.value os o (ap (λ (w : Span). Ok w) (sym v) ∙ z.1) b in
     let n : length (number_octets 2 r.id) ≡ 2 = length_number 2 r.id in
     let k : at + 2 + 1 ≡ at + 3 = omega arith in
     let w = u.1 in
@@ -92,7 +92,7 @@ unfolding bits_of
 unset x b e = let n = eqb-false (x / 2 ^ (8 - (b % 8 + 1)) % 2 ^ 1) 1 (sym e) in omega arith
 
 -- the bits in front: no extension, and no container
-opening_again : (c : Bool) (s : List ℕ) (from : ℕ) → Octets s → got tt ≡ plain_at s from 0 → got false ≡ container_at c s from → got tt ≡ pad_at s from (pick c 2 1)
+opening_again : (c : Bool) (s : List ℕ) (from : ℕ) → Octets s → Ok tt ≡ plain_at s from 0 → Ok false ≡ container_at c s from → Ok tt ≡ pad_at s from (pick c 2 1)
     → Stands s from (packed (bit false ∷ []) ∷ [])
 unfolding container_at packed_in
 opening_again false s from o a b p =
@@ -106,7 +106,7 @@ opening_again true s from o a b p =
     rw (x.1, y) at f
 
 -- they and how many elements, before what fills the rest
-pub count_again : (c : Bool) (s : List ℕ) (from n : ℕ) (os : List ℕ) → Octets s → got (record { elements = n; container = false }) ≡ count_at c s from → Fills s (from + 3) os
+pub count_again : (c : Bool) (s : List ℕ) (from n : ℕ) (os : List ℕ) → Octets s → Ok (record { elements = n; container = false }) ≡ count_at c s from → Fills s (from + 3) os
     → Fills s from (packed (bit false ∷ []) ∷ (number_octets 2 n ++ os))
 unfolding count_at
 count_again c s from n os o q b =
@@ -120,7 +120,7 @@ count_again c s from n os o q b =
     let l = length_number 2 n in
     fills_join (opening_again c s from o a.1 (rw (← none) at x.1) p.1) (omega arith) (fills_join (number_again 2 s (from + 1) o (rw (← many) at k.1)) (omega arith) b)
 
-kind_again : (s : List ℕ) {k : ℕ} → Octets s → got k ≡ kind_at s → Stands s 0 (packed (bit false ∷ 2 bits k ∷ []) ∷ [])
+kind_again : (s : List ℕ) {k : ℕ} → Octets s → Ok k ≡ kind_at s → Stands s 0 (packed (bit false ∷ 2 bits k ∷ []) ∷ [])
 unfolding kind_at
 kind_again s o q =
     let a = then_got (plain_at s 0 0) _ q in
@@ -133,11 +133,11 @@ kind_again s o q =
     subst (λ (k : ℕ). Stands s 0 (packed (bit false ∷ 2 bits k ∷ []) ∷ [])) (sym y.1 ∙ sym (same_got p.2)) g
 
 -- an octet as it is
-octet_again : (s : List ℕ) (at : ℕ) {v : ℕ} → got v ≡ number_at 1 s at → Stands s at (v ∷ [])
+octet_again : (s : List ℕ) (at : ℕ) {v : ℕ} → Ok v ≡ number_at 1 s at → Stands s at (v ∷ [])
 octet_again s at q = let n = number_got s at 1 q in stands_one n.0 (n.1 ∙ omega arith)
 
 -- the frame is the one that was read, and octets fill what it holds
-pub frame_again : (s : List ℕ) (f : Frame) (c : Code) (os : List ℕ) → Octets s → got f ≡ frame_at s → f.kind ≡ c.kind → f.code ≡ c.code → f.crit ≡ c.crit
+pub frame_again : (s : List ℕ) (f : Frame) (c : Code) (os : List ℕ) → Octets s → Ok f ≡ frame_at s → f.kind ≡ c.kind → f.code ≡ c.code → f.crit ≡ c.crit
     → Fills s f.from os → Fills s 0 (frame_octets c os)
 unfolding frame_at
 frame_again s f c os o q i j d b =

@@ -1,5 +1,6 @@
 -- The examples hold, by computing; the RESET among them meets the conditions of rewriting; and two lent records have one message.
 -- Assumes nothing.
+use Rattle.std.specs.Prelude.{Some}
 use Prim.Native.Nat.{ℕ, zero, suc}
 use mathlib.Core.Path.{◌≡◌, refl, sym, subst}
 use mathlib.Core.Bool.{Bool, true, false}
@@ -10,7 +11,7 @@ use lib.Dec.{ltb}
 use lib.ListN.{take}
 use Rattle.lists.specs.Lists.{some}
 use Rattle.lists.proofs.Tests.{or_left, or_right}
-use Rattle.octets.specs.Read.{◌>>=◌, no_meaning}
+use Rattle.octets.specs.Read.{no_meaning}
 use Rattle.packed.specs.Packed.{bits_of, packed_in}
 use Rattle.octets.specs.Field.{flag_at, plain_at, choice_at, pad_at, number_at, same_at, long_length_at, length_at, open_at, ends_at}
 use Rattle.octets.specs.Write.{number_octets, length_octets}
@@ -20,8 +21,6 @@ use Rattle.octets.specs.Stands.{Stands, Octets}
 use Rattle.octets.proofs.Chain.{same_got}
 use Rattle.octets.proofs.Stood.{fills_alone}
 use Rattle.octets.proofs.Back.{length_back}
-use Rattle.identity.specs.declared.Mme.TheVariants as mme
-use Rattle.identity.specs.declared.Mce.TheVariants as mce
 use Rattle.identity.specs.declared.Item.{Item}
 use Rattle.values.specs.Values.{cause_at}
 use Rattle.values.specs.Written.{cause_octets}
@@ -58,13 +57,11 @@ no_length n q = by (ltb n 16384) refl
     by : (b : Bool) → ltb n 16384 ≡ b → ⊥
     by true e =
         let r = length_back (0x80 ∷ 0x05 ∷ []) 0 n (ltb-true n 16384 e) (subst (λ (s : List ℕ). Stands s 0 (length_octets n)) q (fills_alone (length_octets n)).stands) in
-        let z : ◌≡◌ {A = ℕ} 0 1 = cc in
-        omega arith
+        cc
     by false e =
         let l = ltb-false n 16384 e in
         let r = rw (le-ltb n 128 (omega arith), e) at q in
-        let z : ◌≡◌ {A = ℕ} 0 1 = cc in
-        omega arith
+        cc
 
 infixr 4 ◌also◌
 abbrev ◌also◌ : {A B : Type 0} → A → B → A × B
@@ -80,13 +77,13 @@ read kind code m vs = record {
 }
 
 abbrev items : List Item
-items = record { mme = mme.Is (record { 0 = 1 }); mce = mce.Is (record { 0 = 2 }) } ∷ []
+items = record { mme = Some (record { 0 = 1 }); mce = Some (record { 0 = 2 }) } ∷ []
 
 abbrev reset_read : Understood
 reset_read = read 0 4 message.Reset (given (value.cause (record { group = 4; value = 2 })) ∷ given (value.reset (part items)) ∷ [])
 
 pub hold : Hold
-unfolding ◌>>=◌ no_meaning bits_of flag_at plain_at choice_at pad_at number_at same_at long_length_at length_at open_at ends_at packed_in number_octets length_octets many cause_at cause_octets item_marks_at item_at item_element_at items_at reset_at item_octets item_element_octets items_octets reset_octets diagnostics.marks_at diagnostics.head_at diagnostics.diagnostics_at legible_at find criticality_at envelope_at scan_at heads_at front read_into unknown_of missing_of judged_of extensions_at elements_at named_by first_of printed read_as value_in values_in on_carried kind_at frame_at container_at count_at opened_at read_of octets_of has_octets said_by elements_octets how_many inside_octets message_octets elements_good encoded
+unfolding no_meaning bits_of flag_at plain_at choice_at pad_at number_at same_at long_length_at length_at open_at ends_at packed_in number_octets length_octets many cause_at cause_octets item_marks_at item_at item_element_at items_at reset_at item_octets item_element_octets items_octets reset_octets diagnostics.marks_at diagnostics.head_at diagnostics.diagnostics_at legible_at find criticality_at envelope_at scan_at heads_at front read_into unknown_of missing_of judged_of extensions_at elements_at named_by first_of printed read_as value_in values_in on_carried kind_at frame_at container_at count_at opened_at read_of octets_of has_octets said_by elements_octets how_many inside_octets message_octets elements_good encoded
 hold =
     (refl, refl)
     also (refl, refl)
@@ -109,7 +106,7 @@ all_octets (x ∷ s) e zero = let h = ltb-false 255 x (or_left (ltb 255 x) (some
 all_octets (x ∷ s) e (suc i) = all_octets s (or_right (ltb 255 x) (some (λ y. ltb 255 y) s) e) i
 
 pub reset_rewritable : ResetRewritable
-unfolding ◌>>=◌ bits_of flag_at plain_at choice_at pad_at number_at same_at long_length_at length_at open_at ends_at many cause_at item_marks_at item_at item_element_at items_at reset_at envelope_crit_at crits_at legible_at find criticality_at envelope_at scan_at heads_at front read_into unknown_of missing_of judged_of extensions_at elements_at named_by first_of printed read_as value_in values_in on_carried kind_at frame_at container_at count_at opened_at read_of said_by lacking
+unfolding bits_of flag_at plain_at choice_at pad_at number_at same_at long_length_at length_at open_at ends_at many cause_at item_marks_at item_at item_element_at items_at reset_at envelope_crit_at crits_at legible_at find criticality_at envelope_at scan_at heads_at front read_into unknown_of missing_of judged_of extensions_at elements_at named_by first_of printed read_as value_in values_in on_carried kind_at frame_at container_at count_at opened_at read_of said_by lacking
 reset_rewritable = record {
   octets = all_octets partial_reset refl;
   what = reset_read;

@@ -6,7 +6,7 @@ use mathlib.Core.Bool.{Bool, true, false}
 use mathlib.Core.List.{List, [], ◌∷◌, ◌++◌}
 use native.Mathlib.Omega.{arith}
 use lib.ListN.{length, length-append}
-use Rattle.octets.specs.Read.{got}
+use Rattle.std.specs.Prelude.{Ok}
 use Rattle.packed.specs.Packed.{◌bits◌, bit, packed_in, packed, Fit}
 use Rattle.octets.specs.Write.{number_octets, length_octets}
 use Rattle.octets.specs.Stands.{Stands, Fills}
@@ -21,7 +21,7 @@ use Rattle.meaning.specs.Value.{Given}
 use Rattle.meaning.specs.Written.{how_many, elements_octets, inside_octets, frame_octets}
 use Rattle.round_trips.proofs.Laid.{criticality_back}
 
-kind_back : (s : List ℕ) (k : ℕ) → k < 3 → Stands s 0 (packed (bit false ∷ 2 bits k ∷ []) ∷ []) → got k ≡ kind_at s
+kind_back : (s : List ℕ) (k : ℕ) → k < 3 → Stands s 0 (packed (bit false ∷ 2 bits k ∷ []) ∷ []) → Ok k ≡ kind_at s
 unfolding kind_at
 kind_back s k b h =
     let fit : Fit 8 (bit false ∷ 2 bits k ∷ []) = (omega arith, omega arith, (omega arith, omega arith, tt)) in
@@ -51,7 +51,7 @@ module _ (c : Code) (os : List ℕ) where
       record { stands = (stands_split (length_octets (length os)) os frame_stands.3).1; ends = omega arith }
 
   pub frame_back : c.kind < 3 → c.code < 256 → c.crit < 3 → 0 < length os → length os < 16384
-      → got (record { kind = c.kind; code = c.code; crit = c.crit; from = inside_at os }) ≡ frame_at (frame_octets c os)
+      → Ok (record { kind = c.kind; code = c.code; crit = c.crit; from = inside_at os }) ≡ frame_at (frame_octets c os)
   unfolding frame_at
   frame_back k d e p b =
       let s : List ℕ = frame_octets c os in
@@ -79,14 +79,13 @@ module _ (s : List ℕ) (from : ℕ) (t : List Row) (vs : List (Given (List ℕ)
   two = inside_stands.0
 
   -- no container, whether or not the message can have one: the bits are pad, or say so
-  pub count_back : (c : Bool) → how_many vs < 65536 → got (record { elements = how_many vs; container = false }) ≡ count_at c s from
+  pub count_back : (c : Bool) → how_many vs < 65536 → Ok (record { elements = how_many vs; container = false }) ≡ count_at c s from
   unfolding count_at container_at
   count_back false b =
       let h = inside_stands in
       past _ tt (plain_back s from [] [] (omega arith, omega arith, tt) (omega arith) h.0)
-      (past _ false refl
       (past _ tt (rest_back s from (bit false ∷ []) (omega arith, omega arith, tt) (omega arith) (omega arith) h.0)
-      (past _ _ (number_back 2 s (from + 1) (how_many vs) b h.1) refl)))
+      (past _ _ (number_back 2 s (from + 1) (how_many vs) b h.1) refl))
   count_back true b =
       let h = inside_stands in
       let fit : Fit 8 (bit false ∷ bit false ∷ []) = (omega arith, omega arith, (omega arith, omega arith, tt)) in

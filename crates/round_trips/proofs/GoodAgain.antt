@@ -10,7 +10,8 @@ use lib.Dec.{ltb}
 use lib.ListN.{length, set, get_or, replicate}
 use Rattle.lists.specs.Lists.{pick}
 use Rattle.lists.proofs.Tests.{or_left, or_right}
-use Rattle.octets.specs.Read.{Read, got, stop}
+use Rattle.std.specs.Prelude.{Ok, Err}
+use Rattle.octets.specs.Read.{Read}
 use Rattle.octets.specs.Stands.{Octets}
 use Rattle.octets.specs.declared.Span.{Span}
 use Rattle.octets.specs.Span.{no_span}
@@ -74,8 +75,8 @@ unfolding value_in
 value_in_has k s v o p = by (ltb 0 v.to) refl
   where
     read : (r : Read (Value Span)) → r ≡ read_as k s v → 0 < v.to → Has (on_given (octets_in s) (or_absent r))
-    read (got a) e h = value_has s o v k (p.some h) p.ends e
-    read (stop x) e h = tt
+    read (Ok a) e h = value_has s o v k (p.some h) p.ends e
+    read (Err x) e h = tt
 
     by : (b : Bool) → ltb 0 v.to ≡ b → Has (on_given (octets_in s) (pick b (or_absent (read_as k s v)) absent))
     by true e = read (read_as k s v) refl (ltb-true 0 v.to e)

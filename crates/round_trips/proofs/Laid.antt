@@ -9,7 +9,7 @@ use native.Mathlib.Omega.{arith}
 use borrow.Author.Tests.{not-true}
 use lib.ListN.{length, take, length-append}
 use Rattle.lists.proofs.Tests.{and_left, and_right}
-use Rattle.octets.specs.Read.{got}
+use Rattle.std.specs.Prelude.{Ok}
 use Rattle.packed.specs.Packed.{◌bits◌, packed, Fit}
 use Rattle.octets.specs.Write.{number_octets, length_octets}
 use Rattle.octets.specs.Stands.{Stands, Fills}
@@ -42,13 +42,13 @@ pub data Laid (s : List ℕ) : ℕ → List Row → List (Given (List ℕ)) → 
   ends : {at : ℕ} → length s ≤ at → Laid s at [] []
   skip : {at : ℕ} {r : Row} {t : List Row} {vs : List (Given (List ℕ))} → r.mandatory ≡ false → Laid s at t vs → Laid s at (r ∷ t) (absent ∷ vs)
   more : {at : ℕ} {r : Row} {t : List Row} {v : Value (List ℕ)} {vs : List (Given (List ℕ))}
-      → got (head_of r (octets_of v) at) ≡ envelope_at s at → (span_of (octets_of v) at).to ≤ length s
-      → got v ≡ said_at r.kind s (span_of (octets_of v) at)
+      → Ok (head_of r (octets_of v) at) ≡ envelope_at s at → (span_of (octets_of v) at).to ≤ length s
+      → Ok v ≡ said_at r.kind s (span_of (octets_of v) at)
       → Laid s (span_of (octets_of v) at).to t vs → Laid s at (r ∷ t) (given v ∷ vs)
 
 -- ---- an envelope
 
-pub criticality_back : (s : List ℕ) (at crit : ℕ) → crit < 3 → Stands s at (packed (2 bits crit ∷ []) ∷ []) → got crit ≡ criticality_at s at
+pub criticality_back : (s : List ℕ) (at crit : ℕ) → crit < 3 → Stands s at (packed (2 bits crit ∷ []) ∷ []) → Ok crit ≡ criticality_at s at
 unfolding criticality_at
 criticality_back s at crit c h =
     let fit : Fit 8 (2 bits crit ∷ []) = (omega arith, omega arith, tt) in
@@ -70,7 +70,7 @@ module _ (s : List ℕ) (at : ℕ) (r : Row) (f : Fits r) (os : List ℕ) (p : 0
       let k : at + 2 + 1 ≡ at + 3 = omega arith in
       (a.0, d.0, rw k at d.1)
 
-  pub envelope_back : got (head_of r os at) ≡ envelope_at s at
+  pub envelope_back : Ok (head_of r os at) ≡ envelope_at s at
   unfolding envelope_at
   envelope_back =
       let w = within in

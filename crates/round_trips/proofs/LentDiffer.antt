@@ -1,6 +1,7 @@
 -- Two records that are written as the same octets say the same, so they are the same but for criticality and places:
 -- how long a carried value is, its octets say, which are at least one.
 -- Assumes nothing.
+use Rattle.std.specs.Prelude.{None, Option, Some}
 use mathlib.Core.Path.{◌≡◌, ◌∙◌, refl, sym, ap, subst}
 use mathlib.Core.Bool.{Bool, true, false, not}
 use mathlib.Core.List.{List, [], ◌∷◌, ◌++◌, append_assoc, map}
@@ -21,8 +22,6 @@ use Rattle.names.proofs.Allowed.{name_size}
 use Rattle.rows.specs.declared.Row.{Row}
 use Rattle.editions.specs.declared.Edition.{Edition}
 use Rattle.editions.specs.declared.Message.{Message}
-use Rattle.editions.specs.declared.Named.{Named}
-use Rattle.editions.specs.declared.Named.TheVariants as named
 use Rattle.editions.specs.Editions.{table_of, number_of, numbered_by}
 use Rattle.editions.proofs.Names.{numbered_listed}
 use Rattle.meaning.specs.Value.{Value, Given, given, absent, carried, mme, mce, tmgi, one, two, cause, wait, name, reset, list, diagnostics, octets_in, on_carried, on_given, Said, Record, said_by, bare}
@@ -42,7 +41,7 @@ use Rattle.round_trips.proofs.LentSlots.{at_zero, slots_shown_lem, as_long, list
 pub record Lent (e : Edition) (s values os : List ℕ) : Type 0 where
   pub what : Record
   pub read : read_record e s ≡ is_record what
-  pub named : numbered_by e (get_or s 0 0) ≡ named.Is what.message
+  pub named : numbered_by e (get_or s 0 0) ≡ Some what.message
   pub form : record_octets e what ≡ s
   pub says : said_record e what.message s ≡ what
   pub message : encoded e (said_by values what) ≡ octets os
@@ -51,26 +50,26 @@ pub lent_record : (e : Edition) (s values os : List ℕ) → written e s values 
 unfolding written read_record said_record
 lent_record e s values os q = by (numbered_by e (get_or s 0 0)) refl q
   where
-    small : (m : Message) (b : Bool) → numbered_by e (get_or s 0 0) ≡ named.Is m → same (record_octets e (said_record e m s)) s ≡ true
+    small : (m : Message) (b : Bool) → numbered_by e (get_or s 0 0) ≡ Some m → same (record_octets e (said_record e m s)) s ≡ true
         → pick b (encoded e (said_by values (said_record e m s))) none ≡ octets os → Lent e s values os
     small m true n x q = record { what = said_record e m s; read = rw (n, x); named = n; form = same_is _ s x; says = refl; message = q }
     small m false n x q = no_octets q
 
-    formed : (m : Message) (b : Bool) → same (record_octets e (said_record e m s)) s ≡ b → numbered_by e (get_or s 0 0) ≡ named.Is m
+    formed : (m : Message) (b : Bool) → same (record_octets e (said_record e m s)) s ≡ b → numbered_by e (get_or s 0 0) ≡ Some m
         → written_by e values (pick b (is_record (said_record e m s)) no_record) ≡ octets os → Lent e s values os
     formed m true x n q = small m (ltb (said_record e m s).crit 3) n x q
     formed m false x n q = no_octets q
 
-    by : (n : Named) → numbered_by e (get_or s 0 0) ≡ n → written_by e values (lent_as e s n) ≡ octets os → Lent e s values os
-    by (named.Is m) n q = formed m (same (record_octets e (said_record e m s)) s) refl n q
-    by named.Other n q = no_octets q
+    by : (n : Option Message) → numbered_by e (get_or s 0 0) ≡ n → written_by e values (lent_as e s n) ≡ octets os → Lent e s values os
+    by (Some m) n q = formed m (same (record_octets e (said_record e m s)) s) refl n q
+    by None n q = no_octets q
 
 -- ---- what is written has octets in each value
 
 elements_has : (t : List Row) (vs : List (Given (List ℕ))) → elements_good t vs ≡ true → Each Has vs
 unfolding elements_good
 elements_has t [] g = tt
-elements_has [] (v ∷ vs) g = absurd (let z : ◌≡◌ {A = ℕ} 0 1 = cc in omega arith)
+elements_has [] (v ∷ vs) g = cc
 elements_has (r ∷ t) (absent ∷ vs) g = (tt, elements_has t vs (and_right (not r.mandatory) _ g))
 elements_has (r ∷ t) (given v ∷ vs) g = (and_left (has_octets v) _ g, elements_has t vs (and_right (has_octets v) _ g))
 
@@ -141,7 +140,7 @@ module _ (e : Edition) (s values os : List ℕ) (r : Lent e s values os) (g : In
   unfolding shown bare said_by record_octets
   shown_said =
       let t : List Row = table_of e r.what.message in
-      let a : shown e s ≡ get_or s 0 0 ∷ 0 ∷ slots_shown t (drop 2 s) = ap (λ (n : Named). get_or s 0 0 ∷ 0 ∷ slots_shown (table_by e n) (drop 2 s)) r.named in
+      let a : shown e s ≡ get_or s 0 0 ∷ 0 ∷ slots_shown t (drop 2 s) = ap (λ (n : Option Message). get_or s 0 0 ∷ 0 ∷ slots_shown (table_by e n) (drop 2 s)) r.named in
       let b = subst (λ (x : List ℕ). get_or x 0 0 ∷ 0 ∷ slots_shown t (drop 2 x) ≡ record_octets e (bare r.what)) r.form (shown_bare e r.what (octets_in values) g.values) in
       let c : bare r.what ≡ bare_of (said_by values r.what) =
       ap (λ (vs : List (Given Span)). record { message = r.what.message; crit = 0; values = vs }) (bare_values values r.what.values (written_has e (said_by values r.what) os r.message)) in
@@ -150,7 +149,7 @@ module _ (e : Edition) (s values os : List ℕ) (r : Lent e s values os) (g : In
   carried_said : carried_in e s values ≡ all_carried (said_by values r.what).values
   unfolding carried_in said_by said_record
   carried_said =
-      ap (λ (n : Named). slots_carry (table_by e n) (drop 2 s) values) r.named
+      ap (λ (n : Option Message). slots_carry (table_by e n) (drop 2 s) values) r.named
       ∙ (slots_carry_lem values (lists_in s) (table_of e r.what.message) (drop 2 s)
       ∙ ap (λ (x : Record). all_carried (map (on_given (octets_in values)) x.values)) r.says)
 

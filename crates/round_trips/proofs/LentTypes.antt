@@ -1,5 +1,8 @@
 -- What lent octets say is in range, whatever they are: a number comes from its octets, and a value is of its row's kind by how the slot is read.
 -- Assumes nothing.
+use Rattle.std.specs.Prelude.{Option}
+use Rattle.identity.specs.declared.MceId.{MceId}
+use Rattle.identity.specs.declared.MmeId.{MmeId}
 use mathlib.Core.Path.{◌≡◌, refl}
 use mathlib.Core.Bool.{Bool, false}
 use mathlib.Core.List.{List, [], ◌∷◌, map, Memᴰ}
@@ -16,8 +19,6 @@ use Rattle.octets.specs.Stands.{Octets}
 use Rattle.octets.specs.declared.Span.{Span}
 use Rattle.octets.proofs.Again.{value_below}
 use Rattle.octets.proofs.Stood.{octets_front}
-use Rattle.identity.specs.declared.Mme.{Mme}
-use Rattle.identity.specs.declared.Mce.{Mce}
 use Rattle.items.specs.Written.{mme_in, mce_in, GoodMaybe, GoodItem}
 use Rattle.entries.specs.declared.Entry.{Entry}
 use Rattle.diagnostics.specs.Written.{Under}
@@ -40,8 +41,8 @@ octets_drop n s o i = rw get_or-drop (o (n + i))
 
 item_said : (p : List ℕ) → Octets p → GoodItem (row_item p)
 item_said p o = (
-  on-pick (λ (x : Mme). GoodMaybe (mme_in x)) (eqb (get_or p 0 0) 0) tt (value_below 2 p 1 o),
-  on-pick (λ (x : Mce). GoodMaybe (mce_in x)) (eqb (get_or (drop 3 p) 0 0) 0) tt (value_below 2 (drop 3 p) 1 (octets_drop 3 p o)),
+  on-pick (λ (x : Option MmeId). GoodMaybe (mme_in x)) (eqb (get_or p 0 0) 0) tt (value_below 2 p 1 o),
+  on-pick (λ (x : Option MceId). GoodMaybe (mce_in x)) (eqb (get_or (drop 3 p) 0 0) 0) tt (value_below 2 (drop 3 p) 1 (octets_drop 3 p o)),
 )
 
 rows_said_lem : {A : Type 0} (one : List ℕ → A) (w : ℕ) (P : A → Type 0) → ((p : List ℕ) → Octets p → P (one p)) → (n : ℕ) (p : List ℕ) → Octets p → Each P (each_row one w n p)

@@ -10,7 +10,8 @@ use lib.Dec.{ltb}
 use lib.ListN.{length, take, set, get_or, length-set}
 use lib.Seq.{get_or-set_same, get_or-set_other}
 use Rattle.lists.specs.Lists.{pick}
-use Rattle.octets.specs.Read.{Read, got}
+use Rattle.std.specs.Prelude.{Ok}
+use Rattle.octets.specs.Read.{Read}
 use Rattle.octets.specs.declared.Span.{Span}
 use Rattle.octets.specs.Span.{no_span}
 use Rattle.octets.proofs.Chain.{then_got, same_got}
@@ -27,9 +28,9 @@ module _ (t : List Row) (s : List ℕ) (end : ℕ) where
   -- elements, each with a value that can be read, from the place on up to the end
   abbrev pub Scanned : ℕ → List Head → Type 0
   Scanned at [] = end ≡ at
-  Scanned at (h ∷ hs) = (got h ≡ envelope_at s at) × (got tt ≡ legible_at (kind_of t h.id) (take h.value.to s) h.value.from) × Scanned h.value.to hs
+  Scanned at (h ∷ hs) = (Ok h ≡ envelope_at s at) × (Ok tt ≡ legible_at (kind_of t h.id) (take h.value.to s) h.value.from) × Scanned h.value.to hs
 
-  pub scanned : (n at : ℕ) → got end ≡ scan_at t s n at → (length (heads_at s n at) ≡ n) × Scanned at (heads_at s n at)
+  pub scanned : (n at : ℕ) → Ok end ≡ scan_at t s n at → (length (heads_at s n at) ≡ n) × Scanned at (heads_at s n at)
   unfolding scan_at heads_at
   scanned zero at q = (refl, same_got q)
   scanned (suc n) at q =

@@ -10,7 +10,8 @@ use lib.Dec.{ltb}
 use lib.ListN.{length, take, drop, length-drop}
 use lib.Seq.{take-length, length-take-le}
 use Rattle.lists.specs.Lists.{pick, some}
-use Rattle.octets.specs.Read.{Read, got, ◌>>=◌}
+use Rattle.std.specs.Prelude.{Ok, None, Option, Some}
+use Rattle.octets.specs.Read.{Read, ◌>>=◌}
 use Rattle.octets.specs.Stands.{Fills, Octets}
 use Rattle.octets.specs.declared.Span.{Span}
 use Rattle.octets.proofs.Chain.{then_got, same_got}
@@ -27,8 +28,6 @@ use Rattle.items.specs.Items.{ResetType, whole, part, items_at, reset_at}
 use Rattle.items.specs.Written.{acknowledgement_crit, GoodReset}
 use Rattle.items.proofs.Again.{items_again, reset_again}
 use Rattle.items.proofs.Good.{items_good, reset_good_lem}
-use Rattle.diagnostics.specs.declared.Number.{Number}
-use Rattle.diagnostics.specs.declared.Number.TheVariants as number
 use Rattle.entries.specs.declared.Entry.{Entry}
 use Rattle.diagnostics.specs.Diagnostics.{Diagnostics, diagnostics_at}
 use Rattle.diagnostics.specs.Written.{Under, GoodEntry, GoodDiagnostics}
@@ -44,15 +43,15 @@ use Rattle.round_trips.specs.Ties.{items_marked}
 use Rattle.round_trips.proofs.ValueBack.{front_in, scanned_as}
 
 -- a value of a kind that can be read is read
-pub read_as_lem : (k : Kind) (s : List ℕ) (p : Span) → got tt ≡ legible_at k (take p.to s) p.from → (v : Value Span) × (got v ≡ read_as k s p)
+pub read_as_lem : (k : Kind) (s : List ℕ) (p : Span) → Ok tt ≡ legible_at k (take p.to s) p.from → (v : Value Span) × (Ok v ≡ read_as k s p)
 read_as_lem k s p q = let a = then_got (read_as k s p) _ (q ∙ scanned_as k s p) in (a.0, a.1)
 
 -- what holds of each value that a reading gives holds of the value that was read
-of_read : {A : Type 0} (P : Value Span → Type 0) (is : A → Value Span) (r : Read A) {v : Value Span} → got v ≡ r >>= (λ x. got (is x)) → ((a : A) → got a ≡ r → P (is a)) → P v
+pub of_read : {A : Type 0} (P : Value Span → Type 0) (is : A → Value Span) (r : Read A) {v : Value Span} → Ok v ≡ r >>= (λ x. Ok (is x)) → ((a : A) → Ok a ≡ r → P (is a)) → P v
 of_read P is r q h = let a = then_got r _ q in subst P (sym (same_got a.2)) (h a.0 a.1)
 
 -- a name that was read at a place has the same octets in the whole
-name_there : (s : List ℕ) (p v : Span) → p.to ≤ length s → got v ≡ name_at (take p.to s) p.from → octets_in (take p.to s) v ≡ octets_in s v
+name_there : (s : List ℕ) (p v : Span) → p.to ≤ length s → Ok v ≡ name_at (take p.to s) p.from → octets_in (take p.to s) v ≡ octets_in s v
 name_there s p v i e = let n = name_in_lem (take p.to s) p.from e in front_in s p.to v (omega (arith, n.2, length-take-le p.to s i)) i
 
 module _ (s : List ℕ) (o : Octets s) (p : Span) where
@@ -63,7 +62,7 @@ module _ (s : List ℕ) (o : Octets s) (p : Span) where
   abbrev Filled : Value Span → Type 0
   Filled v = Fills (take p.to s) p.from (octets_of (on_carried (octets_in s) v))
 
-  pub value_again : (k : Kind) {v : Value Span} → p.from ≤ p.to → p.to ≤ length s → got v ≡ read_as k s p → items_marked k (take p.to s) p.from
+  pub value_again : (k : Kind) {v : Value Span} → p.from ≤ p.to → p.to ≤ length s → Ok v ≡ read_as k s p → items_marked k (take p.to s) p.from
       → Fills (take p.to s) p.from (octets_of (on_carried (octets_in s) v))
   unfolding read_as octets_of on_carried
   value_again kind.Carried l i q m =
@@ -99,9 +98,9 @@ reset_has : (r : ResetType) → GoodReset r → reset_good r ≡ true
 reset_has whole g = refl
 reset_has (part is) g = counted_good (length is) g.0 g.1
 
-under_has : (n : ℕ) (x : Number) → Under n x → under n x ≡ true
-under_has n (number.Is v) g = lt-ltb v n g
-under_has n number.Absent g = refl
+under_has : (n : ℕ) (x : Option ℕ) → Under n x → under n x ≡ true
+under_has n (Some v) g = lt-ltb v n g
+under_has n None g = refl
 
 -- no entry is bad
 entries_has : (es : List Entry) → Each GoodEntry es → not (some (λ (e : Entry). not (entry_good e)) es) ≡ true
@@ -121,7 +120,7 @@ module _ (s : List ℕ) (o : Octets s) (p : Span) where
   Has v = has_octets (on_carried (octets_in s) v) ≡ true
 
   -- a carried value too, if there is an octet
-  pub value_has : (k : Kind) {v : Value Span} → p.from < p.to → p.to ≤ length s → got v ≡ read_as k s p → has_octets (on_carried (octets_in s) v) ≡ true
+  pub value_has : (k : Kind) {v : Value Span} → p.from < p.to → p.to ≤ length s → Ok v ≡ read_as k s p → has_octets (on_carried (octets_in s) v) ≡ true
   unfolding read_as has_octets on_carried
   value_has kind.Carried l i q =
       let n = length-drop p.from (take p.to s) in

@@ -11,7 +11,8 @@ use lib.ListN.{length, take, drop, length-drop}
 use lib.Seq.{take_all, take-take, length-take-le}
 use Rattle.lists.specs.Lists.{pick}
 use Rattle.lists.proofs.Tests.{and_left, and_right}
-use Rattle.octets.specs.Read.{Read, got, stop, ◌>>=◌, ◌>>◌}
+use Rattle.std.specs.Prelude.{Ok, Err, None, Option, Some}
+use Rattle.octets.specs.Read.{Read, ◌>>=◌, ◌>>◌}
 use Rattle.octets.specs.Field.{plain_at, number_at}
 use Rattle.octets.specs.Stands.{Fills}
 use Rattle.octets.proofs.Chain.{past, then_got}
@@ -23,7 +24,7 @@ use Rattle.identity.specs.declared.MceId.{MceId}
 use Rattle.identity.specs.declared.Tmgi.{Tmgi}
 use Rattle.identity.specs.declared.Item.{Item}
 use Rattle.values.specs.declared.Cause.{Cause}
-use Rattle.values.specs.Values.{whole_at, mme_at, mce_at, tmgi_at, one_at, two_at, cause_at, wait_at}
+use Rattle.values.specs.Values.{whole_at, identity_at, mme_at, mce_at, tmgi_at, one_at, two_at, cause_at, wait_at}
 use Rattle.values.proofs.Back.{mme_back, mce_back, tmgi_back, one_back, two_back, cause_back, wait_back}
 use Rattle.names.specs.Names.{name_at}
 use Rattle.names.proofs.Good.{name_in_lem}
@@ -32,8 +33,6 @@ use Rattle.items.specs.Items.{ResetType, whole, part, items_at, reset_at}
 use Rattle.items.specs.Written.{acknowledgement_crit, GoodReset}
 use Rattle.items.proofs.Back.{items_back, reset_back}
 use Rattle.entries.specs.declared.Entry.{Entry}
-use Rattle.diagnostics.specs.declared.Number.{Number}
-use Rattle.diagnostics.specs.declared.Number.TheVariants as number
 use Rattle.diagnostics.specs.Diagnostics.{Diagnostics, marks_at, head_at, diagnostics_at}
 use Rattle.diagnostics.specs.Written.{Under, GoodEntry, GoodDiagnostics}
 use Rattle.diagnostics.proofs.Bounds.{marks_in_lem}
@@ -62,9 +61,9 @@ reset_has : (r : ResetType) → ResetRange r → reset_good r ≡ true → GoodR
 reset_has whole g e = tt
 reset_has (part is) g e = let b = counted_bounds (length is) e in (b.0, b.1, g)
 
-number_has : (n : ℕ) (x : Number) → under n x ≡ true → Under n x
-number_has n (number.Is v) e = ltb-true v n e
-number_has n number.Absent e = tt
+number_has : (n : ℕ) (x : Option ℕ) → under n x ≡ true → Under n x
+number_has n (Some v) e = ltb-true v n e
+number_has n None e = tt
 
 entries_has : (es : List Entry) → Each (λ (e : Entry). e.id < 65536) es → Each (λ (e : Entry). entry_good e ≡ true) es → Each GoodEntry es
 entries_has [] g h = tt
@@ -121,16 +120,16 @@ front_in s n v h i =
 
 -- what stands at a place, as it is read and said
 abbrev pub said_at : Kind → List ℕ → Span → Read (Value (List ℕ))
-said_at k s p = read_as k s p >>= λ x. got (on_carried (octets_in s) x)
+said_at k s p = read_as k s p >>= λ x. Ok (on_carried (octets_in s) x)
 
 -- and what stands at a table's places
 abbrev pub said_in : List Row → List ℕ → List Span → List (Given (List ℕ))
 said_in t s l = map (on_given (octets_in s)) (values_in t s l)
 
 pub value_back : (s : List ℕ) (p : Span) (v : Value (List ℕ)) → InRange v → has_octets v ≡ true → p.to ≤ length s → Fills (take p.to s) p.from (octets_of v)
-    → got v ≡ said_at (value_kind v) s p
-unfolding octets_of has_octets read_as on_carried ◌>>=◌
-value_back s p (carried os) g e h f = rw (le-leb p.to (length s) h) (ap (λ (x : List ℕ). got (carried x)) (sym (drop_filled (take p.to s) p.from os f)))
+    → Ok v ≡ said_at (value_kind v) s p
+unfolding octets_of has_octets read_as on_carried
+value_back s p (carried os) g e h f = rw (le-leb p.to (length s) h) (ap (λ (x : List ℕ). Ok (carried x)) (sym (drop_filled (take p.to s) p.from os f)))
 value_back s p (mme v) g e h f = rw (sym (mme_back (take p.to s) p.from v g f)) refl
 value_back s p (mce v) g e h f = rw (sym (mce_back (take p.to s) p.from v g f)) refl
 value_back s p (tmgi v) g e h f = rw (sym (tmgi_back (take p.to s) p.from v f)) refl
@@ -143,7 +142,7 @@ value_back s p (name os) g e h f =
     let v : Span = record { from = p.from + 2; to = p.from + 2 + length os } in
     let i = name_in_lem (take p.to s) p.from {v = v} b.0 in
     let k : v.to ≤ p.to = omega (arith, i.2, length-take-le p.to s h) in
-    rw (sym b.0) (ap (λ (x : List ℕ). got (name x)) (sym b.1 ∙ front_in s p.to v k h))
+    rw (sym b.0) (ap (λ (x : List ℕ). Ok (name x)) (sym b.1 ∙ front_in s p.to v k h))
 value_back s p (reset v) g e h f = rw (sym (reset_back (take p.to s) p.from v (reset_has v g e) f)) refl
 value_back s p (list is) g e h f =
     let b = counted_bounds (length is) e in
@@ -151,13 +150,12 @@ value_back s p (list is) g e h f =
 value_back s p (diagnostics t d) g e h f = rw (sym (diagnostics_back (take p.to s) (meanings t) (meanings_few t) p.from d (diagnostics_has (meanings t) d g e) f.stands f.ends)) refl
 
 -- what can be scanned is what can be read as a value
-dropped : {A : Type 0} (is : A → Value Span) (r : Read A) → ◌≡◌ {A = Read Unit} (r >> got tt) (r >>= (λ x. got (is x)) >> got tt)
-unfolding ◌>>=◌
-dropped is (got a) = refl
-dropped is (stop x) = refl
+dropped : {A : Type 0} (is : A → Value Span) (r : Read A) → ◌≡◌ {A = Read Unit} (r >> Ok tt) (r >>= (λ x. Ok (is x)) >> Ok tt)
+dropped is (Ok a) = refl
+dropped is (Err x) = refl
 
-pub scanned_as : (k : Kind) (s : List ℕ) (p : Span) → legible_at k (take p.to s) p.from ≡ (read_as k s p >> got tt)
-unfolding legible_at read_as ◌>>=◌
+pub scanned_as : (k : Kind) (s : List ℕ) (p : Span) → legible_at k (take p.to s) p.from ≡ (read_as k s p >> Ok tt)
+unfolding legible_at read_as
 scanned_as kind.Carried s p = refl
 scanned_as kind.Mme s p = dropped mme (mme_at (take p.to s) p.from)
 scanned_as kind.Mce s p = dropped mce (mce_at (take p.to s) p.from)
@@ -171,65 +169,67 @@ scanned_as kind.ResetType s p = dropped reset (reset_at (take p.to s) p.from)
 scanned_as kind.Acknowledged s p = dropped list (items_at (take p.to s) p.from)
 scanned_as (kind.Diagnostics t) s p = dropped (diagnostics t) (diagnostics_at (meanings t) (take p.to s) p.from)
 
-pub value_read : (k : Kind) (s : List ℕ) (p : Span) {v : Value (List ℕ)} → got v ≡ said_at k s p → got tt ≡ legible_at k (take p.to s) p.from
+pub value_read : (k : Kind) (s : List ℕ) (p : Span) {v : Value (List ℕ)} → Ok v ≡ said_at k s p → Ok tt ≡ legible_at k (take p.to s) p.from
 value_read k s p q = let a = then_got (read_as k s p) _ q in past _ a.0 a.1 refl ∙ sym (scanned_as k s p)
 
 -- ---- of no octets nothing is read
 
 module _ (at : ℕ) where
-  whole_none : (k : ℕ) {v : ℕ} → 0 < k → got v ≡ whole_at k [] at → ⊥
+  whole_none : (k : ℕ) {v : ℕ} → 0 < k → Ok v ≡ whole_at k [] at → ⊥
   whole_none k h q = omega (arith, (number_got [] at k (then_got (number_at k [] at) _ q).1).0)
 
-  pub mme_none : (v : MmeId) → got v ≡ mme_at [] at → ⊥
-  unfolding mme_at
-  mme_none v q = whole_none 2 (omega arith) (then_got (whole_at 2 [] at) _ q).1
-
-  pub mce_none : (v : MceId) → got v ≡ mce_at [] at → ⊥
-  unfolding mce_at
-  mce_none v q = whole_none 2 (omega arith) (then_got (whole_at 2 [] at) _ q).1
-
-  pub one_none : (v : ℕ) → got v ≡ one_at [] at → ⊥
-  unfolding one_at
-  one_none v q = whole_none 1 (omega arith) q
-
-  pub two_none : (v : ℕ) → got v ≡ two_at [] at → ⊥
+  pub two_none : (v : ℕ) → Ok v ≡ two_at [] at → ⊥
   unfolding two_at
   two_none v q = whole_none 2 (omega arith) q
 
+  identity_none : {I : Type 0} (numbered : ℕ → I) (v : I) → Ok v ≡ identity_at numbered [] at → ⊥
+  unfolding identity_at
+  identity_none numbered v q = two_none _ (then_got (two_at [] at) _ q).1
+
+  pub mme_none : (v : MmeId) → Ok v ≡ mme_at [] at → ⊥
+  mme_none = identity_none _
+
+  pub mce_none : (v : MceId) → Ok v ≡ mce_at [] at → ⊥
+  mce_none = identity_none _
+
+  pub one_none : (v : ℕ) → Ok v ≡ one_at [] at → ⊥
+  unfolding one_at
+  one_none v q = whole_none 1 (omega arith) q
+
   -- a first bit
-  plain_none : {A : Type 0} (go : Unit → Read A) {v : A} → got v ≡ plain_at [] at 0 >>= go → ⊥
+  plain_none : {A : Type 0} (go : Unit → Read A) {v : A} → Ok v ≡ plain_at [] at 0 >>= go → ⊥
   plain_none go q = omega (arith, (plain_got [] at 0 (then_got (plain_at [] at 0) go q).1).0)
 
-  pub tmgi_none : (v : Tmgi) → got v ≡ tmgi_at [] at → ⊥
+  pub tmgi_none : (v : Tmgi) → Ok v ≡ tmgi_at [] at → ⊥
   unfolding tmgi_at
   tmgi_none v q = plain_none _ q
 
-  pub cause_none : (v : Cause) → got v ≡ cause_at [] at → ⊥
+  pub cause_none : (v : Cause) → Ok v ≡ cause_at [] at → ⊥
   unfolding cause_at
   cause_none v q = plain_none _ q
 
-  pub wait_none : (v : ℕ) → got v ≡ wait_at [] at → ⊥
+  pub wait_none : (v : ℕ) → Ok v ≡ wait_at [] at → ⊥
   unfolding wait_at
   wait_none v q = plain_none _ q
 
-  pub name_none : (v : Span) → got v ≡ name_at [] at → ⊥
+  pub name_none : (v : Span) → Ok v ≡ name_at [] at → ⊥
   unfolding name_at
   name_none v q = plain_none _ q
 
-  pub reset_none : (v : ResetType) → got v ≡ reset_at [] at → ⊥
+  pub reset_none : (v : ResetType) → Ok v ≡ reset_at [] at → ⊥
   unfolding reset_at
   reset_none v q = plain_none _ q
 
-  pub items_none : (v : List Item) → got v ≡ items_at [] at → ⊥
+  pub items_none : (v : List Item) → Ok v ≡ items_at [] at → ⊥
   unfolding items_at
   items_none v q = omega (arith, (number_got [] at 1 (then_got (number_at 1 [] at) _ q).1).0)
 
-  pub diagnostics_none : (n : ℕ) (v : Diagnostics) → got v ≡ diagnostics_at n [] at → ⊥
+  pub diagnostics_none : (n : ℕ) (v : Diagnostics) → Ok v ≡ diagnostics_at n [] at → ⊥
   unfolding diagnostics_at head_at
   diagnostics_none n v q = omega (arith, marks_in_lem [] at (then_got (marks_at [] at) _ (then_got (head_at n [] at) _ q).1).1)
 
 -- a value that has octets has at least one
-some_octets : (v : Value (List ℕ)) → has_octets v ≡ true → octets_of v ≡ [] → got tt ≡ legible_at (value_kind v) [] 0 → ⊥
+some_octets : (v : Value (List ℕ)) → has_octets v ≡ true → octets_of v ≡ [] → Ok tt ≡ legible_at (value_kind v) [] 0 → ⊥
 unfolding octets_of has_octets legible_at
 some_octets (carried os) e z q = let h = ltb-true 0 (length os) e in omega (arith, ap length z)
 some_octets (mme v) e z q = mme_none 0 _ (then_got (mme_at [] 0) _ q).1

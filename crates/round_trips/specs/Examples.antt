@@ -1,13 +1,10 @@
 -- 01's bench examples, as one table: what each is in Release 18, and its octets.
-use Rattle.std.specs.Prelude.{ℕ, List, [], ◌∷◌, ◌≡◌, length}
+use Rattle.std.specs.Prelude.{ℕ, List, [], ◌∷◌, ◌≡◌, length, Ok, Err, None, Some}
 use Rattle.lists.specs.Lists.{fill}
-use Rattle.octets.specs.Read.{got, stop}
 use Rattle.octets.specs.declared.Stop.TheVariants as stopped
 use Rattle.octets.specs.Field.{length_at}
 use Rattle.octets.specs.Write.{length_octets}
 use Rattle.octets.specs.Many.{Each}
-use Rattle.identity.specs.declared.Mme.TheVariants as mme
-use Rattle.identity.specs.declared.Mce.TheVariants as mce
 use Rattle.identity.specs.declared.Item.{Item}
 use Rattle.values.specs.declared.Cause.{Cause}
 use Rattle.values.specs.Values.{cause_at}
@@ -44,11 +41,11 @@ saying_values m vs = record { message = m; values = vs }
 
 -- the octets are read as what they are, all of them
 abbrev pub Reads : What → List ℕ → Type 0
-Reads (number n) s = length_at s 0 ≡ got (record { count = n; next = length s })
-Reads (no_number at) s = length_at s 0 ≡ stop (stopped.Fault (record { octet = at }))
-Reads (item i) s = item_at s 0 ≡ got i
-Reads (cause c) s = cause_at s 0 ≡ got c
-Reads (reset r) s = reset_at s 0 ≡ got r
+Reads (number n) s = length_at s 0 ≡ Ok (record { value = n; next = length s })
+Reads (no_number at) s = length_at s 0 ≡ Err (stopped.Fault (record { octet = at }))
+Reads (item i) s = item_at s 0 ≡ Ok i
+Reads (cause c) s = cause_at s 0 ≡ Ok c
+Reads (reset r) s = reset_at s 0 ≡ Ok r
 Reads (message m vs) s = ReadAs Release18 s (saying_values m vs)
 
 -- it is written as the octets; what is no length is not written
@@ -61,7 +58,7 @@ WrittenAs (reset r) s = reset_octets r ≡ s
 WrittenAs (message m vs) s = encoded Release18 (saying_values m vs) ≡ written.octets s
 
 abbrev both : ℕ → ℕ → Item
-both m c = record { mme = mme.Is (record { 0 = m }); mce = mce.Is (record { 0 = c }) }
+both m c = record { mme = Some (record { 0 = m }); mce = Some (record { 0 = c }) }
 
 abbrev hardware_failure : Cause
 hardware_failure = record { group = 4; value = 2 }
@@ -87,9 +84,9 @@ examples =
     ∷ record { what = number 16383; octets = 0xBF ∷ 0xFF ∷ [] }
     ∷ record { what = no_number 0; octets = 0x80 ∷ 0x05 ∷ [] }
     ∷ record { what = item (both 1 2); octets = 0x60 ∷ 0x00 ∷ 0x01 ∷ 0x00 ∷ 0x02 ∷ [] }
-    ∷ record { what = item (record { mme = mme.Is (record { 0 = 1 }); mce = mce.Absent }); octets = 0x40 ∷ 0x00 ∷ 0x01 ∷ [] }
-    ∷ record { what = item (record { mme = mme.Absent; mce = mce.Is (record { 0 = 2 }) }); octets = 0x20 ∷ 0x00 ∷ 0x02 ∷ [] }
-    ∷ record { what = item (record { mme = mme.Absent; mce = mce.Absent }); octets = 0x00 ∷ [] }
+    ∷ record { what = item (record { mme = Some (record { 0 = 1 }); mce = None }); octets = 0x40 ∷ 0x00 ∷ 0x01 ∷ [] }
+    ∷ record { what = item (record { mme = None; mce = Some (record { 0 = 2 }) }); octets = 0x20 ∷ 0x00 ∷ 0x02 ∷ [] }
+    ∷ record { what = item (record { mme = None; mce = None }); octets = 0x00 ∷ [] }
     ∷ record { what = cause hardware_failure; octets = 0x42 ∷ [] }
     ∷ record { what = reset whole; octets = 0x00 ∷ [] }
     ∷ record { what = message Reset (given (value.cause hardware_failure) ∷ given (value.reset (part (both 1 2 ∷ []))) ∷ []); octets = partial_reset }

@@ -2,7 +2,8 @@
 -- that differ have messages that differ.
 -- Two parts of a record say nothing of its message, and are taken as 0: the frame's criticality, since the message has the table's,
 -- and the place of a carried value, since the message has the octets that lie there.
-use Rattle.std.specs.Prelude.{ℕ, ◌+◌, ◌≡◌, Bool, true, false, List, [], ◌∷◌, ◌++◌, get_or, set, take, drop}
+use Rattle.editions.specs.declared.Message.{Message}
+use Rattle.std.specs.Prelude.{ℕ, ◌+◌, ◌≡◌, Bool, true, false, List, [], ◌∷◌, ◌++◌, get_or, set, take, drop, None, Option, Some}
 use Rattle.lists.specs.Lists.{pick}
 use Rattle.octets.specs.Field.{value_at}
 use Rattle.octets.specs.Stands.{Octets}
@@ -10,8 +11,6 @@ use Rattle.rows.specs.declared.Kind.{Kind}
 use Rattle.rows.specs.declared.Kind.TheVariants as kind
 use Rattle.rows.specs.declared.Row.{Row}
 use Rattle.editions.specs.declared.Edition.{Edition}
-use Rattle.editions.specs.declared.Named.{Named}
-use Rattle.editions.specs.declared.Named.TheVariants as named
 use Rattle.editions.specs.Editions.{table_of, numbered_by}
 use Rattle.meaning.specs.Value.{octets_in}
 use Rattle.meaning.specs.Written.{octets}
@@ -34,9 +33,9 @@ is_carried kind.Acknowledged = false
 is_carried (kind.Diagnostics t) = false
 
 -- the rows of the message that the record's first octet numbers
-abbrev pub table_by : Edition → Named → List Row
-table_by e (named.Is m) = table_of e m
-table_by e named.Other = []
+abbrev pub table_by : Edition → Option Message → List Row
+table_by e (Some m) = table_of e m
+table_by e None = []
 
 abbrev pub table_in : Edition → List ℕ → List Row
 table_in e s = table_by e (numbered_by e (get_or s 0 0))

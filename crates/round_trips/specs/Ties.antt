@@ -1,8 +1,7 @@
 -- The ties between reading and writing, in any edition, for all that can be said and all octets.
 -- Statements alone. Nothing here names a message.
-use Rattle.std.specs.Prelude.{ℕ, ◌+◌, ◌≡◌, Bool, true, false, ◌||◌, take, get_or}
+use Rattle.std.specs.Prelude.{ℕ, ◌+◌, ◌≡◌, Bool, true, false, ◌||◌, take, get_or, Ok}
 use mathlib.Core.List.{List, [], ◌∷◌, Memᴰ}
-use Rattle.octets.specs.Read.{got}
 use Rattle.octets.specs.Stands.{Octets}
 use Rattle.octets.specs.Many.{Each}
 use Rattle.items.specs.Items.{ResetType, reset_at}
@@ -24,7 +23,7 @@ use Rattle.verdicts.specs.Verdict.{Understood, understood, every, read_of}
 
 -- the criticalities in the envelopes of items are the tables'
 abbrev pub items_marked : Kind → List ℕ → ℕ → Type 0
-items_marked kind.ResetType s at = (r : ResetType) → got r ≡ reset_at s at → Rejecting r s at
+items_marked kind.ResetType s at = (r : ResetType) → Ok r ≡ reset_at s at → Rejecting r s at
 items_marked kind.Acknowledged s at = Marked acknowledgement_crit s at
 items_marked kind.Carried s at = Unit
 items_marked kind.Mme s at = Unit
@@ -84,7 +83,7 @@ module _ (e : Edition) where
     pub accepted : what.outcome ≡ outcome.Accepted  -- answer 0
     pub crit : what.frame.crit ≡ (code_of e what.what.message).crit
     pub count : ℕ
-    pub counted : got (record { elements = count; container = false }) ≡ count_at (container_of e what.what.message) s what.frame.from
+    pub counted : Ok (record { elements = count; container = false }) ≡ count_at (container_of e what.what.message) s what.frame.from
     pub elements : Each (Regular (table_of e what.what.message) s) (heads_at s count (what.frame.from + 3))
     pub complete : lacking (table_of e what.what.message) what.what.values ≡ false
 

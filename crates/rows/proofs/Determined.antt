@@ -2,15 +2,10 @@
 -- Assumes nothing.
 use mathlib.Core.Path.{refl}
 use Rattle.lists.proofs.Unique.{Determined, ◌same◌, ◌&◌}
-use Rattle.rows.proofs.row_count.Kinds as row_count'
-use Rattle.rows.proofs.row_count.Reads as row_count
 use Rattle.rows.proofs.kind_of.Kinds as kind_of'
 use Rattle.rows.proofs.kind_of.Reads as kind_of
 use Rattle.rows.proofs.meanings.Kinds as meanings'
 use Rattle.rows.proofs.meanings.Reads as meanings
-
-pub row_count_is : Determined row_count'.ps row_count'.r row_count.Asked row_count.Learnt
-row_count_is κs a p x y e f = (e.0 same f.0) & refl
 
 pub kind_of_is : Determined kind_of'.ps kind_of'.r kind_of.Asked kind_of.Learnt
 kind_of_is κs a p x y e f = (e same f) & refl

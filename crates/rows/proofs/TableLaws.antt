@@ -9,12 +9,11 @@ use Prim.Native.Nat.{ℕ, zero, suc, ◌+◌, ◌<◌, ◌≤◌}
 use native.Mathlib.Numerals.{add-one}
 use native.Mathlib.Omega.{arith}
 use borrow.Author.Tests.{eq-eqb, ne_eqb}
-use lib.ListN.{length, get_or, drop, drop_of_length-le, length-take}
-use lib.Seq.{drop-cons, get_or-take}
+use lib.ListN.{length, get_or, drop, drop_of_length-le}
+use lib.Seq.{drop-cons}
 use Rattle.rows.specs.declared.Kind.TheVariants.{Carried}
 use Rattle.rows.specs.declared.Row.{Row}
-use Rattle.rows.specs.declared.Rows.{Rows}
-use Rattle.rows.specs.Table.{rows_in, find, no_row, kind_of}
+use Rattle.rows.specs.Table.{find, no_row, kind_of}
 
 head : (r : Row) (rs : List Row) (id : ℕ) → r.id ≡ id → find id (r ∷ rs) ≡ 0
 unfolding find
@@ -40,20 +39,16 @@ module _ (t : List Row) (id k : ℕ) where
   pub ended : length t ≤ k → k + find id (drop k t) ≡ find id t → find id t ≡ k
   ended h i = let q : find id (drop k t) ≡ 0 = ap (find id) (drop_of_length-le t h) ∙ empty id in omega arith
 
--- the rows of a table are those of its array
-pub row_at : (t : Rows) (k : ℕ) → k < length (rows_in t) → get_or t.rows k no_row ≡ get_or (rows_in t) k no_row
-row_at t k h = let e = length-take t.count t.rows in sym (get_or-take t.count t.rows k no_row (omega arith))
+module _ (t : List Row) (id k : ℕ) (h : k < length t) (i : k + find id (drop k t) ≡ find id t) where
+  pub row_here : (get_or t k no_row).id ≡ id → find id t ≡ k
+  row_here e = here t id k h e i
 
-module _ (t : Rows) (id k : ℕ) (h : k < length (rows_in t)) (i : k + find id (drop k (rows_in t)) ≡ find id (rows_in t)) where
-  pub row_here : (get_or t.rows k no_row).id ≡ id → find id (rows_in t) ≡ k
-  row_here e = here (rows_in t) id k h (ap (λ (r : Row). r.id) (sym (row_at t k h)) ∙ e) i
-
-  pub row_past : ((get_or t.rows k no_row).id ≡ id → ⊥) → k + 1 + find id (drop (k + 1) (rows_in t)) ≡ find id (rows_in t)
-  row_past e = past (rows_in t) id k h (λ q. e (ap (λ (r : Row). r.id) (row_at t k h) ∙ q)) i
+  pub row_past : ((get_or t k no_row).id ≡ id → ⊥) → k + 1 + find id (drop (k + 1) t) ≡ find id t
+  row_past e = past t id k h e i
 
   -- what is found is read as its row says
-  pub row_kind : (get_or t.rows k no_row).id ≡ id → (get_or t.rows k no_row).kind ≡ kind_of (rows_in t) id
-  row_kind e = ap (λ (r : Row). r.kind) (row_at t k h) ∙ ap (λ (j : ℕ). (get_or (rows_in t) j no_row).kind) (sym (row_here e))
+  pub row_kind : (get_or t k no_row).id ≡ id → (get_or t k no_row).kind ≡ kind_of t id
+  row_kind e = ap (λ (j : ℕ). (get_or t j no_row).kind) (sym (row_here e))
 
 no_row_lem : (t : List Row) (k : ℕ) → length t ≤ k → get_or t k no_row ≡ no_row
 no_row_lem [] k h = refl

@@ -1,16 +1,16 @@
 -- Tables of element rows.
-use Rattle.std.specs.Prelude.{ℕ, suc, Bool, false, List, [], ◌∷◌, ltb, eqb, length, take, get_or}
+use Rattle.std.specs.Prelude.{ℕ, suc, Bool, false, List, [], ◌∷◌, ltb, eqb, length, get_or}
 use Rattle.lists.specs.Lists.{pick}
 use Rattle.rows.specs.declared.Kind.{Kind}
 use Rattle.rows.specs.declared.Kind.TheVariants.{Carried}
 use Rattle.rows.specs.declared.Row.{Row}
-use Rattle.rows.specs.declared.Rows.{Rows}
+use Rattle.rows.specs.declared.table.Rows.{Rows}
 use Rattle.rows.specs.declared.Triggers.{Triggers}
 use Rattle.rows.specs.declared.Triggers.TheVariants.{Three, Four}
 
 -- the rows that a table has
 abbrev pub rows_in : Rows → List Row
-rows_in t = take t.count t.rows
+rows_in t = t.rows.now
 
 -- the place of an id among rows, or their number
 unfoldable pub find : ℕ → List Row → ℕ

@@ -1,8 +1,12 @@
 // What a table of elements is made of: its rows, and how the value of a row's element is read.
 #![tactic(auto)]
 
-ghost use Rattle.std.specs.Prelude.{◌≡◌, ◌≤◌, length};
+ghost use Rattle.std.specs.Prelude.{◌≡◌};
 ghost use Rattle.rows.specs.Table.{rows_in, kind_of, meanings};
+
+mod table;
+
+pub use table::Rows;
 
 // How many meanings the triggering message of Criticality Diagnostics has.
 #[derive(Clone, Copy)]
@@ -40,36 +44,14 @@ pub struct Row {
     pub mandatory: bool,
 }
 
-// A table: its first count rows.
-#[derive(Clone, Copy)]
-pub struct Rows {
-    pub rows: [Row; 12],
-    pub count: usize,
-}
-
-// How many rows a table has.
-pub fn row_count(t: Rows) -> usize
-    ensures { (result ≡ length (rows_in t)) × (result ≤ 12) }
-{
-    let n = t.count;
-    if n < 12 {
-        return n;
-    }
-    12
-}
-
 // How the value of an element is read.
 pub fn kind_of(t: Rows, id: u16) -> Kind
-    ensures { result ≡ kind_of (rows_in t) id }
+    ensures { result ≡ kind_of (rows_in t.entry) id }
 {
-    let rows = row_count(t);
-    let mut k: usize = 0;
-    while k < rows {
-        let r = t.rows[k];
+    for r in t.rows {
         if r.id == id {
             return r.kind;
         }
-        k += 1;
     }
     Kind::Carried
 }

@@ -1,22 +1,21 @@
 -- The setup call, by the steps in which the code comes to it: each refusal in its turn, and then what the writer answered.
 -- Assumes nothing.
+use Rattle.std.specs.Prelude.{Err, None, Ok, Some}
+use Rattle.plan.specs.declared.Unwritten.TheVariants as unwritten
 use Prim.Native.Nat.{ℕ}
 use mathlib.Core.Path.{◌≡◌, refl, sym, ap, subst, ◌∙◌}
-use mathlib.Core.Bool.{Bool, true, false, true≢false}
+use mathlib.Core.Bool.{Bool, true, false}
 use mathlib.Core.List.{List, ◌++◌}
+use native.Mathlib.Omega.{arith}
 use lib.Dec.{leb}
 use lib.ListN.{length, drop}
 use Rattle.lists.specs.Lists.{pick}
 use Rattle.identity.specs.declared.Item.{Item}
-use Rattle.table.specs.declared.Standing.{Standing}
 use Rattle.lent.specs.declared.Looked.{Looked}
-use Rattle.lent.specs.declared.Looked.TheVariants as looked
 use Rattle.editions.specs.declared.Edition.{Edition}
 use Rattle.meaning.specs.Written.{Encoded, octets, none}
 use Rattle.layout.specs.Record.{written, name_refused}
-use Rattle.plan.specs.declared.Written.{Written}
-use Rattle.plan.specs.declared.Written.TheVariants as written
-use Rattle.plan.specs.Written.{Writing, kept, in_front, written_in, Writes}
+use Rattle.plan.specs.Written.{Writing, kept, in_front, written_in, Writes, Written}
 use Rattle.units.specs.Unit.{Unit, with_open, unit_octets, open_in, open_out, MaybeUnit, is_unit, no_unit, read_unit, looked_in}
 use Rattle.units.proofs.Parts.{read_unit_lem}
 use Rattle.units.proofs.OneForm.{mark_put}
@@ -27,23 +26,19 @@ use Rattle.setup.specs.Setup.{Setup, SetupDone, refusing, is_request, request_of
 
 -- ---- what was looked up
 
-abbrev is_table : Looked → Bool
-is_table (looked.Is k m) = true
-is_table looked.NoTable = false
-
-pub has_no_unit : (s : List ℕ) (i : Item) → looked.NoTable ≡ looked_in i (read_unit s) → read_unit s ≡ no_unit
+pub has_no_unit : (s : List ℕ) (i : Item) → None ≡ looked_in i (read_unit s) → read_unit s ≡ no_unit
 has_no_unit s i e = by (read_unit s) refl
   where
     by : (r : MaybeUnit) → read_unit s ≡ r → read_unit s ≡ no_unit
     by no_unit q = q
-    by (is_unit u) q = absurd (true≢false (sym (ap is_table (e ∙ ap (looked_in i) q))))
+    by (is_unit u) q = let k = e ∙ ap (looked_in i) q in let z : ◌≡◌ {A = ℕ} 0 1 = cc in absurd (omega arith)
 
-pub a_unit : (s : List ℕ) (i : Item) {k : Standing} {n : ℕ} → looked.Is k n ≡ looked_in i (read_unit s) → (u : Unit) × (read_unit s ≡ is_unit u)
-a_unit s i {k} {n} e = by (read_unit s) refl
+pub a_unit : (s : List ℕ) (i : Item) {k : Looked} → Some k ≡ looked_in i (read_unit s) → (u : Unit) × (read_unit s ≡ is_unit u)
+a_unit s i {k} e = by (read_unit s) refl
   where
     by : (r : MaybeUnit) → read_unit s ≡ r → (u : Unit) × (read_unit s ≡ is_unit u)
     by (is_unit u) q = (u, q)
-    by no_unit q = absurd (true≢false (ap is_table (e ∙ ap (looked_in i) q)))
+    by no_unit q = let k = e ∙ ap (looked_in i) q in let z : ◌≡◌ {A = ℕ} 0 1 = cc in absurd (omega arith)
 
 -- ---- the steps
 
@@ -99,9 +94,9 @@ module _ (e : Edition) (t : List ℕ) (c : Setup) where
 
           -- by what is written
           abbrev Left : Written → List ℕ → SetupDone → Type 0
-          Left (written.Done n) d b = (b.answer ≡ Opened) × (length b.request ≡ n) × (b.unit ≡ unit_octets (with_open true u)) × (b.room ≡ d)
-          Left written.NoRoom d b = (b ≡ refusing NoRoom t c.room) × (d ≡ c.room)
-          Left written.NotWritten d b = (b ≡ refusing NotWritten t c.room) × (d ≡ c.room)
+          Left (Ok n) d b = (b.answer ≡ Opened) × (length b.request ≡ n) × (b.unit ≡ unit_octets (with_open true u)) × (b.room ≡ d)
+          Left (Err unwritten.NoRoom) d b = (b ≡ refusing NoRoom t c.room) × (d ≡ c.room)
+          Left (Err unwritten.NotWritten) d b = (b ≡ refusing NotWritten t c.room) × (d ≡ c.room)
 
           abbrev LeftBy : Writing → SetupDone → Type 0
           LeftBy y b = Left y.answer y.room b
@@ -114,7 +109,7 @@ module _ (e : Edition) (t : List ℕ) (c : Setup) where
               sent : SetupDone
               sent = record { answer = Opened; request = os; unit = unit_octets (with_open true u); room = os ++ drop (length os) c.room }
 
-              by : (b : Bool) → LeftBy (pick b (in_front c.room os) (kept written.NoRoom c.room)) (pick b sent (refusing NoRoom t c.room))
+              by : (b : Bool) → LeftBy (pick b (in_front c.room os) (kept (Err unwritten.NoRoom) c.room)) (pick b sent (refusing NoRoom t c.room))
               by true = (refl, refl, refl, refl)
               by false = (refl, refl)
 
@@ -123,17 +118,17 @@ module _ (e : Edition) (t : List ℕ) (c : Setup) where
               let q : written_in c.room (written e c.said c.values) ≡ record { answer = w; room = m } = λ j. record { answer = sym h.answer j; room = sym h.room j } in
               subst (λ (b : SetupDone). Left w m b) (sym request_by) (subst (λ (y : Writing). LeftBy y (opening e u t c.room (written e c.said c.values))) q (left (written e c.said c.values)))
 
-          pub sent_so : {k : ℕ} → w ≡ written.Done k → {r : own.SetupBack} {t' : List ℕ} → r ≡ handed Opened k → t' ≡ open_out true t → SetupCalled (setup e t c) r t' m
+          pub sent_so : {k : ℕ} → w ≡ Ok k → {r : own.SetupBack} {t' : List ℕ} → r ≡ handed Opened k → t' ≡ open_out true t → SetupCalled (setup e t c) r t' m
           sent_so {k} q {r} {t'} p z =
               let l = subst (λ (y : Written). Left y m (setup e t c)) q left_so in
               record { answer = ap (λ (y : own.SetupBack). y.answer) p ∙ sym l.0; octets = ap (λ (y : own.SetupBack). y.octets) p ∙ sym l.1; unit = z ∙ (mark_put t u x.1 true ∙ sym l.2); room = sym l.3 }
 
-          pub no_room_so : w ≡ written.NoRoom → {r : own.SetupBack} → r ≡ handed NoRoom 0 → SetupCalled (setup e t c) r t m
+          pub no_room_so : w ≡ (Err unwritten.NoRoom) → {r : own.SetupBack} → r ≡ handed NoRoom 0 → SetupCalled (setup e t c) r t m
           no_room_so q p =
               let l = subst (λ (y : Written). Left y m (setup e t c)) q left_so in
               rw (l.0, p) (record { answer = refl; octets = refl; unit = refl; room = l.1 })
 
-          pub not_written_so : w ≡ written.NotWritten → {r : own.SetupBack} → r ≡ handed NotWritten 0 → SetupCalled (setup e t c) r t m
+          pub not_written_so : w ≡ (Err unwritten.NotWritten) → {r : own.SetupBack} → r ≡ handed NotWritten 0 → SetupCalled (setup e t c) r t m
           not_written_so q p =
               let l = subst (λ (y : Written). Left y m (setup e t c)) q left_so in
               rw (l.0, p) (record { answer = refl; octets = refl; unit = refl; room = l.1 })

@@ -5,9 +5,8 @@ ghost use Rattle.std.specs.Prelude.{◌≡◌};
 ghost use Rattle.setup.specs.Setup.{setup_number, is_request, setup, SetupCalled};
 
 use editions::{Edition, Message};
-use identity::{Item, Mce, Mme};
-use lent::Looked;
-use plan::Written;
+use identity::Item;
+use plan::Unwritten;
 
 #[derive(Clone, Copy)]
 pub enum SetupAnswer {
@@ -33,17 +32,14 @@ pub struct SetupBack {
 }
 
 const NOBODY: Item = Item {
-    mme: Mme::Absent,
-    mce: Mce::Absent,
+    mme: None,
+    mce: None,
 };
 
-fn hand_back(answer: SetupAnswer, octets: usize) -> SetupBack
-    ensures { result ≡ record { answer = answer; octets = octets } }
+fn refused(answer: SetupAnswer) -> SetupBack
+    ensures { result ≡ record { answer = answer; octets = 0 } }
 {
-    SetupBack {
-        answer: answer,
-        octets: octets,
-    }
+    SetupBack { answer, octets: 0 }
 }
 
 // 02's number of the answer.
@@ -64,37 +60,34 @@ pub fn number_of(a: SetupAnswer) -> u32
 fn is_request(e: Edition, said: &[u8]) -> bool
     ensures { result ≡ is_request e said.now }
 {
-    if said.len() == 0 {
-        return 0 == editions::number_of(e, Message::SetupRequest);
-    }
-    said[0] == editions::number_of(e, Message::SetupRequest)
+    said.first().copied().unwrap_or(0) == editions::number_of(e, Message::SetupRequest)
 }
 
 // Writes the request, and marks it open. Whatever is refused leaves unit and room.
 pub fn set_up(e: Edition, unit: &mut [u8], said: &[u8], values: &[u8], room: &mut [u8]) -> SetupBack
     ensures { SetupCalled (setup e unit.old (record { said = said.now; values = values.now; room = room.old })) result unit.new room.new }
 {
-    match units::look_up(unit, NOBODY) {
-        Looked::NoTable => {
-            return hand_back(SetupAnswer::NoUnit, 0);
-        }
-        Looked::Is(_, _) => {}
-    }
+    let Some(_) = units::look_up(unit, NOBODY) else {
+        return refused(SetupAnswer::NoUnit);
+    };
     if record_form::name_refused(e, said, values) {
-        return hand_back(SetupAnswer::NameNotAllowed, 0);
+        return refused(SetupAnswer::NameNotAllowed);
     }
     if units::is_open(unit) {
-        return hand_back(SetupAnswer::AlreadyOpen, 0);
+        return refused(SetupAnswer::AlreadyOpen);
     }
     if !is_request(e, said) {
-        return hand_back(SetupAnswer::NotWritten, 0);
+        return refused(SetupAnswer::NotWritten);
     }
     match put_message::write(e, said, values, room) {
-        Written::NotWritten => hand_back(SetupAnswer::NotWritten, 0),
-        Written::NoRoom => hand_back(SetupAnswer::NoRoom, 0),
-        Written::Done(n) => {
+        Ok(octets) => {
             units::put_open(true, unit);
-            hand_back(SetupAnswer::Opened, n)
+            SetupBack {
+                answer: SetupAnswer::Opened,
+                octets,
+            }
         }
+        Err(Unwritten::NotWritten) => refused(SetupAnswer::NotWritten),
+        Err(Unwritten::NoRoom) => refused(SetupAnswer::NoRoom),
     }
 }

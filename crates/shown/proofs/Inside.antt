@@ -16,7 +16,8 @@ use lib.Seq.{slice, length-slice, take-take}
 use Rattle.lists.specs.Lists.{pick}
 use Rattle.lists.proofs.Parts.{take_drop}
 use Rattle.lists.proofs.Tests.{on-pick}
-use Rattle.octets.specs.Read.{Read, got, stop}
+use Rattle.std.specs.Prelude.{Ok, Err, None, Option, Some}
+use Rattle.octets.specs.Read.{Read}
 use Rattle.octets.specs.declared.Span.{Span}
 use Rattle.octets.specs.Span.{present}
 use Rattle.names.specs.Names.{name_at}
@@ -28,8 +29,6 @@ use Rattle.rows.specs.declared.Kind.TheVariants as kind
 use Rattle.rows.specs.declared.Row.{Row}
 use Rattle.editions.specs.declared.Edition.{Edition}
 use Rattle.editions.specs.declared.Message.{Message}
-use Rattle.editions.specs.declared.Named.{Named}
-use Rattle.editions.specs.declared.Named.TheVariants as named
 use Rattle.editions.specs.Editions.{table_of, container_of, named_by}
 use Rattle.frames.specs.declared.Frame.{Frame}
 use Rattle.frames.specs.Frame.{frame_at}
@@ -39,8 +38,6 @@ use Rattle.verdicts.specs.declared.Outcome.{Outcome}
 use Rattle.verdicts.specs.declared.Outcome.TheVariants as outcome
 use Rattle.verdicts.specs.declared.Refusal.TheVariants.{TooLong}
 use Rattle.verdicts.specs.Verdict.{Opening, opened_at, refused, verdict_of, of_those, framed, read_of}
-use Rattle.shown.specs.declared.Found.{Found}
-use Rattle.shown.specs.declared.Found.TheVariants.{Name, Nothing}
 use Rattle.shown.specs.declared.Part.{Part}
 use Rattle.shown.specs.Shown.{setup_requests, found_with, found_among, if_accepted, found_in, name_in, part_by, shown_part, part_octets, shown_of, or_else}
 use Rattle.shown.proofs.Values.{name_read_lem, Unnamed, name_or_not}
@@ -51,13 +48,13 @@ pub record Within (s : List ℕ) (v : Span) : Type 0 where
   pub ends : v.to ≤ length s
 
 -- a name stands there
-abbrev pub Inside : List ℕ → Found → Type 0
-Inside s (Name v) = Within s v × GoodName (slice v.from v.to s)
-Inside s Nothing = Unit
+abbrev pub Inside : List ℕ → Option Span → Type 0
+Inside s (Some v) = Within s v × GoodName (slice v.from v.to s)
+Inside s None = Unit
 
 -- ---- a name that is read
 
-read_good : (n at : ℕ) (s : List ℕ) {v : Span} → got v ≡ name_at (take n s) at → Inside s (Name v)
+read_good : (n at : ℕ) (s : List ℕ) {v : Span} → Ok v ≡ name_at (take n s) at → Inside s (Some v)
 read_good n at s {v} q =
     let i = name_in_lem (take n s) at q in
     let b = i.1 in
@@ -68,16 +65,16 @@ read_good n at s {v} q =
       subst GoodName (part_in_lem (take n s) v.from v.to w ∙ ap (drop v.from) (take-take v.to n s (omega arith))) (name_good (take n s) at q),
     )
 
-read_inside : (n at : ℕ) (s : List ℕ) (x : Found) → Inside s x → Inside s (or_else (name_at (take n s) at) x)
+read_inside : (n at : ℕ) (s : List ℕ) (x : Option Span) → Inside s x → Inside s (or_else (name_at (take n s) at) x)
 read_inside n at s x i = by (name_at (take n s) at) refl
   where
     by : (r : Read Span) → r ≡ name_at (take n s) at → Inside s (or_else r x)
-    by (got v) q = read_good n at s q
-    by (stop y) q = i
+    by (Ok v) q = read_good n at s q
+    by (Err y) q = i
 
 -- ---- among values
 
-row_inside : (k : Kind) (s : List ℕ) (v : Span) (x : Found) → Inside s x → Inside s (found_with (value_in k s v) x)
+row_inside : (k : Kind) (s : List ℕ) (v : Span) (x : Option Span) → Inside s x → Inside s (found_with (value_in k s v) x)
 unfolding value_in
 row_inside k s v x i = on (present v)
   where
@@ -97,23 +94,23 @@ among_inside (r ∷ t) s (v ∷ l) = row_inside r.kind s v (found_among (values_
 
 -- ---- of octets
 
-accepted_inside : (o : Outcome) (s : List ℕ) (x : Found) → Inside s x → Inside s (if_accepted o x)
+accepted_inside : (o : Outcome) (s : List ℕ) (x : Option Span) → Inside s x → Inside s (if_accepted o x)
 accepted_inside outcome.Accepted s x i = i
 accepted_inside (outcome.Misplaced k) s x i = tt
 accepted_inside outcome.Rejected s x i = tt
 
 opened_inside : (t : List Row) (m : Message) (f : Frame) (s : List ℕ) (r : Read Opening) → Inside s (found_in (verdict_of t m f s r))
-opened_inside t m f s (got o) = accepted_inside o.outcome s _ (among_inside t s o.spans)
-opened_inside t m f s (stop x) = tt
+opened_inside t m f s (Ok o) = accepted_inside o.outcome s _ (among_inside t s o.spans)
+opened_inside t m f s (Err x) = tt
 
 module _ (e : Edition) (s : List ℕ) where
-  named_inside : (f : Frame) (n : Named) → Inside s (found_in (of_those e setup_requests s f n))
-  named_inside f (named.Is m) = on-pick (λ v. Inside s (found_in v)) (setup_requests m) (opened_inside (table_of e m) m f s (opened_at (table_of e m) (container_of e m) s f.from)) tt
-  named_inside f named.Other = tt
+  named_inside : (f : Frame) (n : Option Message) → Inside s (found_in (of_those e setup_requests s f n))
+  named_inside f (Some m) = on-pick (λ v. Inside s (found_in v)) (setup_requests m) (opened_inside (table_of e m) m f s (opened_at (table_of e m) (container_of e m) s f.from)) tt
+  named_inside f None = tt
 
   framed_inside : (r : Read Frame) → Inside s (found_in (framed e setup_requests s r))
-  framed_inside (got f) = named_inside f (named_by e f.kind f.code)
-  framed_inside (stop x) = tt
+  framed_inside (Ok f) = named_inside f (named_by e f.kind f.code)
+  framed_inside (Err x) = tt
 
   pub name_inside : Inside s (name_in e s)
   unfolding name_in read_of
@@ -123,22 +120,22 @@ module _ (e : Edition) (s : List ℕ) where
   unfolding shown_part
   part_inside l = by (name_in e s) name_inside
     where
-      by : (x : Found) → Inside s x → Within (pick (part_by l x).of_label l s) (part_by l x).span
-      by (Name v) i = i.0
-      by Nothing i = record { order = omega arith; ends = omega arith }
+      by : (x : Option Span) → Inside s x → Within (pick (part_by l x).of_label l s) (part_by l x).span
+      by (Some v) i = i.0
+      by None i = record { order = omega arith; ends = omega arith }
 
   -- only octets that are not too long have a name
-  abbrev Short : Found → Type 0
-  Short (Name v) = length s ≤ 8192
-  Short Nothing = Unit
+  abbrev Short : Option Span → Type 0
+  Short (Some v) = length s ≤ 8192
+  Short None = Unit
 
   name_short : Short (name_in e s)
   unfolding name_in read_of
   name_short = by (ltb 8192 (length s)) refl
     where
-      any : length s ≤ 8192 → (x : Found) → Short x
-      any h (Name v) = h
-      any h Nothing = tt
+      any : length s ≤ 8192 → (x : Option Span) → Short x
+      any h (Some v) = h
+      any h None = tt
 
       by : (b : Bool) → ltb 8192 (length s) ≡ b → Short (found_in (pick b (refused TooLong) (framed e setup_requests s (frame_at s))))
       by true q = tt
@@ -148,28 +145,28 @@ module _ (e : Edition) (s : List ℕ) where
   unfolding shown_part
   part_early l = by (name_in e s) name_inside name_short
     where
-      by : (x : Found) → Inside s x → Short x → (part_by l x).span.to ≤ 8192
-      by (Name v) i h = omega (arith, i.0.ends, h)
-      by Nothing i h = omega arith
+      by : (x : Option Span) → Inside s x → Short x → (part_by l x).span.to ≤ 8192
+      by (Some v) i h = omega (arith, i.0.ends, h)
+      by None i h = omega arith
 
   pub shown_few : (l : List ℕ) → length (shown_of e s l) ≤ 150
   unfolding shown_of shown_part
   shown_few l = by (name_in e s) name_inside
     where
-      by : (x : Found) → Inside s x → length (part_octets s l (part_by l x)) ≤ 150
-      by (Name v) i = (name_size (slice v.from v.to s) i.1).1
-      by Nothing i = let b : min 150 (length l) ≤ length l = omega arith in omega (arith, length-slice 0 (min 150 (length l)) l b)
+      by : (x : Option Span) → Inside s x → length (part_octets s l (part_by l x)) ≤ 150
+      by (Some v) i = (name_size (slice v.from v.to s) i.1).1
+      by None i = let b : min 150 (length l) ≤ length l = omega arith in omega (arith, length-slice 0 (min 150 (length l)) l b)
 
 -- ---- the part that is cut out, of the label or of the request
 
-module _ (e : Edition) (s l : List ℕ) {p : Part} (q : p ≡ shown_part e s l) {b : Bool} (o : p.of_label ≡ b) where
-  pub lies : Within (pick b l s) p.span
-  lies = subst (λ (i : Bool). Within (pick i l s) p.span) o (subst (λ (x : Part). Within (pick x.of_label l s) x.span) (sym q) (part_inside e s l))
+module _ (e : Edition) (s l : List ℕ) {p : Part} (q : p ≡ shown_part e s l) where
+  pub lies : Within (pick p.of_label l s) p.span
+  lies = rw q (part_inside e s l)
 
-  pub shows : take (p.span.to - p.span.from) (drop p.span.from (pick b l s)) ≡ shown_of e s l
+  pub shows : take (p.span.to - p.span.from) (drop p.span.from (pick p.of_label l s)) ≡ shown_of e s l
   unfolding shown_of
   shows =
       let h = lies.order in
       let k : p.span.from + (p.span.to - p.span.from) ≡ p.span.to = omega arith in
-      take_drop (p.span.to - p.span.from) p.span.from (pick b l s)
-      ∙ (ap (λ (n : ℕ). slice p.span.from n (pick b l s)) k ∙ (ap (λ (i : Bool). slice p.span.from p.span.to (pick i l s)) (sym o) ∙ ap (part_octets s l) q))
+      take_drop (p.span.to - p.span.from) p.span.from (pick p.of_label l s)
+      ∙ (ap (λ (n : ℕ). slice p.span.from n (pick p.of_label l s)) k ∙ ap (part_octets s l) q)

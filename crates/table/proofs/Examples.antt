@@ -1,4 +1,5 @@
 -- Worked examples of the rules, computed.
+use Rattle.std.specs.Prelude.{None, Some}
 use mathlib.Core.Path.{◌≡◌, refl}
 use mathlib.Core.Bool.{true, false}
 use mathlib.Core.List.{List, [], ◌∷◌, map}
@@ -6,8 +7,6 @@ use Prim.Native.Nat.{ℕ}
 use Rattle.identity.specs.Items.{empty_item}
 use Rattle.identity.specs.declared.MmeId.{MmeId}
 use Rattle.identity.specs.declared.MceId.{MceId}
-use Rattle.identity.specs.declared.Mme.TheVariants as mme
-use Rattle.identity.specs.declared.Mce.TheVariants as mce
 use Rattle.identity.specs.declared.Item.{Item}
 use Rattle.table.specs.Table.{State, empty_association, named, without, full, starting, stopping, distinct_held}
 use Rattle.table.specs.declared.Association.{Association}
@@ -19,13 +18,13 @@ abbrev c : ℕ → MceId
 c y = record { 0 = y }
 
 abbrev both : ℕ → ℕ → Item
-both x y = record { mme = mme.Is (m x); mce = mce.Is (c y) }
+both x y = record { mme = Some (m x); mce = Some (c y) }
 
 abbrev mme_only : ℕ → Item
-mme_only x = record { mme = mme.Is (m x); mce = mce.Absent }
+mme_only x = record { mme = Some (m x); mce = None }
 
 abbrev mce_only : ℕ → Item
-mce_only y = record { mme = mme.Absent; mce = mce.Is (c y) }
+mce_only y = record { mme = None; mce = Some (c y) }
 
 abbrev association : ℕ × ℕ → Association
 association p = record { mme = m p.0; mce = c p.1; tmgi = empty_association.tmgi; session = empty_association.session }

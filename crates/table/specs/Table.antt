@@ -1,13 +1,8 @@
 -- What a table holds, and the rules on it, over lists of any length.
-use Rattle.std.specs.Prelude.{Bool, false, not, ◌&&◌, List, [], ◌∷◌, ◌++◌, eqb, leb, length, take, drop, replicate}
+use Rattle.std.specs.Prelude.{Bool, false, not, ◌&&◌, List, [], ◌∷◌, ◌++◌, eqb, leb, length, take, drop, replicate, None, Option, Some}
 use Rattle.lists.specs.Lists.{pick, keep, some, apart, fill}
 use Rattle.identity.specs.declared.MmeId.{MmeId}
 use Rattle.identity.specs.declared.MceId.{MceId}
-use Rattle.identity.specs.declared.Mme.{Mme}
-use Rattle.identity.specs.declared.Mme.TheVariants as mme
-use Rattle.identity.specs.declared.Mce.{Mce}
-use Rattle.identity.specs.declared.Mce.TheVariants as mce
-use Rattle.identity.specs.declared.Session.TheVariants as session
 use Rattle.identity.specs.declared.Item.{Item}
 use Rattle.table.specs.declared.Association.{Association}
 use Rattle.table.specs.declared.Table.{Table}
@@ -23,12 +18,12 @@ empty_association = record {
   mme = record { 0 = 0 };
   mce = record { 0 = 0 };
   tmgi = record { plmn = record { 0 = 0; 1 = 0; 2 = 0 }; service = record { 0 = 0; 1 = 0; 2 = 0 } };
-  session = session.Absent;
+  session = None;
 }
 
 -- what stands in a row that holds none, which is never looked at
 abbrev pub unheld : Association
-unheld = record { mme = record { 0 = 0 }; mce = record { 0 = 0 }; tmgi = empty_association.tmgi; session = session.Is 0 }
+unheld = record { mme = record { 0 = 0 }; mce = record { 0 = 0 }; tmgi = empty_association.tmgi; session = Some 0 }
 
 -- the first count rows; all 256 where the count is more
 abbrev pub held : Table → State
@@ -56,11 +51,11 @@ has_mce c a = eqb a.mce.0 c.0
 abbrev pub has_pair : MmeId → MceId → Association → Bool
 has_pair m c a = has_mme m a && has_mce c a
 
-abbrev names_by : Mme → Mce → Association → Bool
-names_by (mme.Is m) (mce.Is c) a = has_pair m c a
-names_by (mme.Is m) mce.Absent a = has_mme m a
-names_by mme.Absent (mce.Is c) a = has_mce c a
-names_by mme.Absent mce.Absent a = false
+abbrev names_by : Option MmeId → Option MceId → Association → Bool
+names_by (Some m) (Some c) a = has_pair m c a
+names_by (Some m) None a = has_mme m a
+names_by None (Some c) a = has_mce c a
+names_by None None a = false
 
 -- one identity: the association holding it; both: only one holding both; none: nothing
 abbrev pub names : Item → Association → Bool
@@ -97,15 +92,15 @@ abbrev pub holds_pair : MmeId → MceId → State → Bool
 holds_pair m c l = some (has_pair m c) l
 
 -- some association held has the identities that are there
-abbrev pub held_by : Mme → Mce → State → Bool
-held_by (mme.Is m) (mce.Is c) l = holds_pair m c l
-held_by (mme.Is m) mce.Absent l = holds_mme m l
-held_by mme.Absent (mce.Is c) l = holds_mce c l
-held_by mme.Absent mce.Absent l = false
+abbrev pub held_by : Option MmeId → Option MceId → State → Bool
+held_by (Some m) (Some c) l = holds_pair m c l
+held_by (Some m) None l = holds_mme m l
+held_by None (Some c) l = holds_mce c l
+held_by None None l = false
 
 -- what is held of an item's identities: the first, the second, both in one association; and whether there is room
 abbrev pub standing : Item → State → Standing
-standing i l = record { mme = held_by i.mme mce.Absent l; mce = held_by mme.Absent i.mce l; pair = held_by i.mme i.mce l; full = full l }
+standing i l = record { mme = held_by i.mme None l; mce = held_by None i.mce l; pair = held_by i.mme i.mce l; full = full l }
 
 -- two associations have one identity in common
 abbrev pub share_mme : Association → Association → Bool

@@ -4,14 +4,14 @@
 ghost use Rattle.std.specs.Prelude.{◌≡◌, [], eqb};
 ghost use Rattle.table.specs.Table.{empty_association, held, table_holding, has_pair, names, starting, stopping, holding};
 
-use identity::{Item, Mce, MceId, Mme, MmeId, Plmn, Service, Session, Tmgi};
+use identity::{Item, MceId, MmeId, Plmn, Service, Tmgi};
 
 #[derive(Clone, Copy)]
 pub struct Association {
     pub mme: MmeId,
     pub mce: MceId,
     pub tmgi: Tmgi,
-    pub session: Session,
+    pub session: Option<u8>,
 }
 
 // The first count rows hold associations, in order of starting.
@@ -37,7 +37,7 @@ const NO_ASSOCIATION: Association = Association {
         plmn: Plmn(0, 0, 0),
         service: Service(0, 0, 0),
     },
-    session: Session::Absent,
+    session: None,
 };
 
 // What is said of a row that holds none.
@@ -47,15 +47,10 @@ pub fn no_association() -> Association
     NO_ASSOCIATION
 }
 
-// What stands in a row that holds none. Every octet of it is 0, so that a table is cleared many octets at a time.
+// What stands in a row that holds none.
 const UNHELD: Association = Association {
-    mme: MmeId(0),
-    mce: MceId(0),
-    tmgi: Tmgi {
-        plmn: Plmn(0, 0, 0),
-        service: Service(0, 0, 0),
-    },
-    session: Session::Is(0),
+    session: Some(0),
+    ..NO_ASSOCIATION
 };
 
 // The table that holds nothing; a whole reset leaves it.
@@ -68,47 +63,22 @@ pub fn empty() -> Table
     }
 }
 
-// Identities are compared within their series alone.
-fn same_mme(m: MmeId, n: MmeId) -> bool
-    ensures { result ≡ eqb m.0 n.0 }
-{
-    m.0 == n.0
-}
-
-fn same_mce(c: MceId, d: MceId) -> bool
-    ensures { result ≡ eqb c.0 d.0 }
-{
-    c.0 == d.0
-}
-
-// The association has both identities.
+// The association has both identities. Each is compared within its series alone.
 fn has_pair(m: MmeId, c: MceId, a: Association) -> bool
     ensures { result ≡ has_pair m c a }
 {
-    let mme = a.mme;
-    let mce = a.mce;
-    let first = same_mme(mme, m);
-    let second = same_mce(mce, c);
-    first && second
+    a.mme == m && a.mce == c
 }
 
 // The item names the association.
 pub fn names(item: Item, a: Association) -> bool
     ensures { result ≡ names item a }
 {
-    let x = item.mme;
-    let y = item.mce;
-    let mme = a.mme;
-    let mce = a.mce;
-    match x {
-        Mme::Is(m) => match y {
-            Mce::Is(c) => has_pair(m, c, a),
-            Mce::Absent => same_mme(mme, m),
-        },
-        Mme::Absent => match y {
-            Mce::Is(c) => same_mce(mce, c),
-            Mce::Absent => false,
-        },
+    match (item.mme, item.mce) {
+        (Some(m), Some(c)) => has_pair(m, c, a),
+        (Some(m), None) => a.mme == m,
+        (None, Some(c)) => a.mce == c,
+        (None, None) => false,
     }
 }
 
@@ -116,7 +86,7 @@ pub fn names(item: Item, a: Association) -> bool
 pub fn start(t: Table, a: Association) -> Table
     ensures { result ≡ holding (starting a (held t)) t }
 {
-    let n = numbers::lesser(t.count, 256);
+    let n = t.count.min(256);
     let mut out = t;
     out.count = n;
     if n < 256 {
@@ -130,14 +100,12 @@ pub fn start(t: Table, a: Association) -> Table
 pub fn stop(t: Table, m: MmeId, c: MceId) -> Table
     ensures { result ≡ holding (stopping m c (held t)) t }
 {
-    let n = numbers::lesser(t.count, 256);
+    let n = t.count.min(256);
     let mut out = t;
     let mut k = 0;
-    let mut i = 0;
-    while i < n {
+    for i in 0..n {
         let a = out.rows[i];
         out.rows[i] = UNHELD;
-        i += 1;
         if !has_pair(m, c, a) {
             out.rows[k] = a;
             k += 1;

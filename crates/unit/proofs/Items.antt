@@ -1,6 +1,8 @@
 -- The items of a message: what was read is in range, so their words say them again; those with an identity are the words that are not 0; and an item without one
 -- names nothing, so that a partial reset leaves the same without it.
 -- Assumes nothing.
+use Rattle.identity.specs.declared.MceId.{MceId}
+use Rattle.identity.specs.declared.MmeId.{MmeId}
 use Prim.Native.Nat.{ℕ, ◌+◌, ◌*◌, ◌≤◌}
 use mathlib.Core.Path.{◌≡◌, ◌∙◌, refl, sym, ap, subst}
 use mathlib.Core.Bool.{Bool, true, false, not, ◌||◌}
@@ -13,17 +15,14 @@ use lib.Seq.{sets, sets-eq, length-sets, take-append_seam, take_all}
 use Rattle.lists.specs.Lists.{pick, keep, some}
 use Rattle.lists.proofs.Keep.{length_keep, keep_cong}
 use Rattle.lists.proofs.Tests.{on-pick}
-use Rattle.octets.specs.Read.{Read, got, stop, ◌>>=◌}
+use Rattle.std.specs.Prelude.{Ok, Err, None, Option, Some}
+use Rattle.octets.specs.Read.{Read, ◌>>=◌}
 use Rattle.octets.specs.Stands.{Octets}
 use Rattle.octets.specs.Many.{Each}
 use Rattle.octets.specs.declared.Span.{Span}
 use Rattle.octets.specs.Span.{present}
 use Rattle.octets.proofs.Chain.{then_got, same_got}
 use Rattle.octets.proofs.Stood.{octets_front}
-use Rattle.identity.specs.declared.Mme.{Mme}
-use Rattle.identity.specs.declared.Mme.TheVariants as mme
-use Rattle.identity.specs.declared.Mce.{Mce}
-use Rattle.identity.specs.declared.Mce.TheVariants as mce
 use Rattle.identity.specs.declared.Item.{Item}
 use Rattle.values.specs.Values.{mme_at, mce_at, tmgi_at, one_at, two_at, cause_at, wait_at}
 use Rattle.names.specs.Names.{name_at}
@@ -53,7 +52,7 @@ pub record ItemsFit (is : List Item) : Type 0 where
   pub each : Each GoodItem is
 
 -- what holds of each value that a reading gives holds of the value that was read
-of_read : {A : Type 0} (P : Value Span → Type 0) (put : A → Value Span) (r : Read A) {v : Value Span} → got v ≡ r >>= (λ x. got (put x)) → ((a : A) → got a ≡ r → P (put a)) → P v
+of_read : {A : Type 0} (P : Value Span → Type 0) (put : A → Value Span) (r : Read A) {v : Value Span} → Ok v ≡ r >>= (λ x. Ok (put x)) → ((a : A) → Ok a ≡ r → P (put a)) → P v
 of_read P put r q h = let a = then_got r _ q in subst P (sym (same_got a.2)) (h a.0 a.1)
 
 module _ (s : List ℕ) (o : Octets s) where
@@ -69,7 +68,7 @@ module _ (s : List ℕ) (o : Octets s) where
     with_reset_lem whole h = g
     with_reset_lem (part is) h = record { few = h.1; each = h.2 }
 
-    read_fits : (k : Kind) {v : Value Span} → got v ≡ read_as k s p → With v
+    read_fits : (k : Kind) {v : Value Span} → Ok v ≡ read_as k s p → With v
     unfolding read_as With lists_of
     read_fits kind.Carried q = subst With (sym (same_got q)) g
     read_fits kind.Mme q = of_read With value.mme (mme_at (take p.to s) p.from) q (λ a h. g)
@@ -89,8 +88,8 @@ module _ (s : List ℕ) (o : Octets s) where
     value_fits k = on-pick (λ (x : Given Span). ItemsFit (lists_of (x ∷ vs)).items) (present p) (by (read_as k s p) refl) g
       where
         by : (r : Read (Value Span)) → r ≡ read_as k s p → ItemsFit (lists_of (or_absent r ∷ vs)).items
-        by (got v) q = read_fits k q
-        by (stop x) q = g
+        by (Ok v) q = read_fits k q
+        by (Err x) q = g
 
   pub items_fit : (t : List Row) (l : List Span) → ItemsFit (lists_of (values_in t s l)).items
   unfolding values_in lists_of
@@ -103,10 +102,10 @@ module _ (s : List ℕ) (o : Octets s) where
 identity_word : (i : Item) → not (eqb (word_of i) 0) ≡ has_identity i
 identity_word i = by i.mme i.mce
   where
-    by : (m : Mme) (c : Mce) → not (eqb (mme_number m + mce_number c * 4294967296) 0) ≡ has_identity (record { mme = m; mce = c })
-    by mme.Absent mce.Absent = refl
-    by mme.Absent (mce.Is v) = ap not (ne_eqb (0 + (v.0 + 1) * 4294967296) 0 (λ z. omega arith))
-    by (mme.Is v) c = ap not (ne_eqb (v.0 + 1 + mce_number c * 4294967296) 0 (λ z. omega arith))
+    by : (m : Option MmeId) (c : Option MceId) → not (eqb (mme_number m + mce_number c * 4294967296) 0) ≡ has_identity (record { mme = m; mce = c })
+    by None None = refl
+    by None (Some v) = ap not (ne_eqb (0 + (v.0 + 1) * 4294967296) 0 (λ z. omega arith))
+    by (Some v) c = ap not (ne_eqb (v.0 + 1 + mce_number c * 4294967296) 0 (λ z. omega arith))
 
 words_identified : (is : List Item) → identified (map word_of is) ≡ map word_of (keep has_identity is)
 words_identified [] = refl
@@ -129,12 +128,12 @@ unfolding named
 named_kept [] a = refl
 named_kept (i ∷ is) a = by i.mme i.mce (named_kept is a)
   where
-    by : (m : Mme) (c : Mce) → let x : Item = record { mme = m; mce = c } in
+    by : (m : Option MmeId) (c : Option MceId) → let x : Item = record { mme = m; mce = c } in
         some (λ (y : Item). names y a) (keep has_identity is) ≡ some (λ (y : Item). names y a) is
         → some (λ (y : Item). names y a) (pick (has_identity x) (x ∷ []) [] ++ keep has_identity is) ≡ (names x a || some (λ (y : Item). names y a) is)
-    by mme.Absent mce.Absent q = q
-    by mme.Absent (mce.Is c) q = ap (names (record { mme = mme.Absent; mce = mce.Is c }) a ||◌) q
-    by (mme.Is m) c q = ap (names (record { mme = mme.Is m; mce = c }) a ||◌) q
+    by None None q = q
+    by None (Some c) q = ap (names (record { mme = None; mce = Some c }) a ||◌) q
+    by (Some m) c q = ap (names (record { mme = Some m; mce = c }) a ||◌) q
 
 pub without_kept : (is : List Item) (l : State) → without (keep has_identity is) l ≡ without is l
 unfolding without

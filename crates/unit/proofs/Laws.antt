@@ -1,5 +1,6 @@
 -- What is sent of a reply and settled then, whatever the items where none are needed; the unit that is written; and what was looked up.
 -- Assumes nothing.
+use Rattle.std.specs.Prelude.{None, Option, Some, Ok, Err}
 use Prim.Native.Nat.{ℕ, ◌≤◌}
 use mathlib.Core.Path.{◌≡◌, refl, sym, ap, subst, ◌∙◌}
 use mathlib.Core.Bool.{Bool, true, false, not, ◌&&◌, true≢false}
@@ -14,9 +15,6 @@ use Rattle.lists.specs.Lists.{pick, keep}
 use Rattle.lists.proofs.Tests.{on-pick, and_left, and_right}
 use Rattle.identity.specs.declared.MmeId.{MmeId}
 use Rattle.identity.specs.declared.MceId.{MceId}
-use Rattle.identity.specs.declared.Mme.{Mme}
-use Rattle.identity.specs.declared.Mme.TheVariants as mme
-use Rattle.identity.specs.declared.Session.{Session}
 use Rattle.identity.specs.declared.Tmgi.{Tmgi}
 use Rattle.identity.specs.declared.Item.{Item}
 use Rattle.values.specs.declared.Cause.{Cause}
@@ -32,7 +30,6 @@ use Rattle.table.proofs.Rows.{held_of}
 use Rattle.table.proofs.Rules.{appended, not_appended}
 use Rattle.table.proofs.Holding.{holding_of}
 use Rattle.lent.specs.declared.Looked.{Looked}
-use Rattle.lent.specs.declared.Looked.TheVariants as looked
 use Rattle.lent.specs.Lent.{Held, Good, read_table, first_rows, table_octets}
 use Rattle.lent.proofs.OneForm.{one_form}
 use Rattle.units.specs.Unit as units
@@ -47,8 +44,6 @@ use Rattle.reset.proofs.Untouched.{without_none}
 use Rattle.requests.specs.declared.Ask.{Ask}
 use Rattle.requests.specs.declared.Ask.TheVariants as ask
 use Rattle.requests.specs.declared.Seen.{Seen}
-use Rattle.requests.specs.declared.Wanted.{Wanted}
-use Rattle.requests.specs.declared.Wanted.TheVariants as wanted
 use Rattle.requests.specs.declared.Request.{Request}
 use Rattle.requests.specs.declared.Request.TheVariants as request
 use Rattle.requests.specs.Requests.{asks, request_of, items_in}
@@ -64,11 +59,7 @@ use Rattle.carry.specs.declared.Answer.TheVariants as answer
 use Rattle.carry.specs.declared.Change.{Change}
 use Rattle.carry.specs.declared.Change.TheVariants as change
 use Rattle.carry.specs.declared.Decision.{Decision}
-use Rattle.carry.specs.declared.Ruling.{Ruling}
-use Rattle.carry.specs.declared.Ruling.TheVariants.{Granted, Refused}
-use Rattle.carry.specs.Carry.{start_rejected, rejection, ruled_by, ruling, started, stopped, carried_out, asked_by, decision, refusal}
-use Rattle.put_reply.specs.declared.Sent.{Sent}
-use Rattle.put_reply.specs.declared.Sent.TheVariants.{Done, NoRoom}
+use Rattle.carry.specs.Carry.{Ruling, start_rejected, rejection, ruled_by, ruling, started, stopped, carried_out, asked_by, decision, refusal}
 use Rattle.put_reply.specs.Parts.{Sending, sent_in, Sends}
 use Rattle.calls.specs.Judged.{ruled, judged_by, setup_answer}
 use Rattle.calls.specs.Decided.{Decided, keeps, changed, applied, decided}
@@ -80,16 +71,16 @@ use Rattle.unit.proofs.Items.{without_kept}
 -- ---- the reply
 
 -- its octets do not fit; or they stand in front
-pub data Put (d os : List ℕ) : Sent → List ℕ → Type 0 where
-  not_put : leb (length os) (length d) ≡ false → Put d os NoRoom d
-  put : leb (length os) (length d) ≡ true → Put d os (Done (length os)) (os ++ drop (length os) d)
+pub data Put (d os : List ℕ) : Option ℕ → List ℕ → Type 0 where
+  not_put : leb (length os) (length d) ≡ false → Put d os None d
+  put : leb (length os) (length d) ≡ true → Put d os (Some (length os)) (os ++ drop (length os) d)
 
 put_in : (d os : List ℕ) → Put d os (sent_in d os).answer (sent_in d os).room
 unfolding sent_in
 put_in d os = by (leb (length os) (length d)) refl
   where
     by : (b : Bool) → leb (length os) (length d) ≡ b
-        → let w : Sending = pick b (record { answer = Done (length os); room = os ++ drop (length os) d }) (record { answer = NoRoom; room = d }) in Put d os w.answer w.room
+        → let w : Sending = pick b (record { answer = Some (length os); room = os ++ drop (length os) d }) (record { answer = None; room = d }) in Put d os w.answer w.room
     by true e = put e
     by false e = not_put e
 
@@ -105,15 +96,15 @@ module _ (e : Edition) where
   reply_of_lem l is r (change.SetupFails w) = refl
 
   -- by the arm of what was sent
-  pub sent_put : (d : List ℕ) (l : units.Unit) (is : List Item) (r : Replied) (y : Change) {x w : Sent} {m : List ℕ} → x ≡ w → Sends (sent_in d (reply_octets e r)) x m → Put d (reply_of e (changed l is r y)) w m
-  sent_put d l is r y {x} {w} {m} q h = subst (λ (os : List ℕ). Put d os w m) (reply_of_lem l is r y) (subst (λ (z : Sent). Put d (reply_octets e r) z m) q (rw (h.answer, h.room) (put_in d (reply_octets e r))))
+  pub sent_put : (d : List ℕ) (l : units.Unit) (is : List Item) (r : Replied) (y : Change) {x w : Option ℕ} {m : List ℕ} → x ≡ w → Sends (sent_in d (reply_octets e r)) x m → Put d (reply_of e (changed l is r y)) w m
+  sent_put d l is r y {x} {w} {m} q h = subst (λ (os : List ℕ). Put d os w m) (reply_of_lem l is r y) (subst (λ (z : Option ℕ). Put d (reply_octets e r) z m) q (rw (h.answer, h.room) (put_in d (reply_octets e r))))
 
   module _ (t d : List ℕ) (x : Decided) where
-    pub no_room_lem : {m : List ℕ} → Put d (reply_of e x) NoRoom m → Called (settled e t d x) (record { answer = answer.NoRoom; octets = 0 }) t m
+    pub no_room_lem : {m : List ℕ} → Put d (reply_of e x) None m → Called (settled e t d x) (record { answer = answer.NoRoom; octets = 0 }) t m
     unfolding settled
     no_room_lem (not_put q) = rw q (record { answer = refl; octets = refl; unit = refl; room = refl })
 
-    pub done : {n : ℕ} {m s : List ℕ} {a : Answer} → Put d (reply_of e x) (Done n) m → a ≡ answer_of x → s ≡ unit_after t x → Called (settled e t d x) (record { answer = a; octets = n }) s m
+    pub done : {n : ℕ} {m s : List ℕ} {a : Answer} → Put d (reply_of e x) (Some n) m → a ≡ answer_of x → s ≡ unit_after t x → Called (settled e t d x) (record { answer = a; octets = n }) s m
     unfolding settled
     done (put q) p r = rw q (record { answer = p; octets = refl; unit = r; room = refl })
 
@@ -128,9 +119,9 @@ none_rejected : (a : Ask) (x : Seen) (why : Cause) → lists_items (rejection a 
 unfolding rejection
 none_rejected ask.Start x why = by x.mme
   where
-    by : (m : Mme) → lists_items (start_rejected m why) ≡ false
-    by (mme.Is m) = refl
-    by mme.Absent = refl
+    by : (m : Option MmeId) → lists_items (start_rejected m why) ≡ false
+    by (Some m) = refl
+    by None = refl
 none_rejected ask.Stop x why = refl
 none_rejected ask.Reset x why = refl
 none_rejected ask.Indication x why = refl
@@ -141,9 +132,9 @@ none_rejected ask.Nothing x why = refl
 none_refused : (a : Ask) (x : Seen) (o : Outcome) → NoneListed (ruling a x o)
 none_refused a x outcome.Accepted = by (request_of a x)
   where
-    by : (w : Wanted) → NoneListed (ruled_by (rejection a x abstract_syntax) w)
-    by (wanted.Is q) = tt
-    by wanted.Lacking = none_rejected a x abstract_syntax
+    by : (w : Option Request) → NoneListed (ruled_by (rejection a x abstract_syntax) w)
+    by (Some q) = tt
+    by None = none_rejected a x abstract_syntax
 none_refused a x (outcome.Misplaced p) = none_rejected a x falsely_constructed
 none_refused a x outcome.Rejected = none_rejected a x abstract_syntax
 
@@ -154,7 +145,7 @@ module _ (k : Standing) (c : MceId) where
   abbrev Agrees : Decision → Type 0
   Agrees d = lists_items d.reply ≡ resets d.change
 
-  started_agrees : (m : MmeId) (t : Tmgi) (s : Session) → Agrees (started k c m t s)
+  started_agrees : (m : MmeId) (t : Tmgi) (s : Option ℕ) → Agrees (started k c m t s)
   unfolding started
   started_agrees m t s = on-pick Agrees k.mme refl (on-pick Agrees k.mce refl (on-pick Agrees k.full refl refl))
 
@@ -172,8 +163,8 @@ module _ (k : Standing) (c : MceId) where
   carried_agrees (request.SetupFailure w) = refl
 
   agrees : (r : Ruling) → NoneListed r → Agrees (decision k c r)
-  agrees (Granted q) n = carried_agrees q
-  agrees (Refused r) n = n
+  agrees (Ok q) n = carried_agrees q
+  agrees (Err r) n = n
 
   pub items_agree : (r : Ruling) → NoneListed r → {d : Decision} → d ≡ decision k c r → Agrees d
   items_agree r n h = subst Agrees (sym h) (agrees r n)
@@ -223,8 +214,8 @@ module _ (e : Edition) (l : units.Unit) (f : Frame) (is : List Item) (es : List 
 pub ruled_applied : (e : Edition) (u : units.Unit) (c : MceId) (w : Understood) (r : Ruling) → NoneListed r
     → applied e u w.frame (items_in w.what) w.noted (decision (table.standing (asked_by c r) u.held) c r) ≡ decided e u c (ruled e w r)
 unfolding decided
-ruled_applied e u c w (Granted q) n = refl
-ruled_applied e u c w (Refused r) n = ap (keeps answer.Rejected) (replied_any e w.frame (keep has_identity (items_in w.what)) [] w.noted r n)
+ruled_applied e u c w (Ok q) n = refl
+ruled_applied e u c w (Err r) n = ap (keeps answer.Rejected) (replied_any e w.frame (keep has_identity (items_in w.what)) [] w.noted r n)
 
 -- ---- the unit
 
@@ -299,47 +290,36 @@ not_touched n t h ws e q =
     sym (ap (λ (x : State). unit_octets (with_held (λ y. x) (unit_in n t))) z ∙ one_unit.again t (unit_in n t) h.0)
 
 -- what was looked up: the rows are those of a unit, and what is held of the identities stands in them
-pub record Found (s : List ℕ) (i : Item) (k : Standing) (n : ℕ) : Type 0 where
-  pub rows : HasRows n s
-  pub standing : k ≡ table.standing i (unit_in n s).held
-
-abbrev rows_said : ℕ → Looked → ℕ
-rows_said n (looked.Is k m) = m
-rows_said n looked.NoTable = n
-
-abbrev standing_said : Standing → Looked → Standing
-standing_said k (looked.Is x m) = x
-standing_said k looked.NoTable = k
-
-abbrev is_table : Looked → Bool
-is_table (looked.Is k m) = true
-is_table looked.NoTable = false
+pub record Found (s : List ℕ) (i : Item) (l : Looked) : Type 0 where
+  pub rows : HasRows l.count s
+  pub standing : l.standing ≡ table.standing i (unit_in l.count s).held
 
 -- what is read is what is said
 unit_is : (s : List ℕ) (u : units.Unit) → read_unit s ≡ is_unit u → with_held (λ y. u.held) (said_unit s) ≡ u
 unit_is s u q = ap (with_held (λ y. u.held)) (read_unit_lem s q).1
 
 module _ (s : List ℕ) (i : Item) where
-  pub found : {k : Standing} {n : ℕ} → looked.Is k n ≡ looked_in i (read_unit s) → Found s i k n
-  found {k} {n} e = by (read_unit s) refl
+  pub found : {l : Looked} → Some l ≡ looked_in i (read_unit s) → Found s i l
+  found {l} e = by (read_unit s) refl
     where
-      by : (r : MaybeUnit) → read_unit s ≡ r → Found s i k n
+      by : (r : MaybeUnit) → read_unit s ≡ r → Found s i l
       by (is_unit u) q =
-          let z : looked.Is k n ≡ looked.Is (table.standing i u.held) (length u.held) = e ∙ ap (looked_in i) q in
-          let m : n ≡ length u.held = ap (rows_said n) z in
-          let f : first_rows n (take 3074 s) ≡ u.held = ap (λ (x : ℕ). first_rows x (take 3074 s)) m ∙ one_form.rows (take 3074 s) u.held (table_of s u q) in
+          let z : ◌≡◌ {A = Option Looked} (Some l) (Some (record { standing = table.standing i u.held; count = length u.held })) = e ∙ ap (looked_in i) q in
+          let k : l ≡ record { standing = table.standing i u.held; count = length u.held } = cc in
+          let m : l.count ≡ length u.held = ap (λ (x : Looked). x.count) k in
+          let f : first_rows l.count (take 3074 s) ≡ u.held = ap (λ (x : ℕ). first_rows x (take 3074 s)) m ∙ one_form.rows (take 3074 s) u.held (table_of s u q) in
           record {
             rows = (q ∙ ap is_unit (sym (unit_is s u q) ∙ ap (λ (x : State). with_held (λ y. x) (said_unit s)) (sym f)), m ∙ ap length (sym f));
-            standing = ap (standing_said k) z ∙ ap (table.standing i) (sym f);
+            standing = ap (λ (x : Looked). x.standing) k ∙ ap (table.standing i) (sym f);
           }
-      by no_unit q = absurd (true≢false (ap is_table (e ∙ ap (looked_in i) q)))
+      by no_unit q = let z : ◌≡◌ {A = Option Looked} (Some l) None = e ∙ ap (looked_in i) q in cc
 
-  pub has_no_unit : looked.NoTable ≡ looked_in i (read_unit s) → read_unit s ≡ no_unit
+  pub has_no_unit : None ≡ looked_in i (read_unit s) → read_unit s ≡ no_unit
   has_no_unit e = by (read_unit s) refl
     where
       by : (r : MaybeUnit) → read_unit s ≡ r → read_unit s ≡ no_unit
       by no_unit q = q
-      by (is_unit u) q = absurd (true≢false (sym (ap is_table (e ∙ ap (looked_in i) q))))
+      by (is_unit u) q = let z : ◌≡◌ {A = Option Looked} None (Some (record { standing = table.standing i u.held; count = length u.held })) = e ∙ ap (looked_in i) q in cc
 
 -- ---- the call
 
@@ -379,21 +359,27 @@ module _ (e : Edition) (t : List ℕ) (c : Call) where
   is_open_lem u q = ap (λ (x : units.Unit). x.is_open) (read_unit_lem t q).1
 
   -- where 14 is not due
-  pub called : {v : Verdict} → read_of e asks c.message ≡ v → (setup_answer e c.message && not (open_in t)) ≡ false → {r : back.Back} {t' d' : List ℕ}
+  pub called : {v : Verdict} {b : Bool} → read_of e asks c.message ≡ v → setup_answer e c.message ≡ b → (b && not (open_in t)) ≡ false → {r : back.Back} {t' d' : List ℕ}
       → Called (settled_on e t c v (read_unit t)) r t' d' → Called (call e t c) r t' d'
   unfolding call decided_on
-  called {v} p n {r} {t'} {d'} h =
+  called {v} {b} p k z {r} {t'} {d'} h =
       subst (λ (b : Back). Called b r t' d') (same (read_unit t) refl) (subst (λ (x : Verdict). Called (settled_on e t c x (read_unit t)) r t' d') (sym p) h)
     where
+      n : (setup_answer e c.message && not (open_in t)) ≡ false
+      n = ap (λ (x : Bool). x && not (open_in t)) k ∙ z
+
       same : (y : MaybeUnit) → read_unit t ≡ y → settled_on e t c (read_of e asks c.message) y ≡ on_unit e t c y
       same (is_unit u) q = rw (ap (λ (b : Bool). setup_answer e c.message && not b) (sym (is_open_lem u q)) ∙ n)
       same no_unit q = refl
 
   -- where it is
-  pub not_asked_for : (setup_answer e c.message && not (open_in t)) ≡ true → {r : back.Back} → r ≡ bare_on (read_unit t) answer.NoneOpen → Called (call e t c) r t c.room
+  pub not_asked_for : {b : Bool} → setup_answer e c.message ≡ b → (b && not (open_in t)) ≡ true → {r : back.Back} → r ≡ bare_on (read_unit t) answer.NoneOpen → Called (call e t c) r t c.room
   unfolding call decided_on settled reply_octets
-  not_asked_for n {r} q = rw q (by (read_unit t) refl)
+  not_asked_for {b} i z {r} q = rw q (by (read_unit t) refl)
     where
+      n : (setup_answer e c.message && not (open_in t)) ≡ true
+      n = ap (λ (x : Bool). x && not (open_in t)) i ∙ z
+
       by : (y : MaybeUnit) → read_unit t ≡ y → Called (on_unit e t c y) (bare_on y answer.NoneOpen) t c.room
       by (is_unit u) k =
           rw (ap (λ (b : Bool). setup_answer e c.message && not b) (sym (is_open_lem u k)) ∙ n, le-leb 0 (length c.room) (omega arith))

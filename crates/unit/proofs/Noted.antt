@@ -7,7 +7,8 @@ use mathlib.Core.List.{List, [], ◌∷◌, map}
 use native.Mathlib.Omega.{arith}
 use lib.ListN.{length, take, length-take, length-map}
 use lib.Seq.{length-sets}
-use Rattle.octets.specs.Read.{Read, got, stop}
+use Rattle.std.specs.Prelude.{Ok, Err}
+use Rattle.octets.specs.Read.{Read}
 use Rattle.octets.specs.Stands.{Octets}
 use Rattle.octets.specs.Many.{Each}
 use Rattle.octets.proofs.Chain.{then_got, same_got}
@@ -23,7 +24,7 @@ use Rattle.elements.proofs.Listed.{each_first, HeadFits, heads_fit, listed_each}
 use Rattle.frames.specs.Frame.{count_at}
 use Rattle.verdicts.specs.Verdict.{Opening, opening_by, opened_at}
 use Rattle.judging.specs.Judging.{noted_of, NotedIn}
-use Rattle.unit.specs.Unit.{NumbersFit}
+use Rattle.unit.specs.Fit.{NumbersFit}
 use Rattle.unit.proofs.Items.{front_put}
 
 -- ---- entries
@@ -39,7 +40,7 @@ record Judged (t : List Row) (s : List ℕ) (from : ℕ) (o : Opening) : Type 0 
   fit : Octets s → Each HeadFits extensions
   is : opening_by count (elements.judged_of t count (heads_at s count (from + 3)) extensions) ≡ o
 
-judged : (t : List Row) (c : Bool) (s : List ℕ) (from : ℕ) {o : Opening} → got o ≡ opened_at t c s from → Judged t s from o
+judged : (t : List Row) (c : Bool) (s : List ℕ) (from : ℕ) {o : Opening} → Ok o ≡ opened_at t c s from → Judged t s from o
 unfolding opened_at elements.elements_at
 judged t c s from {o} q =
     let a = then_got (count_at c s from) _ q in
@@ -63,22 +64,22 @@ module _ (t : List Row) (c : Bool) (s : List ℕ) (from : ℕ) (g : Each Numbers
   noted_fit = by (opened_at t c s from) refl
     where
       by : (r : Read Opening) → r ≡ opened_at t c s from → Each FitsWord (noted_of r)
-      by (got x) q =
+      by (Ok x) q =
           let j = judged t c s from q in
           subst (λ (y : Opening). Each FitsWord y.noted) j.is (each_first FitsWord 256 (elements.judged_of t j.count (heads_at s j.count (from + 3)) j.extensions).listed (listed_fit t j.count (heads_at s j.count (from + 3)) j.extensions g (heads_fit s o j.count (from + 3)) (j.fit o)))
-      by (stop x) q = tt
+      by (Err x) q = tt
 
   pub noted_few : length (noted_of (opened_at t c s from)) ≤ 256
   noted_few = by (opened_at t c s from) refl
     where
       by : (r : Read Opening) → r ≡ opened_at t c s from → length (noted_of r) ≤ 256
-      by (got x) q =
+      by (Ok x) q =
           let j = judged t c s from q in
           subst (λ (y : Opening). length y.noted ≤ 256) j.is (first (elements.judged_of t j.count (heads_at s j.count (from + 3)) j.extensions).listed)
         where
           first : (es : List Entry) → length (take 256 es) ≤ 256
           first es = let n = length-take 256 es in omega arith
-      by (stop x) q = omega arith
+      by (Err x) q = omega arith
 
   pub noted_within : {l m : List ℕ} {n : ℕ} → length l ≡ 256 → NotedIn l (noted_of (opened_at t c s from)) m n → n ≤ length m
   noted_within {l} {m} {n} z w =

@@ -1,6 +1,5 @@
 -- Scaffolding: no demand speaks of it. The call, as the code hands it back.
-use Rattle.std.specs.Prelude.{ℕ, ◌<◌, ◌≡◌, Bool, true, false, List, length, take}
-use Rattle.rows.specs.declared.Row.{Row}
+use Rattle.std.specs.Prelude.{ℕ, ◌≡◌, Bool, true, false, List, length, take, Ok, Err}
 use Rattle.editions.specs.declared.Edition.{Edition}
 use Rattle.lent.specs.Lent.{first_rows}
 use Rattle.units.specs.Unit as units
@@ -10,8 +9,7 @@ use Rattle.replies.specs.declared.Reply.{Reply}
 use Rattle.replies.specs.declared.Reply.TheVariants as reply
 use Rattle.carry.specs.declared.Answer.{Answer}
 use Rattle.carry.specs.declared.Answer.TheVariants as answer
-use Rattle.carry.specs.declared.Ruling.{Ruling}
-use Rattle.carry.specs.declared.Ruling.TheVariants.{Granted, Refused}
+use Rattle.carry.specs.Carry.{Ruling}
 use Rattle.carry.specs.declared.Change.{Change}
 use Rattle.carry.specs.declared.Change.TheVariants as change
 use Rattle.calls.specs.Decided.{Decided, decided}
@@ -32,11 +30,6 @@ unit_in n t = with_held (λ l. first_rows n (take 3074 t)) (said_unit t)
 abbrev pub HasRows : ℕ → List ℕ → Type 0
 HasRows n t = (read_unit t ≡ is_unit (unit_in n t)) × (n ≡ length (unit_in n t).held)
 
--- a row's numbers fit those of an entry's word
-pub record NumbersFit (r : Row) : Type 0 where
-  pub id : r.id < 65536
-  pub crit : r.crit < 3
-
 -- the items are needed for one reply, and for one change
 abbrev pub lists_items : Reply → Bool
 lists_items reply.None = false
@@ -50,8 +43,8 @@ lists_items (reply.PairNotHeld m c) = false
 
 -- a refusal lists none
 abbrev pub NoneListed : Ruling → Type 0
-NoneListed (Granted q) = Unit
-NoneListed (Refused r) = lists_items r ≡ false
+NoneListed (Ok q) = Unit
+NoneListed (Err r) = lists_items r ≡ false
 
 abbrev pub resets : Change → Bool
 resets (change.Stays a) = false

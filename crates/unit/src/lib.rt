@@ -4,34 +4,28 @@
 ghost use Rattle.std.specs.Prelude.{◌≡◌, map, not, ◌&&◌, leb, length, take};
 ghost use Rattle.lent.specs.Lent.{first_rows};
 ghost use Rattle.reset.specs.Slots.{names_none};
-ghost use Rattle.octets.specs.Many.{Each};
 ghost use Rattle.item_words.specs.Words.{item_of};
 ghost use Rattle.entry_words.specs.EntryWords.{entry_by};
-ghost use Rattle.places.specs.Places.{spans_in};
 ghost use Rattle.units.specs.Unit.{open_in, read_unit};
 ghost use Rattle.requests.specs.Requests.{ask_of, answers_setup};
-ghost use Rattle.rows.specs.Table.{rows_in};
 ghost use Rattle.editions.specs.Editions.{table_of, container_of};
-ghost use Rattle.meaning.specs.Reading.{values_in};
-ghost use Rattle.layout.specs.Record.{lists_of};
 ghost use Rattle.verdicts.specs.Verdict.{opened_at, verdict_of};
-ghost use Rattle.judging.specs.Judging.{noted_of};
 ghost use Rattle.replies.specs.Replies.{Replied, replied};
 ghost use Rattle.table.specs.Table.{standing};
 ghost use Rattle.carry.specs.Carry.{asked_by, decision};
-ghost use Rattle.calls.specs.Decided.{changed, applied};
+ghost use Rattle.calls.specs.Decided.{changed};
 ghost use Rattle.calls.specs.Call.{settled, call};
-ghost use Rattle.unit.specs.Unit.{bare_on, unit_in, HasRows, NumbersFit, lists_items, NoneListed, resets, carried_on, settled_on, Finished, Called};
+ghost use Rattle.unit.specs.Heard.{applied_with, applied_heard};
+ghost use Rattle.unit.specs.Unit.{bare_on, unit_in, HasRows, lists_items, NoneListed, resets, carried_on, settled_on, Finished, Called};
+
+mod heard;
 
 use carry::{Answer, Change, Decision, Ruling};
-use editions::{Edition, Message, Named};
-use frames::{Frame, FrameRead};
-use identity::{Item, Mce, MceId, Mme};
-use judging::Opened;
-use lent::Looked;
-use octets::Gate;
-use put_reply::Sent;
-use rows::Rows;
+use editions::{Edition, Message};
+use frames::Frame;
+use heard::Heard;
+use identity::{Item, MceId};
+use octets::Span;
 
 // The answer, and how many octets the reply has: 0 where there is none.
 #[derive(Clone, Copy)]
@@ -41,17 +35,14 @@ pub struct Back {
 }
 
 const NOBODY: Item = Item {
-    mme: Mme::Absent,
-    mce: Mce::Absent,
+    mme: None,
+    mce: None,
 };
 
 fn hand_back(answer: Answer, octets: usize) -> Back
     ensures { result ≡ record { answer = answer; octets = octets } }
 {
-    Back {
-        answer: answer,
-        octets: octets,
-    }
+    Back { answer, octets }
 }
 
 // An answer without a reply; 21 comes before it.
@@ -59,8 +50,8 @@ fn bare(unit: &[u8], answer: Answer) -> Back
     ensures { result ≡ bare_on (read_unit unit.now) answer }
 {
     match units::look_up(unit, NOBODY) {
-        Looked::NoTable => hand_back(Answer::NoUnit, 0),
-        Looked::Is(_, _) => hand_back(answer, 0),
+        Some(_) => hand_back(answer, 0),
+        None => hand_back(Answer::NoUnit, 0),
     }
 }
 
@@ -68,10 +59,8 @@ fn bare(unit: &[u8], answer: Answer) -> Back
 fn names_none(unit: &[u8], n: usize, kept: &[u64]) -> bool
     ensures { result ≡ (leb (length kept.now) 4 && names_none (map item_of kept.now) (first_rows n (take 3074 unit.now))) }
 {
-    if unit.len() < 3074 {
-        return reset::names_none(unit, n, kept);
-    }
-    reset::names_none(&unit[..3074], n, kept)
+    let end = unit.len().min(3074);
+    reset::names_none(&unit[..end], n, kept)
 }
 
 // The answer stands, and the unit of n rows is the new one, if it changes.
@@ -117,8 +106,7 @@ fn finish(change: Change, n: usize, kept: &[u64], unit: &mut [u8], octets: usize
 
 // The reply first, and then the unit: where the reply does not fit, both stay as they were.
 fn settle(
-    e: Edition,
-    f: Frame,
+    h: &Heard,
     d: Decision,
     n: usize,
     kept: &[u64],
@@ -127,115 +115,67 @@ fn settle(
     room: &mut [u8],
 ) -> Back
     requires { HasRows n unit.old }
-    ensures { Called (settled e unit.old room.old (changed (unit_in n unit.old) (map item_of (take 256 kept.now)) (replied e f (map item_of kept.now) (map entry_by noted.now) d.reply) d.change)) result unit.new room.new }
+    ensures { Called (settled h.now.edition unit.old room.old (changed (unit_in n unit.old) (map item_of (take 256 kept.now)) (replied h.now.edition h.now.frame (map item_of kept.now) (map entry_by noted.now) d.reply) d.change)) result unit.new room.new }
 {
-    let change = d.change;
-    let reply = d.reply;
-    match put_reply::put_reply(e, f, reply, kept, noted, room) {
-        Sent::Done(octets) => finish(change, n, kept, unit, octets),
-        Sent::NoRoom => hand_back(Answer::NoRoom, 0),
+    match put_reply::put_reply(h.edition, h.frame, d.reply, kept, noted, room) {
+        Some(octets) => finish(d.change, n, kept, unit, octets),
+        None => hand_back(Answer::NoRoom, 0),
     }
 }
 
 fn is_reset(x: Change) -> bool
     ensures { result ≡ resets x }
 {
-    match x {
-        Change::Stays(_) => false,
-        Change::Starts(_) => false,
-        Change::Stops(_, _) => false,
-        Change::Empties => false,
-        Change::Resets => true,
-        Change::SetsUp => false,
-        Change::SetupFails(_) => false,
-    }
+    matches!(x, Change::Resets)
 }
 
 // With the items of a partial reset that have an identity; nothing else needs any.
 fn settle_items(
-    e: Edition,
-    t: Rows,
-    f: Frame,
+    h: &Heard,
     d: Decision,
     n: usize,
-    message: &[u8],
-    places: &[usize; 24],
     noted: &[u64],
     unit: &mut [u8],
     room: &mut [u8],
 ) -> Back
     requires has_rows { HasRows n unit.old }
     requires reply_value { lists_items d.reply ≡ resets d.change }
-    ensures { Called (settled e unit.old room.old (applied e (unit_in n unit.old) f (lists_of (values_in (rows_in t) message.now (spans_in places.now))).items (map entry_by noted.now) d)) result unit.new room.new }
+    ensures { Called (settled h.now.edition unit.old room.old (applied_with h.now (map entry_by noted.now) (unit_in n unit.old) d)) result unit.new room.new }
 {
-    let change = d.change;
-    if is_reset(change) {
+    if is_reset(d.change) {
         let mut words: [u64; 256] = [0; 256];
-        let all = reset_items::items_in(t, message, places, &mut words);
+        let all = reset_items::items_in(h.rows, h.message, h.places, &mut words);
         let kept = item_words::keep_identified(&mut words, all);
-        return settle(e, f, d, n, &words[..kept], noted, unit, room);
+        return settle(h, d, n, &words[..kept], noted, unit, room);
     }
-    settle(e, f, d, n, &noted[..0], noted, unit, room)
+    settle(h, d, n, &[], noted, unit, room)
 }
 
 // With what is noted of the message; mostly nothing is.
-fn settle_noted(
-    e: Edition,
-    t: Rows,
-    c: bool,
-    f: Frame,
-    d: Decision,
-    n: usize,
-    message: &[u8],
-    noted: usize,
-    places: &[usize; 24],
-    unit: &mut [u8],
-    room: &mut [u8],
-) -> Back
-    requires { HasRows n unit.old × (lists_items d.reply ≡ resets d.change) × Each NumbersFit (rows_in t) × (noted ≡ length (noted_of (opened_at (rows_in t) c message.now f.from))) }
-    ensures { Called (settled e unit.old room.old (applied e (unit_in n unit.old) f (lists_of (values_in (rows_in t) message.now (spans_in places.now))).items (noted_of (opened_at (rows_in t) c message.now f.from)) d)) result unit.new room.new }
+fn settle_noted(h: &Heard, d: Decision, n: usize, unit: &mut [u8], room: &mut [u8]) -> Back
+    requires has_rows { HasRows n unit.old }
+    requires reply_value { lists_items d.reply ≡ resets d.change }
+    ensures { Called (settled h.now.edition unit.old room.old (applied_heard h.now (unit_in n unit.old) d)) result unit.new room.new }
 {
-    if noted == 0 {
-        let none: [u64; 1] = [0; 1];
-        return settle_items(e, t, f, d, n, message, places, &none[..0], unit, room);
+    if h.noted == 0 {
+        return settle_items(h, d, n, &[], unit, room);
     }
     let mut words: [u64; 256] = [0; 256];
-    let all = judging::noted_into(t, c, message, f.from, &mut words);
-    settle_items(e, t, f, d, n, message, places, &words[..all], unit, room)
+    let all = judging::noted_into(h.rows, h.container, h.message, h.frame.from, &mut words);
+    settle_items(h, d, n, &words[..all], unit, room)
 }
 
 // By what is held of the identities that are asked about.
-fn carried_out(
-    e: Edition,
-    t: Rows,
-    c: bool,
-    f: Frame,
-    q: Ruling,
-    unit: &mut [u8],
-    message: &[u8],
-    offered: MceId,
-    o: Opened,
-    places: &[usize; 24],
-    room: &mut [u8],
-) -> Back
-    requires { NoneListed q × Each NumbersFit (rows_in t) × (o.noted ≡ length (noted_of (opened_at (rows_in t) c message.now f.from))) }
-    ensures { Called (carried_on e unit.old room.old (λ u. applied e u f (lists_of (values_in (rows_in t) message.now (spans_in places.now))).items (noted_of (opened_at (rows_in t) c message.now f.from)) (decision (standing (asked_by offered q) u.held) offered q)) (read_unit unit.old)) result unit.new room.new }
+fn carried_out(h: &Heard, q: Ruling, offered: MceId, unit: &mut [u8], room: &mut [u8]) -> Back
+    requires { NoneListed q }
+    ensures { Called (carried_on h.now.edition unit.old room.old (λ u. applied_heard h.now u (decision (standing (asked_by offered q) u.held) offered q)) (read_unit unit.old)) result unit.new room.new }
 {
     match units::look_up(unit, carry::asked(offered, q)) {
-        Looked::NoTable => hand_back(Answer::NoUnit, 0),
-        Looked::Is(k, n) => settle_noted(
-            e,
-            t,
-            c,
-            f,
-            carry::decide(k, offered, q),
-            n,
-            message,
-            o.noted,
-            places,
-            unit,
-            room,
-        ),
+        Some(l) => {
+            let d = carry::decide(l.standing, offered, q);
+            settle_noted(h, d, l.count, unit, room)
+        }
+        None => hand_back(Answer::NoUnit, 0),
     }
 }
 
@@ -253,17 +193,23 @@ fn asked(
 {
     let c = editions::has_container(e, m);
     let t = editions::rows_of(e, m);
-    let mut places: [usize; 24] = [0; 24];
-    let o = judging::opened_at(t, c, message, f.from, &mut places);
-    let gate = o.gate;
-    match gate {
-        Gate::Pass => {
-            let outcome = o.outcome;
+    let mut places: [Span; 12] = [octets::NOWHERE; 12];
+    match judging::opened_at(t, c, message, f.from, &mut places) {
+        Ok(o) => {
             let seen = requests::seen_in(t, message, &places);
-            let q = carry::rule(requests::ask_of(m), seen, outcome);
-            carried_out(e, t, c, f, q, unit, message, offered, o, &places, room)
+            let q = carry::rule(requests::ask_of(m), seen, o.outcome);
+            let h = Heard {
+                edition: e,
+                rows: t,
+                container: c,
+                frame: f,
+                message,
+                places: &places,
+                noted: o.noted,
+            };
+            carried_out(&h, q, offered, unit, room)
         }
-        Gate::Stop(x) => bare(unit, Answer::Stopped(x)),
+        Err(x) => bare(unit, Answer::Stopped(x)),
     }
 }
 
@@ -271,10 +217,7 @@ fn asked(
 fn is_unasked(m: Message, unit: &[u8]) -> bool
     ensures { result ≡ (answers_setup (ask_of m) && not (open_in unit.now)) }
 {
-    if requests::answers_setup(m) {
-        return !units::is_open(unit);
-    }
-    false
+    requests::answers_setup(m) && !units::is_open(unit)
 }
 
 // What one message does: over 8,192 octets; the frame; a request, or the answer to one that is open; what is inside, the unit.
@@ -284,19 +227,18 @@ pub fn call(e: Edition, unit: &mut [u8], message: &[u8], offered: MceId, room: &
     if 8192 < message.len() {
         return bare(unit, Answer::TooLong);
     }
-    match frames::frame_at(message) {
-        FrameRead::Is(f) => match editions::message_of(e, f.kind, f.code) {
-            Named::Is(m) => {
-                if is_unasked(m, unit) {
-                    return bare(unit, Answer::NoneOpen);
-                }
-                if requests::asks(m) {
-                    return asked(e, m, f, unit, message, offered, room);
-                }
-                bare(unit, Answer::NoRequest)
-            }
-            Named::Other => bare(unit, Answer::NoRequest),
-        },
-        FrameRead::Stop(x) => bare(unit, Answer::Stopped(x)),
+    let f = match frames::frame_at(message) {
+        Ok(f) => f,
+        Err(x) => return bare(unit, Answer::Stopped(x)),
+    };
+    let Some(m) = editions::message_of(e, f.kind, f.code) else {
+        return bare(unit, Answer::NoRequest);
+    };
+    if is_unasked(m, unit) {
+        return bare(unit, Answer::NoneOpen);
     }
+    if requests::asks(m) {
+        return asked(e, m, f, unit, message, offered, room);
+    }
+    bare(unit, Answer::NoRequest)
 }

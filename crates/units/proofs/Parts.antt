@@ -4,6 +4,7 @@ use Prim.Native.Nat.{ℕ, zero, suc, min, ◌≤◌}
 use mathlib.Core.Path.{◌≡◌, refl, ap, sym, subst, ◌∙◌}
 use mathlib.Core.Bool.{Bool, true, false, ◌&&◌}
 use mathlib.Core.List.{List, ◌∷◌, ◌++◌}
+use mir.Val.{bool_byte}
 use native.Mathlib.Omega.{arith}
 use borrow.Author.Tests.{leb-true, leb-false, le-leb}
 use lib.Dec.{leb, eqb}
@@ -19,6 +20,11 @@ use Rattle.lent.proofs.Zeros.{zeros_are}
 use Rattle.lent.proofs.Reading as table
 use Rattle.lent.proofs.Reading.{same_self, same_is, length_table, held_table, is_table_lem}
 use Rattle.units.specs.Unit.{Unit, unit_octets, open_octet, mark_octets, open_in, said_unit, good_unit, MaybeUnit, is_unit, no_unit, read_unit, on_front}
+
+-- the octet of a mark
+pub octet_is : (b : Bool) → bool_byte b ≡ open_octet b
+octet_is true = refl
+octet_is false = refl
 
 -- the parts of a unit's octets
 module _ (u : Unit) (few : length u.held ≤ 256) where

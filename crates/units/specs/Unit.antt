@@ -1,12 +1,11 @@
 -- The unit: all that is remembered between calls, and the octets that the host lends for it. The table stands in front, the marks behind it.
 -- Octets are a unit exactly if they are the octets of what they say. The fresh unit is all zero octets.
-use Rattle.std.specs.Prelude.{ℕ, Bool, false, ◌&&◌, List, [], ◌∷◌, ◌++◌, leb, eqb, length, take, drop, get_or, set, replicate}
+use Rattle.std.specs.Prelude.{ℕ, Bool, None, Option, Some, false, ◌&&◌, List, [], ◌∷◌, ◌++◌, leb, eqb, length, take, drop, get_or, set, replicate}
 use Rattle.lists.specs.Lists.{pick}
 use Rattle.identity.specs.declared.Item.{Item}
 use Rattle.table.specs.Table.{State, standing, distinct_held}
 use Rattle.lent.specs.Lent.{table_octets, said, same, Good}
 use Rattle.lent.specs.declared.Looked.{Looked}
-use Rattle.lent.specs.declared.Looked.TheVariants as looked
 
 pub record Unit : Type 0 where
   -- the associations, in order of starting
@@ -62,9 +61,9 @@ pub record GoodUnit (u : Unit) : Type 0 where
 -- ---- as values of the code
 
 -- what is held of an item's identities, and how many are held
-abbrev pub looked_in : Item → MaybeUnit → Looked
-looked_in i (is_unit u) = looked.Is (standing i u.held) (length u.held)
-looked_in i no_unit = looked.NoTable
+abbrev pub looked_in : Item → MaybeUnit → Option Looked
+looked_in i (is_unit u) = Some (record { standing = standing i u.held; count = length u.held })
+looked_in i no_unit = None
 
 -- something done to the table in front
 abbrev pub on_front : (List ℕ → List ℕ) → List ℕ → List ℕ

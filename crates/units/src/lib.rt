@@ -4,42 +4,28 @@
 ghost use Rattle.std.specs.Prelude.{◌≡◌, take};
 ghost use Rattle.table.specs.Table.{held, table_holding};
 ghost use Rattle.lent.specs.Lent.{first_rows};
-ghost use Rattle.lent.specs.Tests.{zeros};
 ghost use Rattle.put_table.specs.Out.{table_out};
-ghost use Rattle.units.specs.Unit.{looked_in, read_unit, open_octet, open_in, open_out, on_front};
+ghost use Rattle.units.specs.Unit.{looked_in, read_unit, open_in, open_out, on_front};
 
 use identity::Item;
 use lent::Looked;
 use table::Table;
 
-// All octets are zero.
-fn none_set(s: &[u8]) -> bool
-    ensures { result ≡ zeros s.now }
-{
-    let mut all: u8 = 0;
-    let mut i: usize = 0;
-    while i < s.len() {
-        all = all | s[i];
-        i += 1;
-    }
-    all == 0
-}
-
 // What octets say of an item's identities, if they are a unit.
-pub fn look_up(unit: &[u8], item: Item) -> Looked
+pub fn look_up(unit: &[u8], item: Item) -> Option<Looked>
     ensures { result ≡ looked_in item (read_unit unit.now) }
 {
     if unit.len() != 3088 {
-        return Looked::NoTable;
+        return None;
     }
     if 1 < unit[3076] {
-        return Looked::NoTable;
+        return None;
     }
-    if !none_set(&unit[3074..3076]) {
-        return Looked::NoTable;
+    if !lent::all_zero(&unit[3074..3076]) {
+        return None;
     }
-    if !none_set(&unit[3077..]) {
-        return Looked::NoTable;
+    if !lent::all_zero(&unit[3077..]) {
+        return None;
     }
     lent::look_up(&unit[..3074], item)
 }
@@ -48,16 +34,7 @@ pub fn look_up(unit: &[u8], item: Item) -> Looked
 pub fn is_open(unit: &[u8]) -> bool
     ensures { result ≡ open_in unit.now }
 {
-    if unit.len() < 3077 {
-        return false;
-    }
-    unit[3076] == 1
-}
-
-fn open_octet(is: bool) -> u8
-    ensures { result ≡ open_octet is }
-{
-    if is { 1 } else { 0 }
+    unit.len() >= 3077 && unit[3076] == 1
 }
 
 // A setup request is open now, or none is.
@@ -67,14 +44,14 @@ pub fn put_open(is: bool, unit: &mut [u8])
     if unit.len() < 3077 {
         return;
     }
-    unit[3076] = open_octet(is);
+    unit[3076] = u8::from(is);
 }
 
 // The first n rows of the table in front, whether or not it is one.
 pub fn rows_in(unit: &[u8], n: usize) -> Table
     ensures { result ≡ table_holding (first_rows n (take 3074 unit.now)) }
 {
-    let end = numbers::lesser(unit.len(), 3074);
+    let end = unit.len().min(3074);
     lent::rows_in(&unit[..end], n)
 }
 
@@ -82,6 +59,6 @@ pub fn rows_in(unit: &[u8], n: usize) -> Table
 pub fn table_out(t: Table, from: usize, unit: &mut [u8])
     ensures { unit.new ≡ on_front (table_out from (held t)) unit.old }
 {
-    let end = numbers::lesser(unit.len(), 3074);
+    let end = unit.len().min(3074);
     put_table::table_out(t, from, &mut unit[..end]);
 }

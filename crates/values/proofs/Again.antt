@@ -6,7 +6,8 @@ use mathlib.Core.List.{List, [], ◌∷◌}
 use Prim.Native.Nat.{ℕ, ◌+◌}
 use native.Mathlib.Omega.{arith}
 use lib.ListN.{length, get_or}
-use Rattle.octets.specs.Read.{got}
+use Rattle.std.specs.Prelude.{Ok}
+use Rattle.octets.specs.Read.{Read}
 use Rattle.octets.specs.Field.{bits_at, plain_at, choice_at, pad_at, number_at, string_at, ends_at}
 use Rattle.packed.specs.Packed.{◌bits◌, bit, packed}
 use Rattle.octets.specs.Write.{number_octets}
@@ -16,16 +17,17 @@ use Rattle.octets.proofs.Got.{plain_got, choice_got}
 use Rattle.octets.proofs.Stood.{stands_join}
 use Rattle.octets.proofs.Back.{length_number}
 use Rattle.octets.proofs.Again.{packed_again, pad_zero, number_again, string_again, fills_again}
+use Rattle.identity.specs.Identity.{Numbering, mme_numbering, mce_numbering}
 use Rattle.identity.specs.declared.MmeId.{MmeId}
 use Rattle.identity.specs.declared.MceId.{MceId}
 use Rattle.identity.specs.declared.Tmgi.{Tmgi}
 use Rattle.values.specs.declared.Cause.{Cause}
-use Rattle.values.specs.Values.{whole_at, mme_at, mce_at, one_at, two_at, tmgi_at, bits_of_root, root_of, cause_at, wait_at}
+use Rattle.values.specs.Values.{whole_at, identity_at, mme_at, mce_at, one_at, two_at, tmgi_at, bits_of_root, root_of, cause_at, wait_at}
 use Rattle.values.specs.Written.{mme_octets, mce_octets, one_octets, two_octets, tmgi_octets, cause_octets, wait_octets}
 use Rattle.values.proofs.Roots.{root_width}
 use Rattle.values.proofs.Back.{cause_octets_lem, wait_octets_lem}
 
-whole_again : (k : ℕ) (s : List ℕ) (at : ℕ) {v : ℕ} → Octets s → got v ≡ whole_at k s at → Fills s at (number_octets k v)
+whole_again : (k : ℕ) (s : List ℕ) (at : ℕ) {v : ℕ} → Octets s → Ok v ≡ whole_at k s at → Fills s at (number_octets k v)
 whole_again k s at {v} o q =
     let a = then_got (number_at k s at) _ q in
     let b = then_got (ends_at s (at + k)) _ a.2 in
@@ -39,23 +41,27 @@ three (a ∷ b ∷ c ∷ []) e = refl
 three (a ∷ b ∷ c ∷ d ∷ l) e = absurd (omega arith)
 
 module _ (s : List ℕ) (at : ℕ) (o : Octets s) where
-  pub mme_again : {v : MmeId} → got v ≡ mme_at s at → Fills s at (mme_octets v)
-  unfolding mme_at
-  mme_again {v} q = let a = then_got (whole_at 2 s at) _ q in subst (λ (x : MmeId). Fills s at (mme_octets x)) (sym (same_got a.2)) (whole_again 2 s at o a.1)
+  pub identity_again : {I : Type 0} {numbered : ℕ → I} {number : I → ℕ} → Numbering numbered number → {v : I} → Ok v ≡ identity_at numbered s at → Fills s at (number_octets 2 (number v))
+  unfolding identity_at two_at
+  identity_again {I} {number = number} n q =
+      let a = then_got (whole_at 2 s at) _ q in
+      subst (λ (x : I). Fills s at (number_octets 2 (number x))) (sym (same_got a.2)) (rw (n.back a.0) (whole_again 2 s at o a.1))
 
-  pub mce_again : {v : MceId} → got v ≡ mce_at s at → Fills s at (mce_octets v)
-  unfolding mce_at
-  mce_again {v} q = let a = then_got (whole_at 2 s at) _ q in subst (λ (x : MceId). Fills s at (mce_octets x)) (sym (same_got a.2)) (whole_again 2 s at o a.1)
+  pub mme_again : {v : MmeId} → Ok v ≡ mme_at s at → Fills s at (mme_octets v)
+  mme_again = identity_again mme_numbering
 
-  pub one_again : {v : ℕ} → got v ≡ one_at s at → Fills s at (one_octets v)
+  pub mce_again : {v : MceId} → Ok v ≡ mce_at s at → Fills s at (mce_octets v)
+  mce_again = identity_again mce_numbering
+
+  pub one_again : {v : ℕ} → Ok v ≡ one_at s at → Fills s at (one_octets v)
   unfolding one_at
   one_again q = whole_again 1 s at o q
 
-  pub two_again : {v : ℕ} → got v ≡ two_at s at → Fills s at (two_octets v)
+  pub two_again : {v : ℕ} → Ok v ≡ two_at s at → Fills s at (two_octets v)
   unfolding two_at
   two_again q = whole_again 2 s at o q
 
-  pub tmgi_again : {t : Tmgi} → got t ≡ tmgi_at s at → Fills s at (tmgi_octets t)
+  pub tmgi_again : {t : Tmgi} → Ok t ≡ tmgi_at s at → Fills s at (tmgi_octets t)
   unfolding tmgi_at tmgi_octets
   tmgi_again {t} q =
       let a = then_got (plain_at s at 0) _ q in
@@ -68,8 +74,8 @@ module _ (s : List ℕ) (at : ℕ) (o : Octets s) where
       of : List ℕ → List ℕ → Tmgi
       of p v = record { plmn = record { 0 = get_or p 0 0; 1 = get_or p 1 0; 2 = get_or p 2 0 }; service = record { 0 = get_or v 0 0; 1 = get_or v 1 0; 2 = get_or v 2 0 } }
 
-      filled : (p v : List ℕ) → got tt ≡ plain_at s at 0 → got tt ≡ pad_at s at 1 → got p ≡ string_at 3 s (at + 1) → got v ≡ string_at 3 s (at + 4) → got tt ≡ ends_at s (at + 7)
-          → got t ≡ got (of p v) → Fills s at (tmgi_octets t)
+      filled : (p v : List ℕ) → Ok tt ≡ plain_at s at 0 → Ok tt ≡ pad_at s at 1 → Ok p ≡ string_at 3 s (at + 1) → Ok v ≡ string_at 3 s (at + 4) → Ok tt ≡ ends_at s (at + 7)
+          → ◌≡◌ {A = Read Tmgi} (Ok t) (Ok (of p v)) → Fills s at (tmgi_octets t)
       filled p v a b c d e q =
           let x = plain_got s at 0 a in
           let f : Stands s at (packed (1 bits bits_at s at 0 1 ∷ []) ∷ []) = packed_again s at (1 ∷ []) o x.0 (omega arith) (pad_zero s at 1 (omega arith) (omega arith) b) in
@@ -80,7 +86,7 @@ module _ (s : List ℕ) (at : ℕ) (o : Octets s) where
           subst (λ (y : Tmgi). Fills s at (tmgi_octets y)) (sym (same_got q))
           (fills_again s at 7 (stands_join g (stands_join (rw (three p m.0) at m.1) (rw k (rw (three v n.0) at n.1)))) refl e)
 
-  pub cause_again : {c : Cause} → got c ≡ cause_at s at → Fills s at (cause_octets c)
+  pub cause_again : {c : Cause} → Ok c ≡ cause_at s at → Fills s at (cause_octets c)
   unfolding cause_at
   cause_again {c} q =
       let a = then_got (plain_at s at 0) _ q in
@@ -100,7 +106,7 @@ module _ (s : List ℕ) (at : ℕ) (o : Octets s) where
       let h : Stands s at (packed (bit false ∷ 3 bits b.0 ∷ bit false ∷ bits_of_root b.0 bits e.0 ∷ []) ∷ []) = rw (x.1, ← y.1, z.1, ← v.1) at f' in
       subst (λ (r : Cause). Fills s at (cause_octets r)) (sym (same_got n.2)) (rw (cause_octets_lem (record { group = b.0; value = e.0 }) v.2) (fills_again s at 1 h refl n.1))
 
-  pub wait_again : {v : ℕ} → got v ≡ wait_at s at → Fills s at (wait_octets v)
+  pub wait_again : {v : ℕ} → Ok v ≡ wait_at s at → Fills s at (wait_octets v)
   unfolding wait_at
   wait_again {v} q =
       let a = then_got (plain_at s at 0) _ q in

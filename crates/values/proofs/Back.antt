@@ -1,6 +1,6 @@
 -- Reading what was written gives the value, where it ends with what encloses it.
 -- Assumes nothing.
-use mathlib.Core.Path.{◌≡◌, refl}
+use mathlib.Core.Path.{◌≡◌, refl, sym, ap}
 use mathlib.Core.Bool.{false}
 use mathlib.Core.List.{List, [], ◌∷◌, ◌++◌}
 use Prim.Native.Nat.{ℕ, ◌+◌, ◌^◌, ◌<◌}
@@ -8,22 +8,23 @@ use native.Mathlib.Omega.{arith}
 use native.Mathlib.Nat.{lt_of_lt_of_le}
 use borrow.Author.Tests.{lt-ltb}
 use lib.ListN.{length}
-use Rattle.octets.specs.Read.{got}
+use Rattle.std.specs.Prelude.{Ok}
 use Rattle.packed.specs.Packed.{◌bits◌, bit, packed, Fit}
 use Rattle.octets.specs.Write.{number_octets}
 use Rattle.octets.specs.Stands.{Stands, Fills}
 use Rattle.octets.proofs.Chain.{past}
 use Rattle.octets.proofs.Stood.{stands_split}
 use Rattle.octets.proofs.Back.{length_number, number_back, string_back, choice_back, plain_back, rest_back, ends_back}
+use Rattle.identity.specs.Identity.{Numbering, mme_numbering, mce_numbering}
 use Rattle.identity.specs.declared.MmeId.{MmeId}
 use Rattle.identity.specs.declared.MceId.{MceId}
 use Rattle.identity.specs.declared.Tmgi.{Tmgi}
 use Rattle.values.specs.declared.Cause.{Cause}
-use Rattle.values.specs.Values.{whole_at, mme_at, mce_at, one_at, two_at, tmgi_at, bits_of_root, root_of, cause_at, wait_at}
+use Rattle.values.specs.Values.{whole_at, identity_at, mme_at, mce_at, one_at, two_at, tmgi_at, bits_of_root, root_of, cause_at, wait_at}
 use Rattle.values.specs.Written.{mme_octets, mce_octets, one_octets, two_octets, tmgi_octets, cause_octet, cause_octets, GoodCause, wait_octet, wait_octets}
 use Rattle.values.proofs.Roots.{root_width, root_group}
 
-whole_back : (k : ℕ) (s : List ℕ) (at v : ℕ) → v < 256 ^ k → Fills s at (number_octets k v) → got v ≡ whole_at k s at
+whole_back : (k : ℕ) (s : List ℕ) (at v : ℕ) → v < 256 ^ k → Fills s at (number_octets k v) → Ok v ≡ whole_at k s at
 whole_back k s at v b h = let l = length_number k v in let e = h.ends in past _ v (number_back k s at v b h.stands) (past _ tt (ends_back s (at + k) (omega arith)) refl)
 
 pub cause_octets_lem : (c : Cause) → GoodCause c → cause_octets c ≡ cause_octet c ∷ []
@@ -35,23 +36,25 @@ unfolding wait_octets
 wait_octets_lem v good = rw (lt-ltb v 6 good)
 
 module _ (s : List ℕ) (at : ℕ) where
-  pub mme_back : (v : MmeId) → v.0 < 65536 → Fills s at (mme_octets v) → got v ≡ mme_at s at
-  unfolding mme_at
-  mme_back v b h = past _ v.0 (whole_back 2 s at v.0 b h) refl
+  pub identity_back : {I : Type 0} {numbered : ℕ → I} {number : I → ℕ} → Numbering numbered number → (v : I) → number v < 65536 → Fills s at (number_octets 2 (number v)) → Ok v ≡ identity_at numbered s at
+  unfolding identity_at two_at
+  identity_back {number = number} n v b h = past _ (number v) (whole_back 2 s at (number v) b h) (ap Ok (sym (n.again v)))
 
-  pub mce_back : (v : MceId) → v.0 < 65536 → Fills s at (mce_octets v) → got v ≡ mce_at s at
-  unfolding mce_at
-  mce_back v b h = past _ v.0 (whole_back 2 s at v.0 b h) refl
+  pub mme_back : (v : MmeId) → v.0 < 65536 → Fills s at (mme_octets v) → Ok v ≡ mme_at s at
+  mme_back = identity_back mme_numbering
 
-  pub one_back : (v : ℕ) → v < 256 → Fills s at (one_octets v) → got v ≡ one_at s at
+  pub mce_back : (v : MceId) → v.0 < 65536 → Fills s at (mce_octets v) → Ok v ≡ mce_at s at
+  mce_back = identity_back mce_numbering
+
+  pub one_back : (v : ℕ) → v < 256 → Fills s at (one_octets v) → Ok v ≡ one_at s at
   unfolding one_at
   one_back v b h = whole_back 1 s at v b h
 
-  pub two_back : (v : ℕ) → v < 65536 → Fills s at (two_octets v) → got v ≡ two_at s at
+  pub two_back : (v : ℕ) → v < 65536 → Fills s at (two_octets v) → Ok v ≡ two_at s at
   unfolding two_at
   two_back v b h = whole_back 2 s at v b h
 
-  pub tmgi_back : (t : Tmgi) → Fills s at (tmgi_octets t) → got t ≡ tmgi_at s at
+  pub tmgi_back : (t : Tmgi) → Fills s at (tmgi_octets t) → Ok t ≡ tmgi_at s at
   unfolding tmgi_octets tmgi_at
   tmgi_back t h =
       let p : List ℕ = t.plmn.0 ∷ t.plmn.1 ∷ t.plmn.2 ∷ [] in
@@ -66,7 +69,7 @@ module _ (s : List ℕ) (at : ℕ) where
       (past _ v (rw k at (string_back s (at + 1 + 3) v b.1))
       (past _ tt (ends_back s (at + 7) (omega arith)) refl))))
 
-  pub cause_back : (c : Cause) → GoodCause c → Fills s at (cause_octets c) → got c ≡ cause_at s at
+  pub cause_back : (c : Cause) → GoodCause c → Fills s at (cause_octets c) → Ok c ≡ cause_at s at
   unfolding cause_at
   cause_back c good f =
       let z : cause_octets c ≡ cause_octet c ∷ [] = cause_octets_lem c good in
@@ -87,7 +90,7 @@ module _ (s : List ℕ) (at : ℕ) where
       (past _ tt (rw k at (rest_back s at (bit false ∷ 3 bits g ∷ bit false ∷ w bits v ∷ []) fit (omega arith) (omega arith) h))
       (past _ tt (ends_back s (at + 1) (omega arith)) refl)))))
 
-  pub wait_back : (v : ℕ) → v < 6 → Fills s at (wait_octets v) → got v ≡ wait_at s at
+  pub wait_back : (v : ℕ) → v < 6 → Fills s at (wait_octets v) → Ok v ≡ wait_at s at
   unfolding wait_at
   wait_back v good f =
       let z : wait_octets v ≡ wait_octet v ∷ [] = wait_octets_lem v good in

@@ -2,11 +2,8 @@
 -- Assumes nothing.
 use mathlib.Core.Path.{refl}
 use Rattle.lists.proofs.Unique.{Determined, ◌same◌, ◌&◌}
-use Rattle.values.proofs.OneFound.{one_mme, one_mce, one_one, one_two, one_tmgi, one_cause, one_wait}
-use Rattle.values.proofs.mme_at.Kinds as mme_at'
-use Rattle.values.proofs.mme_at.Reads as mme_at
-use Rattle.values.proofs.mce_at.Kinds as mce_at'
-use Rattle.values.proofs.mce_at.Reads as mce_at
+use Rattle.values.proofs.identity_at.Kinds as identity_at'
+use Rattle.values.proofs.identity_at.Reads as identity_at
 use Rattle.values.proofs.one_at.Kinds as one_at'
 use Rattle.values.proofs.one_at.Reads as one_at
 use Rattle.values.proofs.two_at.Kinds as two_at'
@@ -30,26 +27,23 @@ root_of_is κs a p x y e f = (e same f) & refl
 pub width_of_is : Determined width_of'.ps width_of'.r width_of_lem.Asked width_of_lem.Learnt
 width_of_is κs a p x y e f = (e same f) & refl
 
-pub mme_at_is : Determined mme_at'.ps mme_at'.r mme_at.Asked mme_at.Learnt
-mme_at_is κs a p x y e f = one_mme (e same f) & refl
-
-pub mce_at_is : Determined mce_at'.ps mce_at'.r mce_at.Asked mce_at.Learnt
-mce_at_is κs a p x y e f = one_mce (e same f) & refl
+pub identity_at_is : (I : _) (l : _) (k : _) (i : _) (d : _) (j : _) (b : _) → Determined (identity_at'.ps I l k) (identity_at'.r I l k) (identity_at.Asked I l k i d j b) (identity_at.Learnt I l k i d j b)
+identity_at_is I l k i d j b κs a p x y e f = (e same f) & refl
 
 pub one_at_is : Determined one_at'.ps one_at'.r one_at.Asked one_at.Learnt
-one_at_is κs a p x y e f = one_one (e same f) & refl
+one_at_is κs a p x y e f = (e same f) & refl
 
 pub two_at_is : Determined two_at'.ps two_at'.r two_at.Asked two_at.Learnt
-two_at_is κs a p x y e f = one_two (e same f) & refl
+two_at_is κs a p x y e f = (e same f) & refl
 
 pub tmgi_at_is : Determined tmgi_at'.ps tmgi_at'.r tmgi_at.Asked tmgi_at.Learnt
-tmgi_at_is κs a p x y e f = one_tmgi (e same f) & refl
+tmgi_at_is κs a p x y e f = (e same f) & refl
 
 pub cause_at_is : Determined cause_at'.ps cause_at'.r cause_at.Asked cause_at.Learnt
-cause_at_is κs a p x y e f = one_cause (e same f) & refl
+cause_at_is κs a p x y e f = (e same f) & refl
 
 pub wait_at_is : Determined wait_at'.ps wait_at'.r wait_at.Asked wait_at.Learnt
-wait_at_is κs a p x y e f = one_wait (e same f) & refl
+wait_at_is κs a p x y e f = (e same f) & refl
 
 pub seconds_of_is : Determined seconds_of'.ps seconds_of'.r seconds_of.Asked seconds_of.Learnt
 seconds_of_is κs a p x y e f = (e same f) & refl

@@ -1,5 +1,4 @@
 pub mod Roots
-pub mod OneFound
 pub mod Determined
 pub mod Back
 pub mod Again

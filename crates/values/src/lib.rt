@@ -3,11 +3,10 @@
 #![tactic(auto)]
 
 ghost use Rattle.std.specs.Prelude.{◌≡◌};
-ghost use Rattle.values.specs.Found.{found_mme, found_mce, found_one_octet, found_two_octets, found_tmgi, found_cause, found_wait};
-ghost use Rattle.values.specs.Values.{mme_at, mce_at, one_at, two_at, tmgi_at, root_of, bits_of_root, cause_at, wait_at, seconds};
+ghost use Rattle.values.specs.Values.{identity_at, one_at, two_at, tmgi_at, root_of, bits_of_root, cause_at, wait_at, seconds};
 
-use identity::{MceId, MmeId, Plmn, Service, Tmgi};
-use octets::{Gate, Octet, Stop, Three, Two};
+use identity::{Identity, Plmn, Service, Tmgi};
+use octets::Stop;
 
 #[derive(Clone, Copy)]
 pub struct Cause {
@@ -15,135 +14,49 @@ pub struct Cause {
     pub value: u8,
 }
 
-// What the readers answer.
-#[derive(Clone, Copy)]
-pub enum MmeRead {
-    Is(MmeId),
-    Stop(Stop),
-}
-
-#[derive(Clone, Copy)]
-pub enum MceRead {
-    Is(MceId),
-    Stop(Stop),
-}
-
-#[derive(Clone, Copy)]
-pub enum OneRead {
-    Is(u8),
-    Stop(Stop),
-}
-
-#[derive(Clone, Copy)]
-pub enum TwoRead {
-    Is(u16),
-    Stop(Stop),
-}
-
-#[derive(Clone, Copy)]
-pub enum TmgiRead {
-    Is(Tmgi),
-    Stop(Stop),
-}
-
-#[derive(Clone, Copy)]
-pub enum CauseRead {
-    Is(Cause),
-    Stop(Stop),
-}
-
-#[derive(Clone, Copy)]
-pub enum WaitRead {
-    Is(u8),
-    Stop(Stop),
-}
-
 // A number of two octets and nothing behind it.
-pub fn two_at(s: &[u8], at: usize) -> TwoRead
-    ensures { found_two_octets result ≡ two_at s.now at }
+#[tactic(auto, using(octets::proofs::Got::number_got), unfolding(crate::specs::Values::two_at))]
+pub fn two_at(s: &[u8], at: usize) -> Result<u16, Stop>
+    ensures { result ≡ two_at s.now at }
 {
-    let v = match octets::two_at(s, at) {
-        Two::Is(v) => v,
-        Two::Stop(x) => {
-            return TwoRead::Stop(x);
-        }
-    };
-    match octets::ends_at(s, at + 2) {
-        Gate::Pass => TwoRead::Is(v),
-        Gate::Stop(x) => TwoRead::Stop(x),
-    }
+    let v = octets::two_at(s, at)?;
+    octets::ends_at(s, at + 2)?;
+    Ok(v)
 }
 
-pub fn mme_at(s: &[u8], at: usize) -> MmeRead
-    ensures { found_mme result ≡ mme_at s.now at }
+// An identity, of the MME's series or of the MCE's.
+#[tactic(auto, unfolding(crate::specs::Values::identity_at))]
+pub fn identity_at<I: Identity>(s: &[u8], at: usize) -> Result<I, Stop>
+    ensures { result ≡ identity_at I.numbered s.now at }
 {
-    match two_at(s, at) {
-        TwoRead::Is(v) => MmeRead::Is(MmeId(v)),
-        TwoRead::Stop(x) => MmeRead::Stop(x),
-    }
-}
-
-pub fn mce_at(s: &[u8], at: usize) -> MceRead
-    ensures { found_mce result ≡ mce_at s.now at }
-{
-    match two_at(s, at) {
-        TwoRead::Is(v) => MceRead::Is(MceId(v)),
-        TwoRead::Stop(x) => MceRead::Stop(x),
-    }
+    let v = two_at(s, at)?;
+    Ok(I::numbered(v))
 }
 
 // A number of one octet and nothing behind it.
-pub fn one_at(s: &[u8], at: usize) -> OneRead
-    ensures { found_one_octet result ≡ one_at s.now at }
+#[tactic(auto, using(octets::proofs::Got::number_got), unfolding(crate::specs::Values::one_at))]
+pub fn one_at(s: &[u8], at: usize) -> Result<u8, Stop>
+    ensures { result ≡ one_at s.now at }
 {
-    let v = match octets::octet_at(s, at) {
-        Octet::Is(v) => v,
-        Octet::Stop(x) => {
-            return OneRead::Stop(x);
-        }
-    };
-    match octets::ends_at(s, at + 1) {
-        Gate::Pass => OneRead::Is(v),
-        Gate::Stop(x) => OneRead::Stop(x),
-    }
+    let v = octets::octet_at(s, at)?;
+    octets::ends_at(s, at + 1)?;
+    Ok(v)
 }
 
 // A TMGI: no extensions, three octets of PLMN, three of service.
-pub fn tmgi_at(s: &[u8], at: usize) -> TmgiRead
-    ensures { found_tmgi result ≡ tmgi_at s.now at }
+#[tactic(auto, using(octets::proofs::Got::string_got), unfolding(crate::specs::Values::tmgi_at))]
+pub fn tmgi_at(s: &[u8], at: usize) -> Result<Tmgi, Stop>
+    ensures { result ≡ tmgi_at s.now at }
 {
-    let extensions = octets::plain_at(s, at, 0);
-    match extensions {
-        Gate::Pass => {}
-        Gate::Stop(x) => {
-            return TmgiRead::Stop(x);
-        }
-    }
-    match octets::pad_at(s, at, 1) {
-        Gate::Pass => {}
-        Gate::Stop(x) => {
-            return TmgiRead::Stop(x);
-        }
-    }
-    let p = match octets::three_at(s, at + 1) {
-        Three::Is(v) => v,
-        Three::Stop(x) => {
-            return TmgiRead::Stop(x);
-        }
-    };
-    let v = match octets::three_at(s, at + 4) {
-        Three::Is(v) => v,
-        Three::Stop(x) => {
-            return TmgiRead::Stop(x);
-        }
-    };
-    match octets::ends_at(s, at + 7) {
-        Gate::Pass => TmgiRead::Is(Tmgi {
-            plmn: Plmn(p.0, p.1, p.2),
-            service: Service(v.0, v.1, v.2),
-        }),
-        Gate::Stop(x) => TmgiRead::Stop(x),
-    }
+    octets::plain_at(s, at, 0)?; // no extensions
+    octets::pad_at(s, at, 1)?;
+    let p = octets::array_at::<3>(s, at + 1)?;
+    let v = octets::array_at::<3>(s, at + 4)?;
+    octets::ends_at(s, at + 7)?;
+    Ok(Tmgi {
+        plmn: Plmn(p[0], p[1], p[2]),
+        service: Service(v[0], v[1], v[2]),
+    })
 }
 
 // The groups of causes, radio network, transport, NAS, protocol, miscellaneous: how many root values each has, and the bits of their numbers.
@@ -155,92 +68,40 @@ const WIDTHS: [u8; 5] = [3, 1, 0, 3, 3];
 pub fn root_of(group: u8) -> u8
     ensures { result ≡ root_of group }
 {
-    if group < 5 {
-        return ROOTS[group as usize];
-    }
-    0
+    ROOTS.get(group as usize).copied().unwrap_or(0)
 }
 
 pub fn width_of(group: u8) -> u8
     ensures { result ≡ bits_of_root group }
 {
-    if group < 5 {
-        return WIDTHS[group as usize];
-    }
-    0
+    WIDTHS.get(group as usize).copied().unwrap_or(0)
 }
 
 // A cause: its group, and its number among the group's root values.
-pub fn cause_at(s: &[u8], at: usize) -> CauseRead
-    ensures { found_cause result ≡ cause_at s.now at }
+#[tactic(auto, using(octets::proofs::Got::choice_got), unfolding(crate::specs::Values::cause_at))]
+pub fn cause_at(s: &[u8], at: usize) -> Result<Cause, Stop>
+    ensures { result ≡ cause_at s.now at }
 {
-    match octets::plain_at(s, at, 0) {
-        Gate::Pass => {}
-        Gate::Stop(x) => {
-            return CauseRead::Stop(x);
-        }
-    }
-    let group = match octets::choice_at(5, 3, s, at, 1) {
-        Octet::Is(v) => v,
-        Octet::Stop(x) => {
-            return CauseRead::Stop(x);
-        }
-    };
-    match octets::plain_at(s, at, 4) {
-        Gate::Pass => {}
-        Gate::Stop(x) => {
-            return CauseRead::Stop(x);
-        }
-    }
-    let root = root_of(group);
+    octets::plain_at(s, at, 0)?;
+    let group = octets::choice_at(5, 3, s, at, 1)?;
+    octets::plain_at(s, at, 4)?;
     let width = width_of(group);
-    let value = match octets::choice_at(root, width, s, at, 5) {
-        Octet::Is(v) => v,
-        Octet::Stop(x) => {
-            return CauseRead::Stop(x);
-        }
-    };
-    match octets::pad_at(s, at, 5 + width) {
-        Gate::Pass => {}
-        Gate::Stop(x) => {
-            return CauseRead::Stop(x);
-        }
-    }
-    match octets::ends_at(s, at + 1) {
-        Gate::Pass => CauseRead::Is(Cause {
-            group: group,
-            value: value,
-        }),
-        Gate::Stop(x) => CauseRead::Stop(x),
-    }
+    let value = octets::choice_at(root_of(group), width, s, at, 5)?;
+    octets::pad_at(s, at, 5 + width)?;
+    octets::ends_at(s, at + 1)?;
+    Ok(Cause { group, value })
 }
 
 // A Time to Wait: its number among the root values.
-pub fn wait_at(s: &[u8], at: usize) -> WaitRead
-    ensures { found_wait result ≡ wait_at s.now at }
+#[tactic(auto, using(octets::proofs::Got::choice_got), unfolding(crate::specs::Values::wait_at))]
+pub fn wait_at(s: &[u8], at: usize) -> Result<u8, Stop>
+    ensures { result ≡ wait_at s.now at }
 {
-    match octets::plain_at(s, at, 0) {
-        Gate::Pass => {}
-        Gate::Stop(x) => {
-            return WaitRead::Stop(x);
-        }
-    }
-    let v = match octets::choice_at(6, 3, s, at, 1) {
-        Octet::Is(v) => v,
-        Octet::Stop(x) => {
-            return WaitRead::Stop(x);
-        }
-    };
-    match octets::pad_at(s, at, 4) {
-        Gate::Pass => {}
-        Gate::Stop(x) => {
-            return WaitRead::Stop(x);
-        }
-    }
-    match octets::ends_at(s, at + 1) {
-        Gate::Pass => WaitRead::Is(v),
-        Gate::Stop(x) => WaitRead::Stop(x),
-    }
+    octets::plain_at(s, at, 0)?;
+    let v = octets::choice_at(6, 3, s, at, 1)?;
+    octets::pad_at(s, at, 4)?;
+    octets::ends_at(s, at + 1)?;
+    Ok(v)
 }
 
 // The seconds of the root values.
@@ -250,8 +111,5 @@ const WAITS: [u16; 6] = [1, 2, 5, 10, 20, 60];
 pub fn seconds_of(v: u8) -> u16
     ensures { result ≡ seconds v }
 {
-    if v < 6 {
-        return WAITS[v as usize];
-    }
-    0
+    WAITS.get(v as usize).copied().unwrap_or(0)
 }

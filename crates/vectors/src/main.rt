@@ -16,227 +16,197 @@
 ghost use Rattle.std.specs.Prelude.{◌≡◌, length};
 
 use carry::Answer;
-use editions::{Edition, Named};
-use frames::FrameRead;
+use editions::Edition;
 use identity::MceId;
-use octets::{Stop, Two};
-use plan::Written;
-use reader::Reading;
+use octets::Stop;
+use plan::{Unwritten, Written};
+use reader::Unread;
 use setup::SetupBack;
-use std::io;
 use std::io::{BufReader, BufWriter, ErrorKind, Read, Write};
+use std::{fmt, io};
 use unit::Back;
 use verdicts::{Outcome, Refusal};
 
-fn text<W: Write>(output: &mut W, b: &[u8]) -> io::Result<()> {
-    output.write_all(b)
+// What an entry is.
+#[derive(Clone, Copy)]
+enum Kind {
+    Read,
+    WriteAgain,
+    Call,
+    Fresh,
+    Spoil,
+    Setup,
+    Write,
+    Show,
 }
 
-fn number<W: Write>(output: &mut W, n: usize) -> io::Result<()> {
-    write!(output, "{n}")
+impl From<u8> for Kind {
+    fn from(n: u8) -> Kind {
+        match n {
+            0 => Kind::Read,
+            1 => Kind::WriteAgain,
+            2 => Kind::Call,
+            3 => Kind::Fresh,
+            4 => Kind::Spoil,
+            5 => Kind::Setup,
+            6 => Kind::Write,
+            _ => Kind::Show,
+        }
+    }
 }
 
-fn octet<W: Write>(output: &mut W, x: u8) -> io::Result<()> {
-    write!(output, "{x:02x}")
+// An entry in front of its octets.
+#[derive(Clone, Copy)]
+struct Front {
+    kind: Kind,
+    first: u16,
+    second: u16,
+    length: u16,
+}
+
+// Octets in hexadecimal.
+#[derive(Clone, Copy)]
+struct Hex<'a>(&'a [u8]);
+
+impl<'a> fmt::Display for Hex<'a> {
+    fn fmt<W: fmt::Write>(&self, f: &mut fmt::Formatter<W>) -> fmt::Result {
+        for x in self.0 {
+            write!(f, "{x:02x}")?;
+        }
+        Ok(())
+    }
+}
+
+// Those from a place up to another, as far as there are any.
+fn part<'a>(s: &'a [u8], from: usize, to: usize) -> Hex<'a> {
+    let end = to.min(s.len());
+    Hex(&s[from.min(end)..end])
 }
 
 fn two(s: &[u8], at: usize) -> u16 {
-    match octets::two_at(s, at) {
-        Two::Is(v) => v,
-        Two::Stop(_) => 0,
-    }
-}
-
-// The octets from a place up to another.
-fn part<W: Write>(output: &mut W, s: &[u8], from: usize, to: usize) -> io::Result<()> {
-    for i in from..to {
-        if s.len() <= i {
-            return Ok(());
-        }
-        octet(output, s[i])?;
-    }
-    Ok(())
+    octets::two_at(s, at).unwrap_or(0)
 }
 
 fn entries<W: Write>(output: &mut W, words: &[u64; 256], n: usize) -> io::Result<()> {
-    for i in 0..256 {
-        if n <= i {
-            return Ok(());
-        }
-        let e = entry_words::entry_of(words[i]);
-        text(output, b" ")?;
-        number(output, e.crit as usize)?;
-        text(output, b".")?;
-        number(output, e.id as usize)?;
-        text(output, b".")?;
-        number(output, e.error as usize)?;
+    for w in words.iter().take(n) {
+        let e = entry_words::entry_of(*w);
+        write!(output, " {}.{}.{}", e.crit, e.id, e.error)?;
     }
     Ok(())
 }
 
 fn refusal<W: Write>(output: &mut W, x: Refusal) -> io::Result<()> {
     match x {
-        Refusal::TooLong => text(output, b"answer=1"),
-        Refusal::Stopped(s) => match s {
-            Stop::Fault(p) => {
-                text(output, b"answer=2 offset=")?;
-                number(output, p.octet)
-            }
-            Stop::Extension(p) => {
-                text(output, b"answer=3 offset=")?;
-                number(output, p.octet)
-            }
-        },
-        Refusal::NotAmong => text(output, b"answer=4"),
+        Refusal::TooLong => write!(output, "answer=1"),
+        Refusal::Stopped(Stop::Fault(p)) => write!(output, "answer=2 offset={}", p.octet),
+        Refusal::Stopped(Stop::Extension(p)) => write!(output, "answer=3 offset={}", p.octet),
+        Refusal::NotAmong => write!(output, "answer=4"),
     }
 }
 
 fn outcome<W: Write>(output: &mut W, o: Outcome) -> io::Result<()> {
     match o {
-        Outcome::Accepted => text(output, b"answer=0"),
-        Outcome::Misplaced(k) => {
-            text(output, b"answer=5 cause=3.5 place=")?;
-            number(output, k)
-        }
-        Outcome::Rejected => text(output, b"answer=5 cause=3.1"),
+        Outcome::Accepted => write!(output, "answer=0"),
+        Outcome::Misplaced(k) => write!(output, "answer=5 cause=3.5 place={k}"),
+        Outcome::Rejected => write!(output, "answer=5 cause=3.1"),
     }
 }
 
 fn record<W: Write>(output: &mut W, d: &[u8]) -> io::Result<()> {
-    let items = 100 + 6 * two(d, 98) as usize;
-    let entries = 1638 + 4 * two(d, 1636) as usize;
-    text(output, b" record=")?;
-    part(output, d, 0, 98)?;
-    text(output, b" items=")?;
-    part(output, d, 98, items)?;
-    text(output, b" entries=")?;
-    part(output, d, 1636, entries)?;
-    text(output, b" noted:")
+    let items = 100 + 6 * usize::from(two(d, 98));
+    let entries = 1638 + 4 * usize::from(two(d, 1636));
+    write!(output, " record={}", part(d, 0, 98))?;
+    write!(output, " items={}", part(d, 98, items))?;
+    write!(output, " entries={} noted:", part(d, 1636, entries))
 }
 
 fn edition(n: u16) -> Edition {
-    if n == 1 {
-        return Edition::Warnings;
+    match n {
+        1 => Edition::Warnings,
+        2 => Edition::WarningsLab,
+        _ => Edition::Release18,
     }
-    if n == 2 {
-        return Edition::WarningsLab;
-    }
-    Edition::Release18
 }
 
 // What is noted of a message that is understood.
 fn noted<W: Write>(output: &mut W, e: Edition, m: &[u8]) -> io::Result<()> {
-    match frames::frame_at(m) {
-        FrameRead::Is(f) => match editions::message_of(e, f.kind, f.code) {
-            Named::Is(x) => {
-                let mut words: [u64; 256] = [0; 256];
-                let t = editions::rows_of(e, x);
-                let c = editions::has_container(e, x);
-                let n = judging::noted_into(t, c, m, f.from, &mut words);
-                entries(output, &words, n)
-            }
-            Named::Other => Ok(())
-        },
-        FrameRead::Stop(_) => Ok(())
-    }
+    let Ok(f) = frames::frame_at(m) else {
+        return Ok(());
+    };
+    let Some(x) = editions::message_of(e, f.kind, f.code) else {
+        return Ok(());
+    };
+    let mut words: [u64; 256] = [0; 256];
+    let t = editions::rows_of(e, x);
+    let c = editions::has_container(e, x);
+    let n = judging::noted_into(t, c, m, f.from, &mut words);
+    entries(output, &words, n)
 }
 
 fn read<W: Write>(output: &mut W, e: Edition, m: &[u8]) -> io::Result<()> {
     let mut d = [0u8; 2662];
     match reader::read(e, m, &mut d) {
-        Reading::Refused(x) => {
+        Err(Unread::Refused(x)) => {
             refusal(output, x)?;
             record(output, &d)?;
         }
-        Reading::NoRoom => {}
-        Reading::Put(o) => {
+        Err(Unread::NoRoom) => {}
+        Ok(o) => {
             outcome(output, o)?;
             record(output, &d)?;
             noted(output, e, m)?;
         }
     }
-    text(output, b"\n")
+    writeln!(output, "")
 }
 
 fn show_written<W: Write>(output: &mut W, w: Written, room: &[u8]) -> io::Result<()> {
     match w {
-        Written::Done(n) => {
-            text(output, b"answer=0 ")?;
-            part(output, room, 0, n)?;
-        }
-        Written::NoRoom => text(output, b"answer=10")?,
-        Written::NotWritten => text(output, b"answer=11")?,
+        Ok(n) => writeln!(output, "answer=0 {}", part(room, 0, n)),
+        Err(Unwritten::NoRoom) => writeln!(output, "answer=10"),
+        Err(Unwritten::NotWritten) => writeln!(output, "answer=11"),
     }
-    text(output, b"\n")
 }
 
 // The place stands beside 2 and 3.
 fn answer<W: Write>(output: &mut W, a: Answer) -> io::Result<()> {
-    let n = answers::number_of(a) as usize;
-    text(output, b"answer=")?;
-    number(output, n)?;
-    text(output, b" offset=")?;
-    if n == 2 {
-        return number(output, answers::place_of(a));
+    let n = answers::number_of(a);
+    match n {
+        2 | 3 => write!(output, "answer={n} offset={}", answers::place_of(a)),
+        _ => write!(output, "answer={n} offset=-"),
     }
-    if n == 3 {
-        return number(output, answers::place_of(a));
-    }
-    text(output, b"-")
 }
 
-// The octet that marks an open setup request.
-fn mark(unit: &[u8]) -> u8 {
-    if unit.len() <= 3076 {
-        return 0;
-    }
-    unit[3076]
-}
-
+// How many are held, and the octet that marks an open setup request.
 fn state<W: Write>(output: &mut W, unit: &[u8]) -> io::Result<()> {
-    text(output, b" held=")?;
-    number(output, two(unit, 0) as usize)?;
-    text(output, b" open=")?;
-    number(output, mark(unit) as usize)
+    let mark = if 3076 < unit.len() { unit[3076] } else { 0 };
+    write!(output, " held={} open={mark}", two(unit, 0))
 }
 
 // The seconds that a failed setup hands back.
 fn wait<W: Write>(output: &mut W, seconds: u16) -> io::Result<()> {
-    text(output, b" wait=")?;
     if seconds == 0 {
-        return text(output, b"-\n");
+        return writeln!(output, " wait=-");
     }
-    number(output, seconds as usize)?;
-    text(output, b"\n")
+    writeln!(output, " wait={seconds}")
 }
 
 fn show_back<W: Write>(output: &mut W, b: Back, unit: &[u8], room: &[u8]) -> io::Result<()> {
-    let a = b.answer;
-    answer(output, a)?;
-    text(output, b" reply=")?;
-    part(output, room, 0, b.octets)?;
+    answer(output, b.answer)?;
+    write!(output, " reply={}", part(room, 0, b.octets))?;
     state(output, unit)?;
-    wait(output, answers::wait_of(a))
+    wait(output, answers::wait_of(b.answer))
 }
 
 fn show_setup<W: Write>(output: &mut W, b: SetupBack, unit: &[u8], room: &[u8]) -> io::Result<()> {
-    let a = b.answer;
-    text(output, b"answer=")?;
-    number(output, setup::number_of(a) as usize)?;
-    text(output, b" offset=- reply=")?;
-    part(output, room, 0, b.octets)?;
+    let n = setup::number_of(b.answer);
+    write!(
+        output,
+        "answer={n} offset=- reply={}",
+        part(room, 0, b.octets)
+    )?;
     state(output, unit)?;
     wait(output, 0)
-}
-
-// An entry in front of its octets.
-#[derive(Clone, Copy)]
-struct Front {
-    what: u8,
-    first: u16,
-    second: u16,
-    length: u16,
-    whole: bool,
 }
 
 // Fills the space from the input; false where that ends before.
@@ -252,29 +222,32 @@ fn filled<R: Read>(input: &mut R, space: &mut [u8]) -> io::Result<bool> {
     }
 }
 
-fn next_front<R: Read>(input: &mut R) -> io::Result<Front> {
+// None where the input ends before.
+fn next_front<R: Read>(input: &mut R) -> io::Result<Option<Front>> {
     let mut s = [0u8; 7];
-    let whole = filled(input, &mut s)?;
-    Ok(Front {
-        what: s[0],
+    if !filled(input, &mut s)? {
+        return Ok(None);
+    }
+    Ok(Some(Front {
+        kind: Kind::from(s[0]),
         first: two(&s, 1),
         second: two(&s, 3),
         length: two(&s, 5),
-        whole: whole,
-    })
+    }))
 }
 
 // What the lab profile is to write, the ordinary one has read.
 fn reading(n: u16) -> Edition {
-    if n == 2 {
-        return Edition::Warnings;
+    match n {
+        2 => Edition::Warnings,
+        _ => edition(n),
     }
-    edition(n)
 }
 
 fn written_again<W: Write>(output: &mut W, n: u16, m: &[u8], room: &mut [u8]) -> io::Result<()> {
     let mut d = [0u8; 2662];
-    reader::read(reading(n), m, &mut d);
+    // What cannot be read leaves the record zero, and is written so.
+    let _ = reader::read(reading(n), m, &mut d);
     let w = put_message::write(edition(n), &d, m, room);
     show_written(output, w, room)
 }
@@ -309,45 +282,15 @@ fn written<W: Write>(
     room: &mut [u8],
 ) -> io::Result<()> {
     if record_form::name_refused(Edition::Release18, said, values) {
-        return text(output, b"answer=12\n");
+        return writeln!(output, "answer=12");
     }
     let w = put_message::write(Edition::Release18, said, values, room);
     show_written(output, w, room)
 }
 
-fn show_name<'a, W: Write>(output: &mut W, request: &'a [u8], label: &'a [u8]) -> io::Result<()> {
+fn show_name<W: Write>(output: &mut W, request: &[u8], label: &[u8]) -> io::Result<()> {
     let s = shown::shown(Edition::Release18, request, label);
-    text(output, b"shown=")?;
-    part(output, s, 0, s.len())?;
-    text(output, b"\n")
-}
-
-// What an entry gives, of its octets, whole and in two.
-fn given<'a, W: Write>(
-    output: &mut W,
-    f: Front,
-    unit: &mut [u8],
-    m: &[u8],
-    front: &'a [u8],
-    behind: &'a [u8],
-    room: &mut [u8],
-) -> io::Result<()> {
-    if f.what == 0 {
-        return read(output, edition(f.first), m);
-    }
-    if f.what == 1 {
-        return written_again(output, f.first, m, room);
-    }
-    if f.what == 2 {
-        return called(output, unit, m, f.first, room);
-    }
-    if f.what == 5 {
-        return set_up(output, unit, front, behind, room);
-    }
-    if f.what == 6 {
-        return written(output, front, behind, room);
-    }
-    show_name(output, front, behind)
+    writeln!(output, "shown={}", Hex(s))
 }
 
 // Room for as many octets as two octets can say.
@@ -357,57 +300,44 @@ fn large_buffer() -> [u8; 65536]
     [0; 65536]
 }
 
+// What an entry gives, of its octets, whole and in two.
 fn played<W: Write>(output: &mut W, f: Front, unit: &mut [u8], m: &[u8]) -> io::Result<()> {
-    let at = numbers::lesser(f.first as usize, m.len());
-    let n = f.second as usize;
-    let mut room = large_buffer();
-    given(output, f, unit, m, &m[..at], &m[at..], &mut room[..n])
-}
-
-// One message of as many octets as there is space for; false where the input ends before.
-fn taken<R: Read, W: Write>(
-    input: &mut R,
-    output: &mut W,
-    f: Front,
-    unit: &mut [u8],
-    m: &mut [u8],
-) -> io::Result<bool> {
-    if !filled(input, m)? {
-        return Ok(false);
-    }
-    played(output, f, unit, m)?;
-    Ok(true)
-}
-
-fn emptied(unit: &mut [u8]) {
-    for x in unit.iter_mut() {
-        *x = 0;
-    }
-}
-
-fn spoiled(unit: &mut [u8], at: usize, v: u16) {
-    if at < unit.len() {
-        unit[at] = (v % 256) as u8;
+    let (front, behind) = m.split_at(usize::from(f.first).min(m.len()));
+    let mut space = large_buffer();
+    let room = &mut space[..usize::from(f.second)];
+    match f.kind {
+        Kind::Read => read(output, edition(f.first), m),
+        Kind::WriteAgain => written_again(output, f.first, m, room),
+        Kind::Call => called(output, unit, m, f.first, room),
+        Kind::Setup => set_up(output, unit, front, behind, room),
+        Kind::Write => written(output, front, behind, room),
+        Kind::Show | Kind::Fresh | Kind::Spoil => show_name(output, front, behind),
     }
 }
 
 // The next entry; false where the input ends.
 fn turn<R: Read, W: Write>(input: &mut R, output: &mut W, unit: &mut [u8]) -> io::Result<bool> {
-    let f = next_front(input)?;
-    if !f.whole {
+    let Some(f) = next_front(input)? else {
         return Ok(false);
+    };
+    match f.kind {
+        Kind::Fresh => unit.fill(0),
+        Kind::Spoil => {
+            let at = usize::from(f.first);
+            if at < unit.len() {
+                unit[at] = (f.second % 256) as u8;
+            }
+        }
+        _ => {
+            let mut space = large_buffer();
+            let m = &mut space[..usize::from(f.length)];
+            if !filled(input, m)? {
+                return Ok(false);
+            }
+            played(output, f, unit, m)?;
+        }
     }
-    if f.what == 3 {
-        emptied(unit);
-        return Ok(true);
-    }
-    if f.what == 4 {
-        spoiled(unit, f.first as usize, f.second);
-        return Ok(true);
-    }
-    let n = f.length as usize;
-    let mut space = large_buffer();
-    taken(input, output, f, unit, &mut space[..n])
+    Ok(true)
 }
 
 fn main(rt: HostRuntime) -> io::Result<()> {

@@ -1,15 +1,13 @@
 -- The verdict on octets, in an edition, among the messages that pass a test: all of them for the reader, those that ask for the table call.
 -- Answers 1 to 4 have no record; else there is a record, accepted or rejected, with the frame and what is noted.
-use Rattle.std.specs.Prelude.{ℕ, ◌+◌, Bool, true, List, ltb, eqb, length, take}
+use Rattle.std.specs.Prelude.{ℕ, ◌+◌, Bool, true, List, ltb, eqb, length, take, Ok, Err, None, Option, Some}
 use Rattle.lists.specs.Lists.{pick, some}
-use Rattle.octets.specs.Read.{Read, got, stop, ◌>>=◌}
+use Rattle.octets.specs.Read.{Read, ◌>>=◌}
 use Rattle.octets.specs.declared.Span.{Span}
 use Rattle.entries.specs.declared.Entry.{Entry}
 use Rattle.rows.specs.declared.Row.{Row}
 use Rattle.elements.specs.Judge.{Found, elements_at}
 use Rattle.editions.specs.declared.Message.{Message}
-use Rattle.editions.specs.declared.Named.{Named}
-use Rattle.editions.specs.declared.Named.TheVariants as named
 use Rattle.editions.specs.declared.Edition.{Edition}
 use Rattle.editions.specs.Editions.{table_of, container_of, named_by}
 use Rattle.frames.specs.declared.Frame.{Frame}
@@ -41,7 +39,7 @@ unfoldable pub opened_at : List Row → Bool → List ℕ → ℕ → Read Openi
 opened_at t c s from = do
   n ← count_at c s from
   x ← elements_at t n.container s n.elements (from + 3)
-  got (opening_by n.elements x)
+  Ok (opening_by n.elements x)
 
 -- ---- the verdict
 
@@ -65,21 +63,21 @@ understood_by t m f s o = record {
 }
 
 abbrev pub verdict_of : List Row → Message → Frame → List ℕ → Read Opening → Verdict
-verdict_of t m f s (got o) = understood (understood_by t m f s o)
-verdict_of t m f s (stop x) = refused (Stopped x)
+verdict_of t m f s (Ok o) = understood (understood_by t m f s o)
+verdict_of t m f s (Err x) = refused (Stopped x)
 
 -- the reader reads every message
 abbrev pub every : Message → Bool
 every m = true
 
 module _ (e : Edition) (among : Message → Bool) where
-  abbrev pub of_those : List ℕ → Frame → Named → Verdict
-  of_those s f (named.Is m) = pick (among m) (verdict_of (table_of e m) m f s (opened_at (table_of e m) (container_of e m) s f.from)) (refused NotAmong)
-  of_those s f named.Other = refused NotAmong
+  abbrev pub of_those : List ℕ → Frame → Option Message → Verdict
+  of_those s f (Some m) = pick (among m) (verdict_of (table_of e m) m f s (opened_at (table_of e m) (container_of e m) s f.from)) (refused NotAmong)
+  of_those s f None = refused NotAmong
 
   abbrev pub framed : List ℕ → Read Frame → Verdict
-  framed s (got f) = of_those s f (named_by e f.kind f.code)
-  framed s (stop x) = refused (Stopped x)
+  framed s (Ok f) = of_those s f (named_by e f.kind f.code)
+  framed s (Err x) = refused (Stopped x)
 
   -- over 8,192 octets; the frame; a message that passes; what is inside
   unfoldable pub read_of : List ℕ → Verdict

@@ -1,5 +1,6 @@
 -- What is shown of a unit is what it holds: `Shows`.
 -- Assumes nothing.
+use Rattle.std.specs.Prelude.{None, Option, Some}
 use Prim.Native.Nat.{ℕ}
 use mathlib.Core.Path.{◌≡◌, refl, ap, sym, ◌∙◌}
 use mathlib.Core.Bool.{false}
@@ -8,8 +9,6 @@ use borrow.Author.Tests.{le-leb}
 use lib.ListN.{length, get_or, get_or-eq_default}
 use lib.Seq.{ext_get_or}
 use Rattle.identity.specs.declared.Tmgi.{Tmgi}
-use Rattle.identity.specs.declared.Session.{Session}
-use Rattle.identity.specs.declared.Session.TheVariants as session
 use Rattle.table.specs.declared.Association.{Association}
 use Rattle.lists.specs.Lists.{some}
 use Rattle.table.specs.Table.{State, empty_association}
@@ -24,9 +23,9 @@ use Rattle.view.specs.Shows.{Shows}
 stands : (a : Association) → stands_for (record_of a) ≡ a
 stands a = by a.session
   where
-    by : (x : Session) → stands_for (record_of (record { mme = a.mme; mce = a.mce; tmgi = a.tmgi; session = x })) ≡ record { mme = a.mme; mce = a.mce; tmgi = a.tmgi; session = x }
-    by (session.Is v) = refl
-    by session.Absent = refl
+    by : (x : Option ℕ) → stands_for (record_of (record { mme = a.mme; mce = a.mce; tmgi = a.tmgi; session = x })) ≡ record { mme = a.mme; mce = a.mce; tmgi = a.tmgi; session = x }
+    by (Some v) = refl
+    by None = refl
 
 different_are : (a b : Association) → record_of a ≡ record_of b → a ≡ b
 different_are a b e = sym (stands a) ∙ ap stands_for e ∙ stands b

@@ -1,9 +1,7 @@
 -- What a unit shows to those who look: its rows one by one, how many of them have a TMGI, and its marks.
-use Rattle.std.specs.Prelude.{ℕ, Bool, true, false, length, get_or}
+use Rattle.std.specs.Prelude.{ℕ, Bool, true, false, length, get_or, None, Option, Some}
 use Rattle.lists.specs.Lists.{keep}
 use Rattle.identity.specs.declared.Tmgi.{Tmgi}
-use Rattle.identity.specs.declared.Session.{Session}
-use Rattle.identity.specs.declared.Session.TheVariants as session
 use Rattle.table.specs.declared.Association.{Association}
 use Rattle.table.specs.Table.{empty_association}
 use Rattle.lent.specs.Lent.{session_octet}
@@ -15,9 +13,9 @@ use Rattle.console.specs.Console.{has_tmgi, carried_out, no_table}
 use Rattle.view.specs.declared.Row.{Row}
 use Rattle.view.specs.declared.Marks.{Marks}
 
-abbrev pub has_session : Session → Bool
-has_session (session.Is v) = true
-has_session session.Absent = false
+abbrev pub has_session : Option ℕ → Bool
+has_session (Some v) = true
+has_session None = false
 
 abbrev host_tmgi : Tmgi → TmgiOctets
 host_tmgi t = record {

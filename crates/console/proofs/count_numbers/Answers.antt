@@ -1,52 +1,37 @@
 -- Each way out is one of the definition's four tests, or past them all.
-use mathlib.Core.Path.{◌≡◌, sym, ◌∙◌}
-use lib.Seq.{length-take-le}
+use mathlib.Core.Path.{sym, ◌∙◌}
 use borrow.Author.Tests.{le-leb, lt-leb}
-use lib.ListN.{length}
-use Rattle.lists.proofs.Slices.{length_of}
 use Rattle.console.specs.Numbers.{counted_in}
-use borrow.Author.Rules.{rules}
 use Rattle.console.proofs.count_numbers.Goals as goal
+use Rattle.console.proofs.count_numbers.Goals.{then-n-gt256-via-then-n-gt256, then-n-gt256-via-else-n-gt256+then-g, then-not-unequal-via-then-not-unequal, then-not-unequal-via-else-not-unequal+then-not-unequal-2}
 
 pub returns-then-n-gt256 : goal.returns-then-n-gt256
 unfolding counted_in
-returns-then-n-gt256 c = rw (lt-leb _ 256 c.if-n-gt256.true)
+returns-then-n-gt256 c =
+    elim c.then-n-gt256.branch [
+      | then-n-gt256-via-then-n-gt256 w ↦ rw (lt-leb _ 256 w.if-n-gt256.true)
+      | then-n-gt256-via-else-n-gt256+then-g w ↦ rw (le-leb _ 256 w.if-n-gt256.false, w.if-g.true)
+    ]
 
-pub returns-then-g : goal.returns-then-g
+pub returns-then-not-unequal : goal.returns-then-not-unequal
 unfolding counted_in
-returns-then-g c = rw (le-leb _ 256 c.if-n-gt256.false, c.if-g.true)
-
-pub returns-then-not-unequal_mmes : goal.returns-then-not-unequal_mmes
-unfolding counted_in
-returns-then-not-unequal_mmes c = rw (
-  le-leb _ 256 c.if-n-gt256.false,
-  c.if-g.false,
-  sym c.unequal_mmes.ensures ∙ c.if-not-unequal_mmes.true,
-)
-
-pub returns-then-not-unequal_mces : goal.returns-then-not-unequal_mces
-unfolding counted_in
-returns-then-not-unequal_mces c = rw (
-  le-leb _ 256 c.if-n-gt256.false,
-  c.if-g.false,
-  sym c.unequal_mmes.ensures ∙ c.if-not-unequal_mmes.false,
-  sym c.unequal_mces.ensures ∙ c.if-not-unequal_mces.true,
-)
-
-pub slice_bounds-tmgis-end : goal.slice_bounds-tmgis-end
-slice_bounds-tmgis-end c = let b : length c.args.g.tmgis ≡ 256 = search (rules, length_of) in
-    search rules
-
-pub slice_bounds-count-end : goal.slice_bounds-count-end
-slice_bounds-count-end c = let b : length c.args.g.tmgis ≡ 256 = search (rules, length_of) in
-    sym (length-take-le _ c.args.g.tmgis (search rules))
+returns-then-not-unequal c =
+    elim c.then-not-unequal.branch [
+      | then-not-unequal-via-then-not-unequal w ↦ rw (le-leb _ 256 c.if-n-gt256.false, c.if-g.false, sym c.unequal.ensures ∙ w.if-not-unequal.true)
+      | then-not-unequal-via-else-not-unequal+then-not-unequal-2 w ↦ rw (
+        le-leb _ 256 c.if-n-gt256.false,
+        c.if-g.false,
+        sym c.unequal.ensures ∙ w.if-not-unequal.false,
+        sym w.unequal-else-not-unequal.ensures ∙ w.if-not-unequal-2.true,
+      )
+    ]
 
 pub returns : goal.returns
 unfolding counted_in
 returns c = rw (
   le-leb _ 256 c.if-n-gt256.false,
   c.if-g.false,
-  sym c.unequal_mmes.ensures ∙ c.if-not-unequal_mmes.false,
-  sym c.unequal_mces.ensures ∙ c.if-not-unequal_mces.false,
-  c.count-count.ensures,
+  sym c.unequal.ensures ∙ c.if-not-unequal.false,
+  sym c.unequal-else-not-unequal.ensures ∙ c.if-not-unequal-2.false,
+  c.count.ensures,
 )

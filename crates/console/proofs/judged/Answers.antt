@@ -4,4 +4,4 @@ use Rattle.console.specs.Numbers.{counted_in}
 use Rattle.console.proofs.judged.Goals as goal
 
 pub returns : goal.returns
-returns c = (c.count_numbers.ensures ∙ ap (counted_in _ _) c.number_of-x.ensures.0, c.number_of-x.ensures.1)
+returns c = (c.count_numbers.ensures ∙ ap (counted_in _ _) c.number_of.ensures.0, c.number_of.ensures.1)

@@ -8,11 +8,11 @@ loop-i-preserved c =
     let ys = c.args.run.now in
     let i = c.loop-i.i in
     let h : i < length ys = omega arith in
-    let e = c.with_record-g.ensures in
-    (omega arith, rw (e.0, c.loop-i.invariant.1) (gathered_more ys i _ h (omega arith)), each_more ys i _ h c.loop-i.invariant.2 e.1)
+    let e = c.put.ensures in
+    (rw (e.0, c.loop-i.invariant.0) (gathered_more ys i _ h (omega arith)), each_more ys i _ h c.loop-i.invariant.1 e.1)
 
 pub returns : goal.returns
 returns c =
     let v = c.loop-i.invariant in
     let e = c.judged.ensures in
-    e.0 ∙ rw v.1 (answered c.args.tmgi e.1 c.args.run.now c.loop-i.i (omega arith) (omega arith) v.2)
+    e.0 ∙ rw v.0 (answered c.args.tmgi e.1 c.args.run.now c.loop-i.i (omega arith) (omega arith) v.1)

@@ -1,9 +1,6 @@
-use Prim.Native.Nat.{◌-◌}
+use Rattle.std.proofs.Common.{length, map}
 use Rattle.distinct.proofs.Sets.{Met}
 use Rattle.distinct.proofs.unequal_by_set.Given as goal
 
-abbrev pub invariant-loop-i : goal.invariant-loop-i
-invariant-loop-i l = Met 1024 l.ids l.n l.set l.i
-
-abbrev pub decreases-loop-i : goal.decreases-loop-i
-decreases-loop-i l = 256 - l.i
+abbrev pub invariant-loop-x : goal.invariant-loop-x
+invariant-loop-x g l = Met 1024 (map g.I.Identity.number l.ids) (length l.ids) l.set.words l.x-index

@@ -1,7 +1,6 @@
 use mathlib.Core.Bool.{not}
 use mathlib.Core.List.{List}
 use mathlib.Core.Path.{◌≡◌}
-use Prim.Native.Nat.{◌-◌}
 use Rattle.entries.specs.declared.Entry.{Entry}
 use Rattle.entry_rows.proofs.Saying.{Passed}
 use Rattle.layout.specs.Rows.{row_entry}
@@ -11,6 +10,3 @@ use Rattle.entry_rows.proofs.are_said_good.Given as goal
 
 abbrev pub invariant-loop-i : goal.invariant-loop-i
 invariant-loop-i l = (es : List Entry) × Passed row_entry 4 l.n l.s 1638 es l.i × (l.good ≡ not (some (λ (x : Entry). not (entry_good x)) es))
-
-abbrev pub decreases-loop-i : goal.decreases-loop-i
-decreases-loop-i l = l.n - l.i

@@ -2,35 +2,16 @@
 -- Assumes nothing.
 use mathlib.Core.List.{List, map, map-append}
 use mathlib.Core.Path.{◌∙◌, ap}
-use native.Mathlib.Omega.{arith}
 use lib.Seq.{sets}
 use Rattle.entries.specs.declared.Entry.{Entry}
-use Rattle.entry_rows.proofs.Saying.{passed_all, passed_more, passed_none, said_all, said_few}
+use Rattle.entry_rows.proofs.Saying.{passed_all, passed_more, said_all}
 use Rattle.entry_words.specs.EntryWords.{entry_word}
-use Rattle.octets.proofs.Writing.{wrote_length, wrote_none, wrote_then}
+use Rattle.octets.proofs.Writing.{wrote_then}
 use Rattle.entry_rows.proofs.entries_said.Goals as goal
-
-pub loop-i-init : goal.loop-i-init
-loop-i-init c = (_, passed_none, wrote_none _ _ (omega arith))
-
-pub overflow_mul-i : goal.overflow_mul-i
-overflow_mul-i c = omega (arith, said_few c.args.s.now, c.said_entries-n.ensures)
-
-pub overflow_add-i : goal.overflow_add-i
-overflow_add-i c = omega (arith, said_few c.args.s.now, c.said_entries-n.ensures)
-
-pub row_at-e-requires : goal.row_at-e-requires
-row_at-e-requires c = omega (arith, said_few c.args.s.now, c.said_entries-n.ensures)
-
-pub overflow_add-i-in-loop-i : goal.overflow_add-i-in-loop-i
-overflow_add-i-in-loop-i c = omega (arith, said_few c.args.s.now, c.said_entries-n.ensures)
 
 pub loop-i-preserved : goal.loop-i-preserved
 loop-i-preserved c = let q = c.entry_word.ensures ∙ ap entry_word c.row_at-e.ensures in
-    (_, passed_more c.loop-i.invariant.1 c.loop-i-test.true, rw (map-append, ← q) (wrote_then c.loop-i.invariant.2 c.put_word-to.ensures))
-
-pub shape_of-words : goal.shape_of-words
-shape_of-words c = wrote_length c.loop-i.invariant.2
+    (_, passed_more c.loop-i.invariant.1 c.loop-i-test.true, rw (map-append, ← q) (wrote_then c.loop-i.invariant.2 c.put-to.ensures))
 
 pub returns : goal.returns
 returns c = let s = c.args.s.now in

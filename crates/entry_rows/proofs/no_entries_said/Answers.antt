@@ -1,5 +1,6 @@
 -- `entry_rows::no_entries_said` meets its contract: no entries are 1,026 zeros.
 -- Assumes nothing.
+use Rattle.lent.proofs.Reading.{tail_part}
 use mathlib.Core.List.{[]}
 use mathlib.Core.Path.{◌∙◌}
 use native.Mathlib.Omega.{arith}
@@ -10,4 +11,4 @@ pub returns-then-s-ne2662 : goal.returns-then-s-ne2662
 returns-then-s-ne2662 c = not_long c.args.s.now [] (omega arith) c.if-s-ne2662.true
 
 pub returns : goal.returns
-returns c = c.zeros_behind.ensures ∙ no_form c.args.s.now (omega arith)
+returns c = (rw tail_part at c.all_zero.ensures) ∙ no_form c.args.s.now (omega arith)

@@ -1,5 +1,4 @@
 use mathlib.Core.List.{List}
-use Prim.Native.Nat.{◌-◌}
 use Rattle.entries.specs.Entries.{entry_at}
 use Rattle.entries.specs.declared.Entry.{Entry}
 use Rattle.entry_words.proofs.Reading.{Reading}
@@ -10,6 +9,3 @@ use Rattle.entry_rows.proofs.put_rows.Given as goal
 
 abbrev pub invariant-loop-i : goal.invariant-loop-i
 invariant-loop-i l = (es : List Entry) × Reading (entry_at l.s l.from) l.n l.from es l.i l.next × Wrote l.initial.room l.at (each_octets entry_row es) l.room l.to
-
-abbrev pub decreases-loop-i : goal.decreases-loop-i
-decreases-loop-i l = l.n - l.i

@@ -5,4 +5,4 @@ use Rattle.entry_rows.proofs.Saying.{said_count}
 use Rattle.entry_rows.proofs.said_entries.Goals as goal
 
 pub returns : goal.returns
-returns c = omega (arith, said_count c.args.s.now, c.lesser.ensures, c.wide16-n.ensures, c.two.ensures, c.octet_in-2.ensures, c.octet_in.ensures)
+returns c = omega (arith, said_count c.args.s.now, c.min.ensures, c.from-n.ensures, c.from_be_bytes.ensures, c.octet_in-2.ensures, c.octet_in.ensures)

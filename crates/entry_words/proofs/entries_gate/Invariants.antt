@@ -1,5 +1,4 @@
 use mathlib.Core.List.{List}
-use Prim.Native.Nat.{◌-◌}
 use Rattle.entries.specs.Entries.{entry_at}
 use Rattle.entries.specs.declared.Entry.{Entry}
 use Rattle.entry_words.proofs.Reading.{Reading}
@@ -7,6 +6,3 @@ use Rattle.entry_words.proofs.entries_gate.Given as goal
 
 abbrev pub invariant-loop-i : goal.invariant-loop-i
 invariant-loop-i l = (es : List Entry) × Reading (entry_at l.s l.from) l.n l.from es l.i l.at
-
-abbrev pub decreases-loop-i : goal.decreases-loop-i
-decreases-loop-i l = l.n - l.i

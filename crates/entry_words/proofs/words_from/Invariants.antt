@@ -1,5 +1,4 @@
 use mathlib.Core.List.{List, map}
-use Prim.Native.Nat.{◌-◌}
 use Rattle.entries.specs.Entries.{entry_at}
 use Rattle.entries.specs.declared.Entry.{Entry}
 use Rattle.entry_words.proofs.Reading.{Reading}
@@ -9,6 +8,3 @@ use Rattle.entry_words.proofs.words_from.Given as goal
 
 abbrev pub invariant-loop-i : goal.invariant-loop-i
 invariant-loop-i l = (es : List Entry) × Reading (entry_at l.s l.from) l.n l.from es l.i l.at × Wrote l.initial.words 0 (map entry_word es) l.words l.to
-
-abbrev pub decreases-loop-i : goal.decreases-loop-i
-decreases-loop-i l = l.n - l.i

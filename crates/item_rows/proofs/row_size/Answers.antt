@@ -5,4 +5,4 @@ use mathlib.Core.Path.{◌∙◌}
 use Rattle.item_rows.proofs.row_size.Goals as goal
 
 pub returns : goal.returns
-returns c = ((λ crit. c.wide.ensures ∙ row_sized c.args.s.now c.args.at c.octet_in.ensures c.octet_in-2.ensures c.there-a.ensures.0 c.there-b.ensures.0 crit), omega arith)
+returns c = ((λ crit. c.from.ensures ∙ row_sized c.args.s.now c.args.at c.octet_in.ensures c.octet_in-2.ensures c.there-a.ensures.0 c.there-b.ensures.0 crit), omega arith)

@@ -1,10 +1,7 @@
+use Prim.Native.Nat.{◌+◌, ◌*◌, ◌≤◌}
 use Rattle.put_values.proofs.Put.{Sized}
 use Rattle.layout.specs.Record.{lists_in}
-use Prim.Native.Nat.{◌+◌, ◌*◌, ◌-◌, ◌≤◌}
 use Rattle.item_rows.proofs.said_size.Given as goal
 
 abbrev pub invariant-loop-i : goal.invariant-loop-i
-invariant-loop-i l = (l.i ≤ l.n) × (l.size ≤ 1 + 9 * l.i) × Sized (lists_in l.s).items l.i l.size
-
-abbrev pub decreases-loop-i : goal.decreases-loop-i
-decreases-loop-i l = l.n - l.i
+invariant-loop-i l = (l.size ≤ 1 + 9 * l.i) × Sized (lists_in l.s).items l.i l.size

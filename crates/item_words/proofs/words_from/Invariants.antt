@@ -1,5 +1,4 @@
 use mathlib.Core.List.{List, map}
-use Prim.Native.Nat.{◌-◌}
 use Rattle.identity.specs.declared.Item.{Item}
 use Rattle.item.specs.Item.{item_element_at}
 use Rattle.octets.specs.Write.{Wrote}
@@ -9,6 +8,3 @@ use Rattle.item_words.proofs.words_from.Given as goal
 
 abbrev pub invariant-loop-i : goal.invariant-loop-i
 invariant-loop-i l = (is : List Item) × Reading (item_element_at l.s) l.n l.from is l.i l.next × Wrote l.initial.words 0 (map word_of is) l.words l.to
-
-abbrev pub decreases-loop-i : goal.decreases-loop-i
-decreases-loop-i l = l.n - l.i

@@ -1,8 +1,7 @@
+use Rattle.std.proofs.Common.{◌-◌}
 use Rattle.judging.proofs.BehindLaws.{Passing}
 use Rattle.judging.proofs.extensions.Given as goal
 
-abbrev pub invariant-loop-left : goal.invariant-loop-left
-invariant-loop-left l = Passing l.s l.n l.from l.initial.tally l.left l.at l.tally
-
-abbrev pub decreases-loop-left : goal.decreases-loop-left
-decreases-loop-left l = l.left
+-- the extensions passed are counted
+abbrev pub invariant-loop : goal.invariant-loop
+invariant-loop l = Passing l.s l.n l.from l.initial.tally (l.n - l.counter) l.at l.tally

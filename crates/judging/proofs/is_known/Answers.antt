@@ -1,21 +1,24 @@
--- `judging::is_known` meets its contract. The loop's invariant: the id is found among the rows left, counted from where the loop stands. Assumes nothing.
-use mathlib.Core.Path.{sym}
-use native.Mathlib.Omega.{arith}
-use native.Mathlib.Nat.{zero-add}
-use borrow.Author.Tests.{lt-ltb, le-ltb}
-use lib.ListN.{length}
-use Rattle.rows.specs.Table.{rows_in, find}
-use Rattle.rows.proofs.TableLaws.{row_here, row_past, ended}
+-- By the test that the closure computes.
+use Prim.Native.Nat.compare
+use Rattle.std.proofs.Common.{◌≡◌, ◌∙◌, ℕ, suc, Bool, true, false, ◌||◌, List, [], ◌∷◌, length, eqb, ltb, lt-ltb, refl, sym, arith, rules, tests}
+use Rattle.std.specs.List.{list_any}
+use Rattle.std.proofs.lemmas.Iterator.{YieldsList-from_slice}
+use Rattle.std.proofs.lemmas.Iterator.Search.{any_from_yields_List}
+use Rattle.lists.specs.Lists.{pick}
+use Rattle.rows.specs.declared.Row.{Row}
+use Rattle.rows.specs.Table.{rows_in, find, known}
 use Rattle.judging.proofs.is_known.Goals as goal
 
-pub loop-k-init : goal.loop-k-init
-loop-k-init c = (omega arith, zero-add _)
-
-pub returns-then-r-id : goal.returns-then-r-id
-returns-then-r-id c = let a = c.args in let t = rows_in a.t in sym (lt-ltb (find a.id t) (length t) (omega (arith, row_here a.t a.id c.loop-k.k (omega arith) c.loop-k.invariant.1 c.if-r-id.true)))
-
-pub loop-k-preserved : goal.loop-k-preserved
-loop-k-preserved c = let a = c.args in (omega arith, row_past a.t a.id c.loop-k.k (omega arith) c.loop-k.invariant.1 c.if-r-id.false)
+any_known : (id : ℕ) (t : List Row) → list_any (λ (r : Row). eqb r.id id) t ≡ known t id
+unfolding find
+any_known id [] = refl
+any_known id (r ∷ t) = by (eqb r.id id) (any_known id t)
+  where
+    by : (b : Bool) → list_any (λ (x : Row). eqb x.id id) t ≡ known t id → (b || list_any (λ (x : Row). eqb x.id id) t) ≡ ltb (pick b 0 (suc (find id t))) (suc (length t))
+    by true q = sym (lt-ltb 0 (suc (length t)) (omega arith))
+    by false q = rw (compare.suc-suc (suc (find id t)) (length t)) q
 
 pub returns : goal.returns
-returns c = let a = c.args in let t = rows_in a.t in sym (le-ltb (find a.id t) (length t) (omega (arith, ended t a.id c.loop-k.k (omega arith) c.loop-k.invariant.1)))
+returns c =
+    any_from_yields_List (λ r. eqb r.id c.args.id) _ _ _ c.any.ensures.ran (YieldsList-from_slice (rows_in c.args.t) cc) (λ x b q k. search (rules, tests))
+    ∙ any_known c.args.id (rows_in c.args.t)

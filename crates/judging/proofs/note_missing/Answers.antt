@@ -1,34 +1,33 @@
--- `judging::note_missing` meets its contract. The loop's invariant: the rows passed that have no value are noted behind what was. Assumes nothing.
-use borrow.Author.Tests.{not-true, not-false}
-use Prim.Native.Nat.{◌<◌}
-use native.Mathlib.Omega.{arith}
-use lib.ListN.{length}
-use Rattle.places.specs.Places.{spans_in}
-use Rattle.places.proofs.Laws.{pairs_length}
+use Rattle.std.proofs.Common.{◌≡◌, ◌∙◌, sym, length, append-nil, arith}
+use Rattle.std.proofs.Math.Seq.{take-length}
+use Rattle.std.proofs.lemmas.List.{length_push}
+use Rattle.std.proofs.lemmas.Slice.Zip.{zip_turn, zip_end}
 use Rattle.rows.specs.Table.{rows_in}
-use Rattle.judging.proofs.NotedLaws.{without_none, without_present, without_optional, without_more, without_all}
+use Rattle.elements.specs.Judge.{missing_of}
+use Rattle.judging.proofs.NotedLaws.{row_missing, row_there}
 use Rattle.judging.proofs.note_missing.Goals as goal
 
-pub loop-k-init : goal.loop-k-init
-loop-k-init c = without_none _ _ _ _
+pub loop-r-init : goal.loop-r-init
+unfolding missing_of
+loop-r-init c = λ k es p. rw (append-nil es) p
 
-pub loop-k-preserved-then-v-gt0 : goal.loop-k-preserved-then-v-gt0
-loop-k-preserved-then-v-gt0 c =
-    let inside : (c.loop-k.k < length (rows_in c.args.t)) × (c.loop-k.k < length (spans_in c.args.places.now)) = (omega arith, omega (arith, pairs_length 12 c.args.places.now)) in
-    let g = inside in without_present c.loop-k.invariant g.0 g.1 (rw c.span_in-v.ensures at c.if-v-gt0.true)
+pub loop-r-preserved-then-is_missing : goal.loop-r-preserved-then-is_missing
+loop-r-preserved-then-is_missing c =
+    let a = c.args in
+    let z = zip_turn (rows_in a.t) a.places.now c.loop-r.yielded c.into_iter-r-iterator.result c.loop-r.r-iterator c.next.new.self _ (cc) (cc) c.loop-r.yielded_by _ c.in-Some.is c.next.ensures.steps in
+    rw (length_push c.loop-r.yielded (c.in-Some.r, c.in-Some.v))
+    (row_missing (rows_in a.t) a.places.now (length c.loop-r.yielded) z.0 z.1 (z.2 _) (z.3 _) c.loop-r.invariant (sym c.is_missing.ensures ∙ c.if-is_missing.true) c.note-count.ensures)
 
-pub loop-k-preserved-then-not-r : goal.loop-k-preserved-then-not-r
-loop-k-preserved-then-not-r c =
-    let inside : (c.loop-k.k < length (rows_in c.args.t)) × (c.loop-k.k < length (spans_in c.args.places.now)) = (omega arith, omega (arith, pairs_length 12 c.args.places.now)) in
-    let g = inside in without_optional c.loop-k.invariant g.0 g.1 (rw c.span_in-v.ensures at c.if-v-gt0.false) (not-true _ c.if-not-r.true)
-
-pub loop-k-preserved : goal.loop-k-preserved
-loop-k-preserved c =
-    let inside : (c.loop-k.k < length (rows_in c.args.t)) × (c.loop-k.k < length (spans_in c.args.places.now)) = (omega arith, omega (arith, pairs_length 12 c.args.places.now)) in
-    let g = inside in without_more c.loop-k.invariant g.0 g.1 (rw c.span_in-v.ensures at c.if-v-gt0.false) (not-false _ c.if-not-r.false) c.note-count.ensures
-
-pub shape_of-words : goal.shape_of-words
-shape_of-words c = c.loop-k.invariant.size
+pub loop-r-preserved : goal.loop-r-preserved
+loop-r-preserved c =
+    let a = c.args in
+    let z = zip_turn (rows_in a.t) a.places.now c.loop-r.yielded c.into_iter-r-iterator.result c.loop-r.r-iterator c.next.new.self _ (cc) (cc) c.loop-r.yielded_by _ c.in-Some.is c.next.ensures.steps in
+    rw (length_push c.loop-r.yielded (c.in-Some.r, c.in-Some.v))
+    (row_there (rows_in a.t) a.places.now (length c.loop-r.yielded) z.0 z.1 (z.2 _) (z.3 _) c.loop-r.invariant (sym c.is_missing.ensures ∙ c.if-is_missing.false))
 
 pub returns : goal.returns
-returns c = without_all c.loop-k.invariant (omega arith)
+returns c =
+    let a = c.args in
+    let z = zip_end (rows_in a.t) a.places.now c.loop-r.yielded c.into_iter-r-iterator.result c.loop-r.r-iterator c.next.new.self _ (cc) (cc) c.loop-r.yielded_by c.in-None.is c.next.ensures.steps in
+    let e : length c.loop-r.yielded ≡ length (rows_in a.t) = omega (arith, a.t.few, c.told-places) in
+    rw (e, take-length (rows_in a.t)) at c.loop-r.invariant

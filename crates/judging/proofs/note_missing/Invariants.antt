@@ -1,12 +1,9 @@
-use Prim.Native.Nat.{◌-◌}
-use lib.ListN.{length}
-use Rattle.places.specs.Places.{spans_in}
+use Rattle.std.proofs.Common.{length, take}
 use Rattle.rows.specs.Table.{rows_in}
-use Rattle.judging.proofs.NotedLaws.{Without}
+use Rattle.elements.specs.Judge.{missing_of}
+use Rattle.judging.specs.Judging.{NotedBehind}
 use Rattle.judging.proofs.note_missing.Given as goal
 
-abbrev pub invariant-loop-k : goal.invariant-loop-k
-invariant-loop-k l = Without l.t (spans_in l.places) l.initial.words l.seen l.k l.words l.count
-
-abbrev pub decreases-loop-k : goal.decreases-loop-k
-decreases-loop-k l = length (rows_in l.t) - l.k
+-- the rows passed that have no value are noted behind what was
+abbrev pub invariant-loop-r : goal.invariant-loop-r
+invariant-loop-r l = NotedBehind (missing_of (take (length l.yielded) (rows_in l.t)) (take (length l.yielded) l.places)) l.initial.words l.seen l.words l.count

@@ -1,18 +1,11 @@
--- `judging::opened_at` meets its contract. How the message opens is read, and then the elements behind it. Assumes nothing.
-use mathlib.Core.Path.{refl}
-use native.Mathlib.Omega.{arith}
-use Rattle.octets.proofs.Chain.{past, halt}
+use Rattle.std.proofs.Common.{◌∙◌, sym}
+use Rattle.rows.specs.Table.{rows_in}
 use Rattle.verdicts.specs.Verdict.{opened_at}
-use Rattle.judging.proofs.OpenedLaws.{count_in, opens_as}
+use Rattle.judging.proofs.OpenedLaws.{opens_got, opens_stop}
 use Rattle.judging.proofs.opened_at.Goals as goal
 
-pub overflow_add-from : goal.overflow_add-from
-overflow_add-from c = let a = c.args in omega (arith, count_in a.c a.s.now a.from c.in-Is.ensures)
+pub returns-then-is_err : goal.returns-then-is_err
+returns-then-is_err c = let a = c.args in opens_stop (opened_at (rows_in a.t) a.c a.s.now a.from) c.judged_at-opened.ensures (sym c.is_err.ensures.value ∙ c.if-is_err.true)
 
-pub returns-in-Is : goal.returns-in-Is
-unfolding opened_at
-returns-in-Is c = opens_as (past _ _ c.in-Is.ensures refl) (rw c.wide16.ensures at c.opening_at.ensures)
-
-pub returns-in-Stop : goal.returns-in-Stop
-unfolding opened_at
-returns-in-Stop c = opens_as (halt _ c.in-Stop.ensures) c.not_opened.ensures
+pub returns-else-is_err : goal.returns-else-is_err
+returns-else-is_err c = let a = c.args in opens_got (opened_at (rows_in a.t) a.c a.s.now a.from) c.judged_at-opened.ensures (sym c.is_err.ensures.value ∙ c.if-is_err.false)

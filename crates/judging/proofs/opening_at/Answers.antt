@@ -1,47 +1,44 @@
--- `judging::opening_at` meets its contract. Where the rest is without fault, what the walk saw is the judging. Assumes nothing.
-use mathlib.Core.Path.{◌≡◌, ◌∙◌, refl}
-use native.Mathlib.Omega.{arith}
-use lib.ListN.{length, length-take}
-use Rattle.lists.proofs.Slices.{length_of}
-use Rattle.octets.specs.Found.{found_gate}
-use Rattle.octets.proofs.Chain.{past, halt, told, then_got}
+use Rattle.std.proofs.Common.{◌≡◌, ◌∙◌, refl, rules}
+use Rattle.std.specs.Prelude.{Err}
+use Rattle.octets.proofs.Chain.{past, halt}
 use Rattle.rows.specs.Table.{rows_in}
-use Rattle.envelopes.specs.Envelope.{found_end, heads_at}
+use Rattle.envelopes.specs.Envelope.{heads_at}
 use Rattle.elements.specs.Judge.{extensions_at, elements_at}
-use Rattle.judging.proofs.BehindLaws.{stops_there}
-use Rattle.judging.proofs.OpenedLaws.{opens_as, opened_places, opened_front, opened_all}
-use borrow.Author.Rules.{rules}
+use Rattle.judging.proofs.BehindLaws.{stops_there, counted_there}
+use Rattle.judging.proofs.OpenedLaws.{judges_stop, judges_got, opened_places, opened_front, opened_all}
 use Rattle.judging.proofs.opening_at.Goals as goal
 
-pub returns-in-Stop : goal.returns-in-Stop
+pub returns-in_err-to : goal.returns-in_err-to
 unfolding elements_at
-returns-in-Stop c = opens_as (halt _ (halt _ (halt _ (told found_end c.in-Stop.is c.scan.ensures ∙ c.walk-w.ensures.faults)))) c.not_opened.ensures
+returns-in_err-to c =
+    let e : c.from_residual.result ≡ Err c.in_err-to.field-0.0 = search rules in
+    rw e (judges_stop (halt _ (halt _ (halt _ (c.in_err-to.ensures ∙ c.walk-w.ensures.faults)))))
 
-pub returns-in-Stop-gate : goal.returns-in-Stop-gate
+pub returns-in_err-behind : goal.returns-in_err-behind
 unfolding elements_at
-returns-in-Stop-gate c = let a = c.args in let q = told found_end c.in-Is.is c.scan.ensures in
-    let x = extensions_at a.container a.s.now c.in-Is.v in
-    opens_as (halt _ (halt _ (past _ _ (q ∙ c.walk-w.ensures.faults) (stops_there x (told found_gate c.in-Stop-gate.is c.behind_elements-b.ensures.gate))))) c.not_opened-in-Stop-gate.ensures
+returns-in_err-behind c =
+    let a = c.args in
+    let e : c.from_residual-in_err-behind.result ≡ Err c.in_err-behind.field-0.0 = search rules in
+    rw e (judges_stop (halt _ (halt _ (past _ _ (c.in_ok-to.ensures ∙ c.walk-w.ensures.faults) (stops_there (extensions_at a.container a.s.now c.in_ok-to.to) _ c.in_err-behind.ensures)))))
 
-pub returns-then-place-n : goal.returns-then-place-n
+pub returns-then-w-n : goal.returns-then-w-n
 unfolding elements_at
-returns-then-place-n c = let a = c.args in let e = c.walk-w.ensures in let hs = heads_at a.s.now a.n a.from in
-    let q = told found_end c.in-Is.is c.scan.ensures in
-    let x = then_got (extensions_at a.container a.s.now c.in-Is.v) _ (told found_gate c.in-Pass.is c.behind_elements-b.ensures.gate) in
-    let p = e.seen _ q in
-    opens_as (past _ _ (past _ _ (past _ _ (q ∙ e.faults) x.1) refl) refl)
-    (record { result = opened_front (rows_in a.t) a.n hs x.0 _ _ p c.if-place-n.true; places = opened_places (rows_in a.t) a.n hs x.0 _ _ p })
+returns-then-w-n c =
+    let a = c.args in
+    let e = c.walk-w.ensures in
+    let hs = heads_at a.s.now a.n a.from in
+    let x = counted_there (extensions_at a.container a.s.now c.in_ok-to.to) c.in_ok-behind.ensures in
+    let p = e.seen _ c.in_ok-to.ensures in
+    judges_got (past _ _ (past _ _ (past _ _ (c.in_ok-to.ensures ∙ e.faults) x.1) refl) refl) (opened_front (rows_in a.t) a.n hs x.0 _ _ p c.if-w-n.true) (opened_places (rows_in a.t) a.n hs x.0 _ _ p)
 
 pub returns : goal.returns
 unfolding elements_at
-returns c = let a = c.args in let e = c.walk-w.ensures in let hs = heads_at a.s.now a.n a.from in
-    let q = told found_end c.in-Is.is c.scan.ensures in
-    let b = c.behind_elements-b.ensures in
-    let x = then_got (extensions_at a.container a.s.now c.in-Is.v) _ (told found_gate c.in-Pass.is b.gate) in
-    let p = e.seen _ q in
-    let l : length a.t.rows ≡ 12 = search (rules, length_of, c.well_formed.0) in
-    opens_as (past _ _ (past _ _ (past _ _ (q ∙ e.faults) x.1) refl) refl)
-    (record {
-      result = rw c.outcome_by.ensures (opened_all (rows_in a.t) a.n hs x.0 _ _ p (omega (arith, length-take a.t.count a.t.rows)) c.if-place-n.false e.within (b.tally x.0 x.1) c.with_missing-all.ensures);
-      places = opened_places (rows_in a.t) a.n hs x.0 _ _ p;
-    })
+returns c =
+    let a = c.args in
+    let e = c.walk-w.ensures in
+    let hs = heads_at a.s.now a.n a.from in
+    let x = counted_there (extensions_at a.container a.s.now c.in_ok-to.to) c.in_ok-behind.ensures in
+    let p = e.seen _ c.in_ok-to.ensures in
+    judges_got (past _ _ (past _ _ (past _ _ (c.in_ok-to.ensures ∙ e.faults) x.1) refl) refl)
+    (rw c.outcome_by.ensures (opened_all (rows_in a.t) a.n hs x.0 _ _ p c.if-w-n.false e.within x.2 c.with_missing-all.ensures))
+    (opened_places (rows_in a.t) a.n hs x.0 _ _ p)

@@ -1,31 +1,33 @@
--- `judging::with_missing` meets its contract. The loop's invariant: the tally counts what it did, and the rows passed that have no value. Assumes nothing.
-use borrow.Author.Tests.{not-true, not-false}
-use Prim.Native.Nat.{◌<◌}
-use native.Mathlib.Omega.{arith}
-use lib.ListN.{length}
-use Rattle.places.specs.Places.{spans_in}
-use Rattle.places.proofs.Laws.{pairs_length}
+use Rattle.std.proofs.Common.{◌≡◌, ◌∙◌, refl, sym, length, arith}
+use Rattle.std.proofs.Math.Seq.{take-length}
+use Rattle.std.proofs.lemmas.List.{length_push}
+use Rattle.std.proofs.lemmas.Slice.Zip.{zip_turn, zip_end}
 use Rattle.rows.specs.Table.{rows_in}
-use Rattle.judging.proofs.TallyLaws.{lacking_none, lacking_all, lacking_present, lacking_optional, lacking_more}
+use Rattle.elements.specs.Judge.{missing_of}
+use Rattle.judging.proofs.TallyLaws.{none_more, lacking_more}
 use Rattle.judging.proofs.with_missing.Goals as goal
 
-pub loop-k-init : goal.loop-k-init
-loop-k-init c = (lacking_none c.args.t (spans_in c.args.places.now) _, omega arith)
+pub loop-r-init : goal.loop-r-init
+unfolding missing_of
+loop-r-init c = none_more refl
 
-pub loop-k-preserved-then-v-gt0 : goal.loop-k-preserved-then-v-gt0
-loop-k-preserved-then-v-gt0 c =
-    let inside : (c.loop-k.k < length (rows_in c.args.t)) × (c.loop-k.k < length (spans_in c.args.places.now)) = (omega arith, omega (arith, pairs_length 12 c.args.places.now)) in
-    let g = inside in (lacking_present c.loop-k.invariant.0 g.0 g.1 (rw c.span_in-v.ensures at c.if-v-gt0.true), omega arith)
+pub loop-r-preserved-then-is_missing : goal.loop-r-preserved-then-is_missing
+loop-r-preserved-then-is_missing c =
+    let a = c.args in
+    let z = zip_turn (rows_in a.t) a.places.now c.loop-r.yielded c.into_iter-r-iterator.result c.loop-r.r-iterator c.next.new.self _ (cc) (cc) c.loop-r.yielded_by _ c.in-Some.is c.next.ensures.steps in
+    rw (length_push c.loop-r.yielded (c.in-Some.r, c.in-Some.v))
+    (lacking_more (rows_in a.t) a.places.now (length c.loop-r.yielded) z.0 z.1 (z.2 _) (z.3 _) c.loop-r.invariant (sym c.is_missing.ensures ∙ c.if-is_missing.true) c.tally_with-tally.ensures)
 
-pub loop-k-preserved-then-not-r : goal.loop-k-preserved-then-not-r
-loop-k-preserved-then-not-r c =
-    let inside : (c.loop-k.k < length (rows_in c.args.t)) × (c.loop-k.k < length (spans_in c.args.places.now)) = (omega arith, omega (arith, pairs_length 12 c.args.places.now)) in
-    let g = inside in (lacking_optional c.loop-k.invariant.0 g.0 g.1 (rw c.span_in-v.ensures at c.if-v-gt0.false) (not-true _ c.if-not-r.true), omega arith)
-
-pub loop-k-preserved : goal.loop-k-preserved
-loop-k-preserved c =
-    let inside : (c.loop-k.k < length (rows_in c.args.t)) × (c.loop-k.k < length (spans_in c.args.places.now)) = (omega arith, omega (arith, pairs_length 12 c.args.places.now)) in
-    let g = inside in (rw c.tally_with-tally.ensures (lacking_more c.loop-k.invariant.0 g.0 g.1 (rw c.span_in-v.ensures at c.if-v-gt0.false) (not-false _ c.if-not-r.false)), omega arith)
+pub loop-r-preserved : goal.loop-r-preserved
+loop-r-preserved c =
+    let a = c.args in
+    let z = zip_turn (rows_in a.t) a.places.now c.loop-r.yielded c.into_iter-r-iterator.result c.loop-r.r-iterator c.next.new.self _ (cc) (cc) c.loop-r.yielded_by _ c.in-Some.is c.next.ensures.steps in
+    rw (length_push c.loop-r.yielded (c.in-Some.r, c.in-Some.v))
+    (lacking_more (rows_in a.t) a.places.now (length c.loop-r.yielded) z.0 z.1 (z.2 _) (z.3 _) c.loop-r.invariant (sym c.is_missing.ensures ∙ c.if-is_missing.false) refl)
 
 pub returns : goal.returns
-returns c = lacking_all c.loop-k.invariant.0 (omega arith)
+returns c =
+    let a = c.args in
+    let z = zip_end (rows_in a.t) a.places.now c.loop-r.yielded c.into_iter-r-iterator.result c.loop-r.r-iterator c.next.new.self _ (cc) (cc) c.loop-r.yielded_by c.in-None.is c.next.ensures.steps in
+    let e : length c.loop-r.yielded ≡ length (rows_in a.t) = omega (arith, a.t.few, c.told-places) in
+    rw (e, take-length (rows_in a.t)) at c.loop-r.invariant

@@ -11,15 +11,13 @@ loop-i-init c = not_yet
 
 pub returns-then-names : goal.returns-then-names
 returns-then-names c = let a = c.args in
-    let h = c.loop-i-test.true in
     let n = length_rows a.n (drop 2 a.s.now) in
-    sym (not_found c.loop-i.invariant (omega arith) (next_row a.s.now a.n _ h (omega arith) _ c.row_of-a.ensures) c.names.ensures c.if-names.true)
+    sym (not_found c.loop-i.invariant (omega arith) (next_row a.s.now a.n _ c.loop-i-test.true (omega arith) _ c.row_of.ensures) c.names.ensures c.if-names.true)
 
 pub loop-i-preserved : goal.loop-i-preserved
 loop-i-preserved c = let a = c.args in
-    let h = c.loop-i-test.true in
     let n = length_rows a.n (drop 2 a.s.now) in
-    not_more c.loop-i.invariant (omega arith) (next_row a.s.now a.n _ h (omega arith) _ c.row_of-a.ensures) c.names.ensures c.if-names.false
+    not_more c.loop-i.invariant (omega arith) (next_row a.s.now a.n _ c.loop-i-test.true (omega arith) _ c.row_of.ensures) c.names.ensures c.if-names.false
 
 pub returns : goal.returns
 returns c = let a = c.args in

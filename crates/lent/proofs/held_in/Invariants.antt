@@ -1,4 +1,3 @@
-use Prim.Native.Nat.{◌-◌}
 use lib.ListN.{drop}
 use Rattle.table.specs.Table.{names}
 use Rattle.lent.specs.Lent.{rows_of}
@@ -7,6 +6,3 @@ use Rattle.lent.proofs.held_in.Given as goal
 
 abbrev pub invariant-loop-i : goal.invariant-loop-i
 invariant-loop-i l = NotTo (names l.item) (rows_of l.n (drop 2 l.s)) l.i
-
-abbrev pub decreases-loop-i : goal.decreases-loop-i
-decreases-loop-i l = l.n - l.i

@@ -1,43 +1,29 @@
--- Where the rows are apart in both series, each has been asked.
-use mathlib.Core.Path.{sym, ◌∙◌}
-use mathlib.Core.Bool.{◌&&◌, and-false}
+-- What such sets tell of the rows is what holds of them.
+use Rattle.std.specs.Prelude.{Some}
+use mathlib.Core.Path.{ap, ◌∙◌}
 use native.Mathlib.Omega.{arith}
+use Prim.Native.Nat.{◌+◌}
 use lib.ListN.{drop}
-use Rattle.lists.specs.Lists.{apart}
-use Rattle.identity.specs.declared.Mme.TheVariants as mme
-use Rattle.identity.specs.declared.Mce.TheVariants as mce
-use Rattle.table.specs.Table.{held_by, share_mme, share_mce}
-use Rattle.lent.specs.Lent.{rows_of}
-use Rattle.lent.specs.Tests.{rows_good}
-use Rattle.lent.proofs.ByRows.{series_is, series_not, both_series}
+use lib.Seq.{get_or-drop}
+use Rattle.octets.specs.Stands.{Octets}
+use Rattle.lent.proofs.Told.{wholly_none, wholly_some}
 use Rattle.lent.proofs.look_many.Goals as goal
+
+pub returns-in_err-mme : goal.returns-in_err-mme
+returns-in_err-mme c = let a = c.args in
+    let o : Octets (drop 2 a.s.now) = λ i. rw get_or-drop (c.type_inv.s (2 + i)).fits in
+    c.from_residual.ensures ∙ rw (wholly_none a.item a.n (drop 2 a.s.now) o c.in_err-mme.ensures.is)
 
 pub with_pair-requires : goal.with_pair-requires
 with_pair-requires c = let a = c.args in
-    let s = drop 2 a.s.now in
-    let l = rows_of a.n s in
-    let m = series_is (rows_good a.n s && apart share_mme l) (held_by a.item.mme mce.Absent l) _ (sym c.mmes_in.ensures ∙ c.in-Apart.is) in
-    let k = series_is (apart share_mce l) (held_by mme.Absent a.item.mce l) _ (sym c.mces_in.ensures ∙ c.in-Apart-mces_in.is) in
-    (omega arith, omega arith, m.1, k.1)
+    let o : Octets (drop 2 a.s.now) = λ i. rw get_or-drop (c.type_inv.s (2 + i)).fits in
+    let h = c.in_ok-mme.ensures in
+    let e = wholly_some a.item a.n (drop 2 a.s.now) o h.is h.fits.0 h.fits.1 in
+    (omega arith, omega arith, e.1, e.2)
 
-pub returns-in-Apart-mces_in : goal.returns-in-Apart-mces_in
-returns-in-Apart-mces_in c = let a = c.args in
-    let s = drop 2 a.s.now in
-    let l = rows_of a.n s in
-    let m = series_is (rows_good a.n s && apart share_mme l) (held_by a.item.mme mce.Absent l) _ (sym c.mmes_in.ensures ∙ c.in-Apart.is) in
-    let k = series_is (apart share_mce l) (held_by mme.Absent a.item.mce l) _ (sym c.mces_in.ensures ∙ c.in-Apart-mces_in.is) in
-    rw (both_series a.n s, m.0, k.0) c.with_pair.ensures
-
-pub returns-in-Shared-mces_in : goal.returns-in-Shared-mces_in
-returns-in-Shared-mces_in c = let a = c.args in
-    let s = drop 2 a.s.now in
-    let l = rows_of a.n s in
-    let k = series_not (apart share_mce l) (held_by mme.Absent a.item.mce l) (sym c.mces_in.ensures ∙ c.in-Shared-mces_in.is) in
-    rw (both_series a.n s, k, and-false)
-
-pub returns-in-Shared : goal.returns-in-Shared
-returns-in-Shared c = let a = c.args in
-    let s = drop 2 a.s.now in
-    let l = rows_of a.n s in
-    let m = series_not (rows_good a.n s && apart share_mme l) (held_by a.item.mme mce.Absent l) (sym c.mmes_in.ensures ∙ c.in-Shared.is) in
-    rw (both_series a.n s, m)
+pub returns : goal.returns
+returns c = let a = c.args in
+    let o : Octets (drop 2 a.s.now) = λ i. rw get_or-drop (c.type_inv.s (2 + i)).fits in
+    let h = c.in_ok-mme.ensures in
+    let e = wholly_some a.item a.n (drop 2 a.s.now) o h.is h.fits.0 h.fits.1 in
+    ap Some c.with_pair.ensures ∙ rw e.0

@@ -13,5 +13,5 @@ pub returns : goal.returns
 returns c = let a = c.args in
     let e = c.set_up-b.ensures in
     let d = setup Release18 a.unit.now (record { said = a.said.now; values = a.values.now; room = a.room.now }) in
-    let n : c.number_of-number.result ≡ setup_number d.answer = c.number_of-number.ensures ∙ ap setup_number e.answer in
+    let n : c.number_of.result ≡ setup_number d.answer = c.number_of.ensures ∙ ap setup_number e.answer in
     record { answer = λ i. record { answer = n i; place = 0; octets = e.octets i; bit = 0; wait = 0 }; unit = e.unit; room = e.room }

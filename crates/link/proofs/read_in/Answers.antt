@@ -1,23 +1,17 @@
--- `link::read_in` meets its contract. By what the reader answered: the record was put, or nothing was. Assumes nothing.
+-- By what the reader answered: the record was put, or nothing was.
 use mathlib.Core.Path.{ap, ◌∙◌}
-use Rattle.reader.specs.declared.Reading.TheVariants as reading
+use Rattle.std.specs.Prelude.{Err}
 use Rattle.link.proofs.Reading.{put_read, refusal_small}
 use Rattle.link.proofs.read_in.Goals as goal
 
 pub refused-requires : goal.refused-requires
-refused-requires c = let a = c.args in refusal_small a.e a.message.now a.room.now c.read.ensures c.in-Refused.is
+refused-requires c = let a = c.args in let i = c.in-Err-Refused in refusal_small a.e a.message.now a.room.now c.read.ensures (i.is ∙ ap Err i.field-0-is)
 
-pub returns-in-Refused : goal.returns-in-Refused
-returns-in-Refused c = let a = c.args in put_read a.e a.message.now a.room.now c.read.ensures c.in-Refused.is c.refused.ensures
+pub returns-in-Ok : goal.returns-in-Ok
+returns-in-Ok c = let a = c.args in put_read a.e a.message.now a.room.now c.read.ensures c.in-Ok.is (rw c.outcome_number.ensures at c.recorded.ensures)
 
-pub returns-in-NoRoom : goal.returns-in-NoRoom
-returns-in-NoRoom c = let a = c.args in put_read a.e a.message.now a.room.now c.read.ensures c.in-NoRoom.is c.plain.ensures
+pub returns-in-Err-Refused : goal.returns-in-Err-Refused
+returns-in-Err-Refused c = let a = c.args in let i = c.in-Err-Refused in put_read a.e a.message.now a.room.now c.read.ensures (i.is ∙ ap Err i.field-0-is) c.refused.ensures
 
-pub returns-in-Accepted : goal.returns-in-Accepted
-returns-in-Accepted c = let a = c.args in put_read a.e a.message.now a.room.now c.read.ensures (c.in-Put.is ∙ ap reading.Put c.in-Accepted.is) c.recorded.ensures
-
-pub returns-in-Misplaced : goal.returns-in-Misplaced
-returns-in-Misplaced c = let a = c.args in put_read a.e a.message.now a.room.now c.read.ensures (c.in-Put.is ∙ ap reading.Put c.in-Misplaced.is) c.recorded-in-Misplaced.ensures
-
-pub returns-in-Rejected : goal.returns-in-Rejected
-returns-in-Rejected c = let a = c.args in put_read a.e a.message.now a.room.now c.read.ensures (c.in-Put.is ∙ ap reading.Put c.in-Rejected.is) c.recorded-in-Rejected.ensures
+pub returns-in-Err-NoRoom : goal.returns-in-Err-NoRoom
+returns-in-Err-NoRoom c = let a = c.args in let i = c.in-Err-NoRoom in put_read a.e a.message.now a.room.now c.read.ensures (i.is ∙ ap Err i.field-0-is) c.plain.ensures

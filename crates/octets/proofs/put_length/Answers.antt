@@ -14,7 +14,7 @@ pub returns-then-n-lt128 : goal.returns-then-n-lt128
 returns-then-n-lt128 c = rw (length_short _ c.if-n-lt128.true) c.put_octet.ensures
 
 pub returns-then-n-ge16384 : goal.returns-then-n-ge16384
-returns-then-n-ge16384 c = rw (length_over _ c.if-n-ge16384.true) (wrote_none _ _ c.lesser.ensures)
+returns-then-n-ge16384 c = rw (length_over _ c.if-n-ge16384.true) (wrote_none _ _ c.min.ensures)
 
 pub returns : goal.returns
 unfolding packed_in

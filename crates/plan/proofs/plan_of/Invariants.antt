@@ -1,11 +1,8 @@
-use mathlib.Core.Path.{◌≡◌}
-use Prim.Native.Nat.{◌≤◌, ◌-◌}
-use Rattle.plan.specs.declared.Plan.TheVariants.{Is}
+use Rattle.std.proofs.Common.{◌≡◌, length, Some}
 use Rattle.plan.specs.Plan.{Small, plan_to}
 use Rattle.plan.proofs.plan_of.Given as goal
 
-abbrev pub invariant-loop-i : goal.invariant-loop-i
-invariant-loop-i l = (l.i ≤ l.n) × (l.n ≤ 12) × Small l.i l.plan × (l.plan ≡ plan_to (Is 0 0) l.rows.rows l.sizes l.i)
-
-abbrev pub decreases-loop-i : goal.decreases-loop-i
-decreases-loop-i l = l.n - l.i
+abbrev pub invariant-loop-row : goal.invariant-loop-row
+invariant-loop-row l =
+    Small (length l.yielded) (Some l.plan)
+    × (Some l.plan ≡ plan_to (Some (0, 0)) l.rows.rows.now l.sizes (length l.yielded))

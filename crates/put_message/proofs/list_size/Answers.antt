@@ -8,5 +8,5 @@ use Rattle.put_message.proofs.list_size.Goals as goal
 pub returns-then-fits_a_list : goal.returns-then-fits_a_list
 returns-then-fits_a_list c = list_size (said_items c.args.s.now) (rw c.said_items.ensures at (sym c.fits_a_list.ensures ∙ c.if-fits_a_list.true)) (c.said_size.ensures acknowledgement_crit)
 
-pub returns : goal.returns
-returns c = list_none (said_items c.args.s.now) (rw c.said_items.ensures at (sym c.fits_a_list.ensures ∙ c.if-fits_a_list.false))
+pub returns-else-fits_a_list : goal.returns-else-fits_a_list
+returns-else-fits_a_list c = list_none (said_items c.args.s.now) (rw c.said_items.ensures at (sym c.fits_a_list.ensures ∙ c.if-fits_a_list.false))

@@ -28,5 +28,5 @@ returns-then-is_name c =
     let part : let a = c.args in (a.v.to ≤ length a.values.now) × (a.v.from < a.v.to) × (a.v.to - a.v.from ≤ 150) = let a = c.args in allowed_part a.values.now a.v.from a.v.to good in
     let a = c.args in name_size (octets_in a.values.now a.v) good (carried_in_lem a.values.now a.v part.0)
 
-pub returns : goal.returns
-returns c = let a = c.args in name_none (octets_in a.values.now a.v) (sym c.is_name.ensures ∙ c.if-is_name.false)
+pub returns-else-is_name : goal.returns-else-is_name
+returns-else-is_name c = let a = c.args in name_none (octets_in a.values.now a.v) (sym c.is_name.ensures ∙ c.if-is_name.false)

@@ -13,5 +13,5 @@ overflow_add-result c = omega (arith, c.said_size.ensures reset_crit, items_smal
 pub returns-then-fits_a_list : goal.returns-then-fits_a_list
 returns-then-fits_a_list c = part_size (said_items c.args.s.now) (rw c.said_items.ensures at (sym c.fits_a_list.ensures ∙ c.if-fits_a_list.true)) (c.said_size.ensures reset_crit)
 
-pub returns : goal.returns
-returns c = part_none (said_items c.args.s.now) (rw c.said_items.ensures at (sym c.fits_a_list.ensures ∙ c.if-fits_a_list.false))
+pub returns-else-fits_a_list : goal.returns-else-fits_a_list
+returns-else-fits_a_list c = part_none (said_items c.args.s.now) (rw c.said_items.ensures at (sym c.fits_a_list.ensures ∙ c.if-fits_a_list.false))

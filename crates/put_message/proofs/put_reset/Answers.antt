@@ -5,10 +5,10 @@ use Rattle.octets.proofs.Writing.{wrote_then}
 use Rattle.items.specs.Written.{reset_octets}
 use Rattle.put_message.proofs.put_reset.Goals as goal
 
-pub returns-then-there-eq2 : goal.returns-then-there-eq2
-unfolding reset_octets packed_in
-returns-then-there-eq2 c = rw (eq-eqb _ _ c.if-there-eq2.true) (wrote_then c.put_octet-first.ensures c.put_said.ensures)
-
 pub returns : goal.returns
 unfolding reset_octets packed_in
-returns c = rw (ne_eqb _ _ c.if-there-eq2.false) c.put_octet.ensures
+returns c = rw (eq-eqb _ _ c.if-there-ne2.false) (wrote_then c.put_octet-first.ensures c.put_said.ensures)
+
+pub returns-then-there-ne2 : goal.returns-then-there-ne2
+unfolding reset_octets packed_in
+returns-then-there-ne2 c = rw (ne_eqb _ _ c.if-there-ne2.true) c.put_octet.ensures

@@ -11,9 +11,9 @@ use Rattle.put_message.proofs.Values.{given_there}
 use Rattle.put_message.proofs.put_row.Goals as goal
 
 pub returns-then-size-eq0 : goal.returns-then-size-eq0
-returns-then-size-eq0 c = let a = c.args in wrote_as (element_none a.row (given_by a.values.now a.s.now a.row.kind a.from) c.requires.3 c.if-size-eq0.true) (wrote_none _ _ (omega (arith, c.requires.0)))
+returns-then-size-eq0 c = let a = c.args in wrote_as (element_none a.row (given_by a.values.now a.s.now a.row.kind a.p.now) c.requires.2 c.if-size-eq0.true) (wrote_none _ _ (omega (arith, c.requires.0)))
 
 pub returns : goal.returns
 returns c = let a = c.args in
-    let g = given_there a.values.now a.s.now a.from a.row.kind (λ z. c.if-size-eq0.false (c.requires.3 ∙ z)) in
-    wrote_as (element_is a.row (value_by a.values.now a.s.now a.row.kind a.from) c.requires.2 (c.requires.3 ∙ ap size_given g) c.requires.4 ∙ ap (element_octets a.row) (sym g)) (wrote_then c.put_front-value.ensures c.put_value.ensures)
+    let g = given_there a.values.now a.s.now a.row.kind a.p.now (λ z. c.if-size-eq0.false (c.requires.2 ∙ z)) in
+    wrote_as (element_is a.row (value_by a.values.now a.s.now a.row.kind a.p.now) c.requires.1 (c.requires.2 ∙ ap size_given g) c.requires.3 ∙ ap (element_octets a.row) (sym g)) (wrote_then c.put_front-value.ensures c.put_value.ensures)

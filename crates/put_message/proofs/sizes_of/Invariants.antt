@@ -1,5 +1,3 @@
-use Prim.Native.Nat.{◌≤◌, ◌-◌}
-use mathlib.Core.Path.{◌≡◌}
 use lib.ListN.{length}
 use Rattle.lists.proofs.Copy.{Copied}
 use Rattle.rows.specs.Table.{rows_in}
@@ -8,7 +6,4 @@ use Rattle.put_message.specs.Said.{said_in}
 use Rattle.put_message.proofs.sizes_of.Given as goal
 
 abbrev pub invariant-loop-i : goal.invariant-loop-i
-invariant-loop-i l = (l.n ≤ 12) × (l.n ≡ length (rows_in l.rows)) × Copied size_given 0 12 (said_in l.values l.s (rows_in l.rows)) l.n l.sizes l.i
-
-abbrev pub decreases-loop-i : goal.decreases-loop-i
-decreases-loop-i l = l.n - l.i
+invariant-loop-i l = Copied size_given 0 12 (said_in l.values l.s (rows_in l.rows)) (length (rows_in l.rows)) l.sizes l.i

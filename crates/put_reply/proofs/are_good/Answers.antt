@@ -9,14 +9,14 @@ use Rattle.put_reply.proofs.are_good.Goals as goal
 pub returns-then-not-fits_a_list : goal.returns-then-not-fits_a_list
 returns-then-not-fits_a_list c = good_none c.args.noted.now (sym c.fits_a_list.ensures ∙ c.if-not-fits_a_list.true)
 
-pub loop-i-init : goal.loop-i-init
-loop-i-init c = sought_none (omega arith)
+pub loop-w-init : goal.loop-w-init
+loop-w-init c = sought_none (omega arith)
 
 pub returns-then-not-is_entry_good : goal.returns-then-not-is_entry_good
-returns-then-not-is_entry_good c = good_some c.args.noted.now (sym c.fits_a_list.ensures ∙ c.if-not-fits_a_list.false) (sought_found c.loop-i.invariant 0 c.loop-i-test.true (omega arith) (ap not (sym c.is_entry_good.ensures ∙ c.if-not-is_entry_good.true)))
+returns-then-not-is_entry_good c = good_some c.args.noted.now (sym c.fits_a_list.ensures ∙ c.if-not-fits_a_list.false) (sought_found c.loop-w.invariant 0 c.loop-w-test.true (omega arith) (ap not (sym c.is_entry_good.ensures ∙ c.if-not-is_entry_good.true)))
 
-pub loop-i-preserved : goal.loop-i-preserved
-loop-i-preserved c = sought_more c.loop-i.invariant 0 c.loop-i-test.true (omega arith) (ap not (sym c.is_entry_good.ensures ∙ c.if-not-is_entry_good.false))
+pub loop-w-preserved : goal.loop-w-preserved
+loop-w-preserved c = sought_more c.loop-w.invariant 0 c.loop-w-test.true (omega arith) (ap not (sym c.is_entry_good.ensures ∙ c.if-not-is_entry_good.false))
 
 pub returns : goal.returns
-returns c = good_some c.args.noted.now (sym c.fits_a_list.ensures ∙ c.if-not-fits_a_list.false) (sought_all c.loop-i.invariant c.loop-i-test.false)
+returns c = good_some c.args.noted.now (sym c.fits_a_list.ensures ∙ c.if-not-fits_a_list.false) (sought_all c.loop-w.invariant c.loop-w-test.false)

@@ -4,8 +4,8 @@ use Rattle.items.specs.Written.{acknowledgement_crit}
 use Rattle.put_reply.proofs.Sizes.{list_size, list_none}
 use Rattle.put_reply.proofs.list_size.Goals as goal
 
-pub returns-then-not-fits_a_list : goal.returns-then-not-fits_a_list
-returns-then-not-fits_a_list c = list_none c.args.kept.now (sym c.fits_a_list.ensures ∙ c.if-not-fits_a_list.true)
+pub returns-else-fits_a_list : goal.returns-else-fits_a_list
+returns-else-fits_a_list c = list_none c.args.kept.now (sym c.fits_a_list.ensures ∙ c.if-fits_a_list.false)
 
-pub returns : goal.returns
-returns c = list_size c.args.kept.now (sym c.fits_a_list.ensures ∙ c.if-not-fits_a_list.false) (c.words_size.ensures acknowledgement_crit)
+pub returns-then-fits_a_list : goal.returns-then-fits_a_list
+returns-then-fits_a_list c = list_size c.args.kept.now (sym c.fits_a_list.ensures ∙ c.if-fits_a_list.true) (c.words_size.ensures acknowledgement_crit)

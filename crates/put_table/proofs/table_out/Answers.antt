@@ -1,9 +1,9 @@
 -- The count, the rows one after another, and zeros up to the end; the rows before the first of them are not touched.
 use mathlib.Core.Path.{◌≡◌, ◌∙◌}
 use native.Mathlib.Omega.{arith}
-use borrow.Author.Count.{falls}
 use borrow.Author.Rules.{rules}
 use borrow.Author.Tests.{eq-eqb, ne_eqb}
+use Prim.Native.Nat.{◌+◌, ◌*◌}
 use lib.ListN.{length}
 use Rattle.lists.proofs.Slices.{length_of}
 use Rattle.put_table.proofs.Writing.{part_long, count_wrote, written_none, written_more, written_all, held_from}
@@ -13,13 +13,10 @@ pub returns-then-d-ne3074 : goal.returns-then-d-ne3074
 returns-then-d-ne3074 c = rw (ne_eqb (length c.args.d.now) 3074 c.if-d-ne3074.true)
 
 pub loop-i-init : goal.loop-i-init
-loop-i-init c = let b : length c.args.t.rows ≡ 256 = search (rules, length_of) in written_none _ _ _ _ (omega arith) (omega arith) (omega arith) (count_wrote _ (omega arith) c.put_two-at.ensures)
+loop-i-init c = let b : length c.args.t.rows ≡ 256 = search (rules, length_of) in written_none _ _ _ _ (omega arith) (omega arith) (omega arith) (count_wrote _ (omega arith) c.put_two-end.ensures)
 
 pub put_row-requires : goal.put_row-requires
-put_row-requires c = part_long c.loop-i.d c.loop-i.at (omega arith)
-
-pub loop-i-smaller : goal.loop-i-smaller
-loop-i-smaller c = falls _ _ c.loop-i-test.true
+put_row-requires c = part_long c.loop-i.d (2 + 12 * c.loop-i.i) (omega arith)
 
 pub loop-i-preserved : goal.loop-i-preserved
 loop-i-preserved c = let b : length c.args.t.rows ≡ 256 = search (rules, length_of) in written_more c.loop-i.invariant _ (omega arith) (omega arith) (omega arith) c.put_row.ensures
@@ -27,5 +24,5 @@ loop-i-preserved c = let b : length c.args.t.rows ≡ 256 = search (rules, lengt
 pub returns : goal.returns
 returns c = let s = c.args in
     let b : length s.t.rows ≡ 256 = search (rules, length_of) in
-    let w = written_all (omega arith) (omega arith) (omega arith) c.put_two-at.ensures c.loop-i.invariant (omega arith) c.put_zeros.ensures in
-    rw (eq-eqb (length s.d.now) 3074 (omega arith)) (w ∙ held_from s.t s.from s.d.now b c.lesser-n.ensures c.lesser-i.ensures)
+    let w = written_all (omega arith) (omega arith) (omega arith) c.put_two-end.ensures c.loop-i.invariant (omega arith) c.put_zeros.ensures in
+    rw (eq-eqb (length s.d.now) 3074 (omega arith)) (w ∙ held_from s.t s.from s.d.now b c.min-n.ensures c.min-i.ensures)

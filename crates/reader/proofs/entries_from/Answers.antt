@@ -1,19 +1,14 @@
--- `reader::entries_from` meets its contract. Only Criticality Diagnostics announce entries. Assumes nothing.
-use mathlib.Core.Path.{sym}
+-- Only Criticality Diagnostics announce entries.
 use native.Mathlib.Omega.{arith}
 use borrow.Author.Tests.{lt-ltb, le-ltb}
-use lib.Seq.{length-take-le}
 use Rattle.diagnostics.specs.Diagnostics.{diagnostics_at}
 use Rattle.meaning.specs.Reading.{read_as}
 use Rattle.reader.proofs.Slots.{got_of}
 use Rattle.reader.proofs.Begin.{no_entries_there, diagnostics_entries, no_entries}
 use Rattle.reader.proofs.entries_from.Goals as goal
 
-pub returns-then-to-eq0 : goal.returns-then-to-eq0
-returns-then-to-eq0 c = no_entries_there _ _ _ (le-ltb 0 c.args.v.to (omega arith))
-
-pub slice_bounds-list_from-end : goal.slice_bounds-list_from-end
-slice_bounds-list_from-end c = sym (length-take-le _ _ (c.requires (lt-ltb 0 c.args.v.to (omega arith))).within)
+pub returns-then-v-eq0 : goal.returns-then-v-eq0
+returns-then-v-eq0 c = no_entries_there _ _ _ (le-ltb 0 c.args.v.to (omega arith))
 
 pub list_from-requires : goal.list_from-requires
 unfolding read_as

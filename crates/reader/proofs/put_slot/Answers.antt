@@ -1,16 +1,12 @@
--- `reader::put_slot` meets its contract. A value that is not there is zeros. Assumes nothing.
-use native.Mathlib.Omega.{arith}
-use borrow.Author.Tests.{lt-ltb, le-ltb}
-use Rattle.meaning.specs.Reading.{value_in}
+use Rattle.std.proofs.Common.{◌≡◌, refl, ◌+◌, ◌-◌, length, take, arith, rules}
+use lib.Seq.{take_all}
+use Rattle.octets.proofs.AtOnce.{wrote_mid}
 use Rattle.reader.proofs.put_slot.Goals as goal
 
-pub put_value-requires : goal.put_value-requires
-put_value-requires c = record { room = omega arith; value = c.requires.value (lt-ltb 0 _ c.if-v-gt0.true) }
-
-pub returns-then-v-gt0 : goal.returns-then-v-gt0
-unfolding value_in
-returns-then-v-gt0 c = rw (lt-ltb 0 _ c.if-v-gt0.true) c.put_value.ensures
-
 pub returns : goal.returns
-unfolding value_in
-returns c = rw (le-ltb 0 _ c.if-v-gt0.false) c.put_absent.ensures
+returns c =
+    let a = c.args in
+    let e : 8 ≡ length a.slot = search rules in
+    let k : a.at + 8 - a.at ≡ 8 = omega arith in
+    let t : take 8 a.slot ≡ a.slot = take_all 8 a.slot (omega arith) in
+    rw (k, c.copy_from_slice.ensures.after) (rw t at (wrote_mid a.room.now a.slot a.at 8 (omega arith) refl))

@@ -1,5 +1,6 @@
--- `reader::read` meets its contract. Each return is one case of the verdict. Assumes nothing.
+-- Each return is one case of the verdict.
 use mathlib.Core.Path.{refl, sym, ◌∙◌}
+use Rattle.std.proofs.lemmas.Result.{err_from_is_err_and}
 use Rattle.verdicts.specs.Verdict.{every}
 use Rattle.judging.proofs.Steps.{too_long, frame_stops, not_named, judged_inside}
 use Rattle.reader.proofs.Record.{answers_as, answers_refused}
@@ -8,14 +9,18 @@ use Rattle.reader.proofs.read.Goals as goal
 pub returns-then-s-gt8192 : goal.returns-then-s-gt8192
 returns-then-s-gt8192 c = answers_refused c.args.e c.args.room.now (too_long c.args.e every c.args.s.now c.if-s-gt8192.true)
 
-pub read_inside-requires : goal.read_inside-requires
-read_inside-requires c = record { length = c.if-s-gt8192.false; named = sym c.message_of.ensures ∙ c.in-Is-message_of.is }
+pub returns-in_err-f : goal.returns-in_err-f
+returns-in_err-f c =
+    let a = c.args in
+    let p = err_from_is_err_and c.from_residual.result c.from_residual.ensures.1 in
+    rw (p.1, p.2) (answers_refused a.e a.room.now (frame_stops a.e every a.s.now c.if-s-gt8192.false c.in_err-f.ensures))
 
-pub returns-in-Is-message_of : goal.returns-in-Is-message_of
-returns-in-Is-message_of c = answers_as c.args.e c.args.room.now (judged_inside c.args.e every c.args.s.now c.if-s-gt8192.false c.in-Is.ensures (sym c.message_of.ensures ∙ c.in-Is-message_of.is) refl) c.read_inside.ensures
+pub returns-in-Some : goal.returns-in-Some
+returns-in-Some c =
+    let a = c.args in
+    answers_as a.e a.room.now (judged_inside a.e every a.s.now c.if-s-gt8192.false c.in_ok-f.ensures (sym c.message_of.ensures ∙ c.in-Some.is) refl) c.read_inside.ensures
 
-pub returns-in-Other : goal.returns-in-Other
-returns-in-Other c = answers_refused c.args.e c.args.room.now (not_named c.args.e every c.args.s.now c.if-s-gt8192.false c.in-Is.ensures (sym c.message_of.ensures ∙ c.in-Other.is))
-
-pub returns-in-Stop : goal.returns-in-Stop
-returns-in-Stop c = answers_refused c.args.e c.args.room.now (frame_stops c.args.e every c.args.s.now c.if-s-gt8192.false c.in-Stop.ensures)
+pub returns-in-None : goal.returns-in-None
+returns-in-None c =
+    let a = c.args in
+    answers_refused a.e a.room.now (not_named a.e every a.s.now c.if-s-gt8192.false c.in_ok-f.ensures (sym c.message_of.ensures ∙ c.in-None.is))

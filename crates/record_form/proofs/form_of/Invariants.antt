@@ -1,4 +1,4 @@
-use Prim.Native.Nat.{◌≤◌, ◌-◌, ◌+◌, ◌*◌}
+use Prim.Native.Nat.{◌+◌, ◌*◌}
 use mathlib.Core.Path.{◌≡◌}
 use mathlib.Core.Bool.{false}
 use lib.ListN.{drop}
@@ -7,7 +7,4 @@ use Rattle.record_form.specs.Form.{form_from}
 use Rattle.record_form.proofs.form_of.Given as goal
 
 abbrev pub invariant-loop-i : goal.invariant-loop-i
-invariant-loop-i l = (l.i ≤ l.n) × (l.n ≤ 12) × (form_from l.items l.entries (drop l.i (rows_in l.rows)) (drop (2 + 8 * l.i) l.s) ≡ form_from false false (rows_in l.rows) (drop 2 l.s))
-
-abbrev pub decreases-loop-i : goal.decreases-loop-i
-decreases-loop-i l = l.n - l.i
+invariant-loop-i l = form_from l.items l.entries (drop l.i (rows_in l.rows)) (drop (2 + 8 * l.i) l.s) ≡ form_from false false (rows_in l.rows) (drop 2 l.s)

@@ -1,15 +1,13 @@
 -- `record_form::is_formed` meets its contract: slot by slot, then what stands behind them; other octets are too few or too many. Assumes nothing.
-use Prim.Native.Nat.{◌≤◌}
 use mathlib.Core.Path.{◌∙◌, sym}
-use native.Mathlib.Omega.{arith}
-use lib.ListN.{length}
-use Rattle.rows.specs.Table.{rows_in}
 use Rattle.record_form.proofs.Formed.{formed_by, formed_not}
 use Rattle.record_form.proofs.is_formed.Goals as goal
 
 pub returns-then-s-ne2662 : goal.returns-then-s-ne2662
-returns-then-s-ne2662 c = let a = c.args in let h : length (rows_in a.rows) ≤ 12 = omega (arith, c.row_count-n.ensures.0, c.row_count-n.ensures.1) in sym (formed_not (rows_in a.rows) a.s.now h c.if-s-ne2662.true)
+returns-then-s-ne2662 c = let a = c.args in sym (formed_not a.rows.rows.now a.s.now a.rows.few c.if-s-ne2662.true)
 
-pub returns : goal.returns
-returns c = let a = c.args in let h : length (rows_in a.rows) ≤ 12 = omega (arith, c.row_count-n.ensures.0, c.row_count-n.ensures.1) in
-    c.is_behind.ensures ∙ rw c.row_count-n.ensures.0 (formed_by (rows_in a.rows) a.s.now c.if-s-ne2662.false h c.form_of.ensures)
+pub returns-in-Some : goal.returns-in-Some
+returns-in-Some c = let a = c.args in c.is_behind.ensures ∙ formed_by a.rows.rows.now a.s.now c.if-s-ne2662.false a.rows.few (sym c.in-Some.is ∙ c.form_of.ensures)
+
+pub returns-in-None : goal.returns-in-None
+returns-in-None c = let a = c.args in formed_by a.rows.rows.now a.s.now c.if-s-ne2662.false a.rows.few (sym c.in-None.is ∙ c.form_of.ensures)

@@ -1,23 +1,23 @@
 -- `record_form::is_rest` meets its contract: zeros behind what the value uses, and the head of diagnostics. Assumes nothing.
+use Prim.Native.Nat.{◌-◌}
+use mathlib.Core.Path.{◌≡◌}
 use native.Mathlib.Omega.{arith}
-use lib.Seq.{drop-drop}
-use Rattle.record_form.specs.Form.{rest_good}
+use lib.ListN.{length, take, drop, length-take, length-drop}
+use Rattle.record_form.specs.Form.{used_by, rest_good}
+use Rattle.record_form.proofs.Zeros.{zeros_same}
 use Rattle.record_form.proofs.Slots.{used_small}
 use Rattle.record_form.proofs.is_rest.Goals as goal
 
-pub overflow_add-at : goal.overflow_add-at
-overflow_add-at c = omega (arith, used_small c.args.kind)
-
-pub overflow_sub-used : goal.overflow_sub-used
-overflow_sub-used c = omega (arith, used_small c.args.kind)
-
-pub are_zeros-requires : goal.are_zeros-requires
-are_zeros-requires c = omega (arith, used_small c.args.kind)
-
-pub returns-then-not-are_zeros : goal.returns-then-not-are_zeros
+pub returns-then-all_zero : goal.returns-then-all_zero
 unfolding rest_good
-returns-then-not-are_zeros c = rw (drop-drop _ c.args.at c.args.s.now, ← c.used_by-used.ensures, ← c.are_zeros.ensures, c.if-not-are_zeros.true)
+returns-then-all_zero c =
+    let k = c.args.kind in
+    let n : length (take (8 - used_by k) (drop (used_by k) c.args.p.now)) ≡ 8 - used_by k = omega (arith, length-take (8 - used_by k) (drop (used_by k) c.args.p.now), length-drop (used_by k) c.args.p.now, used_small k, c.told-p) in
+    rw (← zeros_same _ _ n, ← c.used_by.ensures, ← c.all_zero.ensures, c.if-all_zero.true) c.is_head_of.ensures
 
-pub returns : goal.returns
+pub returns-else-all_zero : goal.returns-else-all_zero
 unfolding rest_good
-returns c = rw (drop-drop _ c.args.at c.args.s.now, ← c.used_by-used.ensures, ← c.are_zeros.ensures, c.if-not-are_zeros.false) c.is_head_of.ensures
+returns-else-all_zero c =
+    let k = c.args.kind in
+    let n : length (take (8 - used_by k) (drop (used_by k) c.args.p.now)) ≡ 8 - used_by k = omega (arith, length-take (8 - used_by k) (drop (used_by k) c.args.p.now), length-drop (used_by k) c.args.p.now, used_small k, c.told-p) in
+    rw (← zeros_same _ _ n, ← c.used_by.ensures, ← c.all_zero.ensures, c.if-all_zero.false)

@@ -1,19 +1,18 @@
--- `requests::seen_in` meets its contract: from the last row to the first, what is seen of the rows from there on. Assumes nothing.
-use mathlib.Core.Path.{◌≡◌, ◌∙◌}
-use native.Mathlib.Omega.{arith}
-use Rattle.places.specs.Places.{spans_in}
-use Rattle.places.proofs.Laws.{pairs_length}
-use Rattle.requests.proofs.Laws.{seen_none, seen_row_at}
+-- from the last row to the first, what is seen of the rows from there on
+use Rattle.std.proofs.Common.{◌≡◌, ◌∙◌, ◌+◌, ◌-◌, length, drop, refl, arith}
+use Rattle.lists.proofs.Slices.{length_of}
+use borrow.Author.Rules.{rules}
+use Rattle.rows.specs.Table.{rows_in}
+use Rattle.requests.proofs.Laws.{seen_none, seen_row}
 use Rattle.requests.proofs.seen_in.Goals as goal
 
 pub loop-k-init : goal.loop-k-init
-loop-k-init c = (c.row_count-k.ensures.1, omega (arith, c.row_count-k.ensures.0), seen_none _ _ _ c.row_count-k.ensures.0 c.nothing_seen-x.ensures)
+loop-k-init c = (omega arith, seen_none (rows_in c.args.t) (drop (length (rows_in c.args.t)) c.args.places.now) c.args.s.now refl refl)
 
 pub loop-k-preserved : goal.loop-k-preserved
-loop-k-preserved c = let a = c.args in
+loop-k-preserved c =
+    let a = c.args in
     let l = c.loop-k in
-    let p = spans_in a.places.now in
-    (omega arith, omega arith, rw c.span_in-v.ensures at c.with_value-x.ensures ∙ seen_row_at a.t p a.s.now l.k l.x (omega arith) l.invariant.1 (omega (arith, pairs_length 12 a.places.now)) l.invariant.2)
-
-pub returns : goal.returns
-returns c = let z : c.loop-k.k ≡ 0 = omega arith in rw z at c.loop-k.invariant.2
+    let few : length a.places.now ≡ 12 = search (rules, length_of) in
+    let z : l.k ≡ l.k - 1 + 1 = omega arith in
+    (omega arith, c.with_value-x.ensures ∙ seen_row (rows_in a.t) a.places.now a.s.now (l.k - 1) l.x (omega arith) (omega (arith, a.t.few)) (rw z at l.invariant.1))

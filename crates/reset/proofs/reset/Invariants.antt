@@ -1,5 +1,4 @@
 use mathlib.Core.Bool.{not}
-use Prim.Native.Nat.{◌-◌}
 use Rattle.lists.proofs.Filter.{Kept}
 use Rattle.table.specs.Table.{unheld, named}
 use Rattle.table.specs.declared.Association.{Association}
@@ -7,7 +6,4 @@ use Rattle.reset.proofs.Slots.{word_items}
 use Rattle.reset.proofs.reset.Given as goal
 
 abbrev pub invariant-loop-i : goal.invariant-loop-i
-invariant-loop-i l = Kept unheld 256 (λ (a : Association). not (named (word_items l.words) a)) l.t.rows l.n l.out.rows l.k l.i
-
-abbrev pub decreases-loop-i : goal.decreases-loop-i
-decreases-loop-i l = l.n - l.i
+invariant-loop-i l = Kept unheld 256 (λ (a : Association). not (named (word_items l.words) a)) l.t.rows l.i-end l.out.rows l.k l.i

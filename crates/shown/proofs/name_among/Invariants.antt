@@ -1,14 +1,9 @@
-use mathlib.Core.Path.{◌≡◌}
-use Prim.Native.Nat.{◌≤◌}
-use lib.ListN.{length, drop}
-use Rattle.places.specs.Places.{spans_in}
+use Rattle.std.proofs.Common.{◌≡◌, length, drop}
 use Rattle.rows.specs.Table.{rows_in}
 use Rattle.meaning.specs.Reading.{values_in}
 use Rattle.shown.specs.Shown.{found_among}
 use Rattle.shown.proofs.name_among.Given as goal
 
-abbrev pub invariant-loop-k : goal.invariant-loop-k
-invariant-loop-k l = (l.k ≤ 12) × (l.k ≤ length (rows_in l.t)) × (l.x ≡ found_among (values_in (drop l.k (rows_in l.t)) l.s (drop l.k (spans_in l.places))))
-
-abbrev pub decreases-loop-k : goal.decreases-loop-k
-decreases-loop-k l = l.k
+-- the rows passed have no name
+abbrev pub invariant-loop-r : goal.invariant-loop-r
+invariant-loop-r l = found_among (values_in (drop (length l.yielded) (rows_in l.t)) l.s (drop (length l.yielded) l.places)) ≡ found_among (values_in (rows_in l.t) l.s l.places)

@@ -1,27 +1,24 @@
--- `shown::shown` meets its contract. The part lies within what it is a part of, and its octets are those that are shown. Assumes nothing.
+-- The part lies within what it is a part of, and its octets are those that are shown.
+use Rattle.std.proofs.Common.{◌≡◌, refl}
+use Rattle.lists.specs.Lists.{pick}
 use Rattle.shown.proofs.Inside.{lies, shows}
 use Rattle.shown.proofs.shown.Goals as goal
+use Rattle.shown.proofs.shown.Goals.{then-p, else-p}
 
 pub slice_bounds-result-count : goal.slice_bounds-result-count
-slice_bounds-result-count c = let a = c.args in (lies a.e a.request.now a.label.now c.part_of-p.ensures c.if-p.true).order
+slice_bounds-result-count c = let a = c.args in (lies a.e a.request.now a.label.now c.part_of-p.ensures).order
 
 pub slice_bounds-result-start : goal.slice_bounds-result-start
-slice_bounds-result-start c = let a = c.args in (lies a.e a.request.now a.label.now c.part_of-p.ensures c.if-p.true).order
+slice_bounds-result-start c = let a = c.args in (lies a.e a.request.now a.label.now c.part_of-p.ensures).order
 
 pub slice_bounds-result-end : goal.slice_bounds-result-end
-slice_bounds-result-end c = let a = c.args in (lies a.e a.request.now a.label.now c.part_of-p.ensures c.if-p.true).ends
-
-pub returns-then-p : goal.returns-then-p
-returns-then-p c = let a = c.args in shows a.e a.request.now a.label.now c.part_of-p.ensures c.if-p.true
-
-pub slice_bounds-result-count-2 : goal.slice_bounds-result-count-2
-slice_bounds-result-count-2 c = let a = c.args in (lies a.e a.request.now a.label.now c.part_of-p.ensures c.if-p.false).order
-
-pub slice_bounds-result-start-2 : goal.slice_bounds-result-start-2
-slice_bounds-result-start-2 c = let a = c.args in (lies a.e a.request.now a.label.now c.part_of-p.ensures c.if-p.false).order
-
-pub slice_bounds-result-end-2 : goal.slice_bounds-result-end-2
-slice_bounds-result-end-2 c = let a = c.args in (lies a.e a.request.now a.label.now c.part_of-p.ensures c.if-p.false).ends
+slice_bounds-result-end c =
+    let a = c.args in
+    let e : c.if-p.of.now ≡ pick c.part_of-p.result.of_label a.label.now a.request.now = elim c.if-p.branch [ then-p w ↦ rw (w.if-p.true, w.of-is) refl | else-p w ↦ rw (w.if-p.false, w.of-is) refl ] in
+    rw e (lies a.e a.request.now a.label.now c.part_of-p.ensures).ends
 
 pub returns : goal.returns
-returns c = let a = c.args in shows a.e a.request.now a.label.now c.part_of-p.ensures c.if-p.false
+returns c =
+    let a = c.args in
+    let e : c.if-p.of.now ≡ pick c.part_of-p.result.of_label a.label.now a.request.now = elim c.if-p.branch [ then-p w ↦ rw (w.if-p.true, w.of-is) refl | else-p w ↦ rw (w.if-p.false, w.of-is) refl ] in
+    rw e (shows a.e a.request.now a.label.now c.part_of-p.ensures)

@@ -5,7 +5,7 @@ use Rattle.table.proofs.Holding.{started, not_started}
 use Rattle.table.proofs.start.Goals as goal
 
 pub returns-then-n-lt256 : goal.returns-then-n-lt256
-returns-then-n-lt256 c = started c.args.t (search (rules, length_of)) c.lesser-n.ensures c.args.a c.if-n-lt256.true
+returns-then-n-lt256 c = started c.args.t (search (rules, length_of)) c.min-n.ensures c.args.a c.if-n-lt256.true
 
 pub returns-else-n-lt256 : goal.returns-else-n-lt256
-returns-else-n-lt256 c = not_started c.args.t (search (rules, length_of)) c.lesser-n.ensures c.args.a c.if-n-lt256.false
+returns-else-n-lt256 c = not_started c.args.t (search (rules, length_of)) c.min-n.ensures c.args.a c.if-n-lt256.false

@@ -1,5 +1,4 @@
 use mathlib.Core.Bool.{not}
-use Prim.Native.Nat.{◌-◌}
 use Rattle.table.specs.Table.{has_pair}
 use Rattle.table.specs.declared.Association.{Association}
 use Rattle.table.proofs.Holding.{Stayed}
@@ -7,6 +6,3 @@ use Rattle.table.proofs.stop.Given as goal
 
 abbrev pub invariant-loop-i : goal.invariant-loop-i
 invariant-loop-i l = Stayed (λ (a : Association). not (has_pair l.m l.c a)) l.initial.out.rows l.n l.out.rows l.k l.i
-
-abbrev pub decreases-loop-i : goal.decreases-loop-i
-decreases-loop-i l = l.n - l.i

@@ -1,19 +1,19 @@
--- `unit::carried_out` meets its contract. No unit; or what is decided on what it holds is settled. Assumes nothing.
-use mathlib.Core.Path.{sym, ◌∙◌}
-use Rattle.places.specs.Places.{spans_in}
-use Rattle.rows.specs.Table.{rows_in}
-use Rattle.meaning.specs.Reading.{values_in}
-use Rattle.layout.specs.Record.{lists_of}
-use Rattle.verdicts.specs.Verdict.{opened_at}
-use Rattle.judging.specs.Judging.{noted_of}
+-- no unit; or what is decided on what it holds is settled
+use Rattle.unit.specs.Heard.{items_heard, noted_heard}
 use Rattle.unit.proofs.Laws.{found, has_no_unit, items_agree, on_decision, off_unit}
 use Rattle.unit.proofs.carried_out.Goals as goal
 
 pub settle_noted-requires : goal.settle_noted-requires
-settle_noted-requires c = let x = found c.args.unit.now c.asked.result (sym c.in-Is.is ∙ c.look_up.ensures) in (x.rows, items_agree _ c.args.offered c.args.q c.requires.0 c.decide.ensures, c.requires.1, c.requires.2)
+settle_noted-requires c =
+    let a = c.args in
+    record { has_rows = (found a.unit.now c.asked.result c.in-Some.ensures).rows; reply_value = items_agree _ a.offered a.q c.requires c.decide-d.ensures }
 
-pub returns-in-NoTable : goal.returns-in-NoTable
-returns-in-NoTable c = rw c.hand_back.ensures (off_unit c.args.e c.args.unit.now c.args.room.now _ (has_no_unit c.args.unit.now c.asked.result (sym c.in-NoTable.is ∙ c.look_up.ensures)))
+pub returns-in-None : goal.returns-in-None
+returns-in-None c = let a = c.args in rw c.hand_back.ensures (off_unit a.h.now.edition a.unit.now a.room.now _ (has_no_unit a.unit.now c.asked.result c.in-None.ensures))
 
-pub returns-in-Is : goal.returns-in-Is
-returns-in-Is c = let a = c.args in let x = found c.args.unit.now c.asked.result (sym c.in-Is.is ∙ c.look_up.ensures) in on_decision a.e a.unit.now a.room.now a.f (lists_of (values_in (rows_in a.t) a.message.now (spans_in a.places.now))).items (noted_of (opened_at (rows_in a.t) a.c a.message.now a.f.from)) a.offered a.q x.rows.0 c.asked.ensures x.standing c.decide.ensures c.settle_noted.ensures
+pub returns-in-Some : goal.returns-in-Some
+returns-in-Some c =
+    let a = c.args in
+    let h = a.h.now in
+    let x = found a.unit.now c.asked.result c.in-Some.ensures in
+    on_decision h.edition a.unit.now a.room.now h.frame (items_heard h) (noted_heard h) a.offered a.q x.rows.0 c.asked.ensures x.standing c.decide-d.ensures c.settle_noted.ensures

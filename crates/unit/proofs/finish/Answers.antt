@@ -1,4 +1,4 @@
--- `unit::finish` meets its contract. By the case, what was called says it. Assumes nothing.
+-- by the case, what was called says it
 use mathlib.Core.Path.{refl}
 use mathlib.Core.List.{[]}
 use Rattle.table.specs.Table.{without}

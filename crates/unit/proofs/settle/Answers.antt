@@ -1,7 +1,5 @@
--- `unit::settle` meets its contract. The reply does not fit; or it stands, and then the table. Assumes nothing.
-use mathlib.Core.Path.{refl}
-use mathlib.Core.List.{map}
-use lib.ListN.{take}
+-- the reply does not fit; or it stands, and then the table
+use Rattle.std.proofs.Common.{refl, map, take}
 use Rattle.item_words.specs.Words.{item_of}
 use Rattle.entry_words.specs.EntryWords.{entry_by}
 use Rattle.unit.specs.Unit.{unit_in}
@@ -10,14 +8,21 @@ use Rattle.calls.specs.Decided.{Decided, changed}
 use Rattle.unit.proofs.Laws.{sent_put, no_room_lem, done}
 use Rattle.unit.proofs.settle.Goals as goal
 
-pub returns-in-Done : goal.returns-in-Done
-returns-in-Done c =
-    let reply : Replied = let a = c.args in replied a.e a.f (map item_of a.kept.now) (map entry_by a.noted.now) a.d.reply in
-    let made : Decided = let a = c.args in changed (unit_in a.n a.unit.now) (map item_of (take 256 a.kept.now)) reply a.d.change in
-    let g = c.finish.ensures reply in rw g.back (done c.args.e c.args.unit.now c.args.room.now made (sent_put c.args.e c.args.room.now (unit_in c.args.n c.args.unit.now) (map item_of (take 256 c.args.kept.now)) reply c.args.d.change c.in-Done.is c.put_reply.ensures) refl g.unit)
+pub returns-in-Some : goal.returns-in-Some
+returns-in-Some c =
+    let a = c.args in
+    let h = a.h.now in
+    let is = map item_of (take 256 a.kept.now) in
+    let reply : Replied = replied h.edition h.frame (map item_of a.kept.now) (map entry_by a.noted.now) a.d.reply in
+    let made : Decided = changed (unit_in a.n a.unit.now) is reply a.d.change in
+    let g = c.finish.ensures reply in
+    rw g.back (done h.edition a.unit.now a.room.now made (sent_put h.edition a.room.now (unit_in a.n a.unit.now) is reply a.d.change c.in-Some.is c.put_reply.ensures) refl g.unit)
 
-pub returns-in-NoRoom : goal.returns-in-NoRoom
-returns-in-NoRoom c =
-    let reply : Replied = let a = c.args in replied a.e a.f (map item_of a.kept.now) (map entry_by a.noted.now) a.d.reply in
-    let made : Decided = let a = c.args in changed (unit_in a.n a.unit.now) (map item_of (take 256 a.kept.now)) reply a.d.change in
-    rw c.hand_back.ensures (no_room_lem c.args.e c.args.unit.now c.args.room.now made (sent_put c.args.e c.args.room.now (unit_in c.args.n c.args.unit.now) (map item_of (take 256 c.args.kept.now)) reply c.args.d.change c.in-NoRoom.is c.put_reply.ensures))
+pub returns-in-None : goal.returns-in-None
+returns-in-None c =
+    let a = c.args in
+    let h = a.h.now in
+    let is = map item_of (take 256 a.kept.now) in
+    let reply : Replied = replied h.edition h.frame (map item_of a.kept.now) (map entry_by a.noted.now) a.d.reply in
+    let made : Decided = changed (unit_in a.n a.unit.now) is reply a.d.change in
+    rw c.hand_back.ensures (no_room_lem h.edition a.unit.now a.room.now made (sent_put h.edition a.room.now (unit_in a.n a.unit.now) is reply a.d.change c.in-None.is c.put_reply.ensures))

@@ -28,11 +28,11 @@ returns-then-unit-ne3088 c = rw (not_long c.args.unit.now c.if-unit-ne3088.true)
 pub returns-then-unit-gt1 : goal.returns-then-unit-gt1
 returns-then-unit-gt1 c = rw (not_marked c.args.unit.now (λ m. let h = m.mark in let k = c.if-unit-gt1.true in omega arith))
 
-pub returns-then-not-none_set : goal.returns-then-not-none_set
-returns-then-not-none_set c = let s = c.args.unit.now in rw (not_zeros s c.none_set.ensures c.if-not-none_set.true (λ m. m.front))
+pub returns-then-not-all_zero : goal.returns-then-not-all_zero
+returns-then-not-all_zero c = let s = c.args.unit.now in rw (not_zeros s c.all_zero.ensures c.if-not-all_zero.true (λ m. m.front))
 
-pub returns-then-not-none_set-2 : goal.returns-then-not-none_set-2
-returns-then-not-none_set-2 c = let s = c.args.unit.now in rw (not_zeros s (c.none_set-2.ensures ∙ ap zeros (tail_part s 3077)) c.if-not-none_set-2.true (λ m. m.behind))
+pub returns-then-not-all_zero-2 : goal.returns-then-not-all_zero-2
+returns-then-not-all_zero-2 c = let s = c.args.unit.now in rw (not_zeros s (c.all_zero-2.ensures ∙ ap zeros (tail_part s 3077)) c.if-not-all_zero-2.true (λ m. m.behind))
 
 pub slice_bounds-look_up-end : goal.slice_bounds-look_up-end
 slice_bounds-look_up-end c = sym (length-take-le 3074 c.args.unit.now (omega arith))
@@ -40,8 +40,8 @@ slice_bounds-look_up-end c = sym (length-take-le 3074 c.args.unit.now (omega ari
 pub returns : goal.returns
 returns c = let s = c.args.unit.now in
     let m : Marked s = record {
-      front = sym c.none_set.ensures ∙ c.if-not-none_set.false;
+      front = sym c.all_zero.ensures ∙ c.if-not-all_zero.false;
       mark = c.if-unit-gt1.false;
-      behind = sym (c.none_set-2.ensures ∙ ap zeros (tail_part s 3077)) ∙ c.if-not-none_set-2.false;
+      behind = sym (c.all_zero-2.ensures ∙ ap zeros (tail_part s 3077)) ∙ c.if-not-all_zero-2.false;
     } in
     rw (by_table s (omega arith) m) (c.look_up.ensures ∙ looked_up_lem c.args.item (open_in s) (read_table (take 3074 s)))

@@ -10,7 +10,7 @@ use Rattle.units.proofs.Parts.{front_take}
 use Rattle.units.proofs.rows_in.Goals as goal
 
 pub slice_bounds-rows_in-end : goal.slice_bounds-rows_in-end
-slice_bounds-rows_in-end c = sym (length-take-le c.lesser-end.result c.args.unit.now (omega arith))
+slice_bounds-rows_in-end c = sym (length-take-le c.min-end.result c.args.unit.now (omega arith))
 
 pub returns : goal.returns
-returns c = c.rows_in.ensures ∙ ap (λ (s : List ℕ). table_holding (first_rows c.args.n s)) (front_take c.args.unit.now c.lesser-end.ensures)
+returns c = c.rows_in.ensures ∙ ap (λ (s : List ℕ). table_holding (first_rows c.args.n s)) (front_take c.args.unit.now c.min-end.ensures)

@@ -8,7 +8,7 @@ use Rattle.units.proofs.Parts.{front_put}
 use Rattle.units.proofs.table_out.Goals as goal
 
 pub slice_bounds-table_out-end-2 : goal.slice_bounds-table_out-end-2
-slice_bounds-table_out-end-2 c = sym (length-take-le c.lesser-end.result c.args.unit.now (omega arith))
+slice_bounds-table_out-end-2 c = sym (length-take-le c.min-end.result c.args.unit.now (omega arith))
 
 pub returns : goal.returns
-returns c = let a = c.args in front_put a.unit.now c.lesser-end.ensures (table_out a.from (held a.t)) c.table_out.ensures
+returns c = let a = c.args in front_put a.unit.now c.min-end.ensures (table_out a.from (held a.t)) c.table_out.ensures

@@ -1,8 +1,0 @@
--- `entry_rows::octet_in` meets its contract: behind the end stands the default.
--- Assumes nothing.
-use mathlib.Core.Path.{sym}
-use lib.ListN.{get_or-eq_default}
-use Rattle.entry_rows.proofs.octet_in.Goals as goal
-
-pub returns : goal.returns
-returns c = sym (get_or-eq_default c.args.s.now 0 c.if-at-s.false)

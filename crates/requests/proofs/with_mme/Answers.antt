@@ -1,9 +1,0 @@
--- `requests::with_mme` meets its contract: by what the reader gave. Assumes nothing.
-use mathlib.Core.Path.{sym}
-use Rattle.requests.proofs.with_mme.Goals as goal
-
-pub returns-in-Is : goal.returns-in-Is
-returns-in-Is c = rw (sym c.mme_at.ensures, c.in-Is.is)
-
-pub returns-in-Stop : goal.returns-in-Stop
-returns-in-Stop c = rw (sym c.mme_at.ensures, c.in-Stop.is)
