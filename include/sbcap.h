@@ -1,7 +1,7 @@
 /*
  * Warnings over SBc-AP (TS 29.168, clause 4.4) at the MME's end, for a process in C: a reader and a writer of Stop-Warning Request, Stop-Warning Response
  * and Error Indication. The calls are in libm3ap.a, and the words of m3ap.h on its calls hold for them: no state, any octets, one answer. No unit is reached.
- * M3AP_STACK_OCTETS is enough for them too (seen: 1,440 for reading, 2,873 for writing).
+ * M3AP_STACK_OCTETS is enough for them too (seen: 880 for reading, 2,480 for writing).
  *
  * sbcap_read and sbcap_write go by the tables of clause 4.4.4. sbcap_read_lab and sbcap_write_lab go by the lab profile, in which a Stop-Warning Request has
  * two rows, Message Identifier and Serial Number: every other element of it is unknown, and goes by the criticality that it was received with.

@@ -97,7 +97,7 @@ fn read_on<R: Read, W: Write>(
     }
     let have = r.left + read_full(input, &mut space[r.left..])?;
     let p = play_whole(output, &space[..have], unit, room, turns, r.messages)?;
-    space[..have].rotate_left(p.octets);
+    space.copy_within(p.octets..have, 0);
     Ok(Reading {
         messages: p.messages,
         left: have - p.octets,

@@ -190,18 +190,17 @@ pub fn names_row(s: &[u8], n: usize, item: Item) -> bool
     held_in(s, n.min(256), item)
 }
 
-// The first n rows of octets as many as a table has, whether or not they are one.
+// The first n rows of octets as many as a table has, whether or not they are one. The table is handed back at one place, so that it is not copied.
 pub fn rows_in(s: &[u8], n: usize) -> Table
     ensures { result ≡ table_holding (first_rows n s.now) }
 {
     let mut t = table::empty();
-    if s.len() != 3074 {
-        return t;
+    if s.len() == 3074 {
+        let n = n.min(256);
+        for i in 0..n {
+            t.rows[i] = row_of(&s[2 + 12 * i..]);
+        }
+        t.count = n;
     }
-    let n = n.min(256);
-    for i in 0..n {
-        t.rows[i] = row_of(&s[2 + 12 * i..]);
-    }
-    t.count = n;
     t
 }

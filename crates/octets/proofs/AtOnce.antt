@@ -37,7 +37,7 @@ wrote_mid l vs at k {r} e q =
         sets_append l at (take k vs) (drop k vs) ∙ rw (drop_of_length-le vs {i = k} (omega arith)) refl
 
 -- the same from where the code begins, which is the end where the place lies behind it
-pub wrote_from : (l vs : List ℕ) (at start end : ℕ) → end ≡ min (at + length vs) (length l) → start ≡ min at end → Wrote l at vs (put_mid start (end - start) l (take (end - start) vs)) end
+wrote_from : (l vs : List ℕ) (at start end : ℕ) → end ≡ min (at + length vs) (length l) → start ≡ min at end → Wrote l at vs (put_mid start (end - start) l (take (end - start) vs)) end
 wrote_from l vs at start end e q = by (ltb end at) refl
   where
     by : (b : Bool) → ltb end at ≡ b → Wrote l at vs (put_mid start (end - start) l (take (end - start) vs)) end
@@ -53,6 +53,13 @@ wrote_from l vs at start end e q = by (ltb end at) refl
         let o = ltb-false end at t in
         let here : start ≡ at = omega arith in
         rw here (wrote_mid l vs at (end - at) (omega arith) (omega arith))
+
+-- the same, put one by one
+pub wrote_each : (l vs : List ℕ) (at start end : ℕ) → end ≡ min (at + length vs) (length l) → start ≡ min at end → {m : List ℕ} → m ≡ sets l start (take (end - start) vs) → Wrote l at vs m end
+wrote_each l vs at start end e q h =
+    let w = wrote_from l vs at start end e q in
+    let k : length (take (end - start) vs) ≡ end - start = length-take-le (end - start) vs (omega arith) in
+    record { octets = h ∙ (sym (sets_mid l (take (end - start) vs) start (end - start) k (omega arith)) ∙ w.octets); next = w.next }
 
 -- the same of zeros, as many as the part has octets
 pub zeros_from : (l : List ℕ) (n at start end : ℕ) {m : List ℕ} → end ≡ min (at + n) (length l) → start ≡ min at end

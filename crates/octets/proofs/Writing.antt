@@ -11,8 +11,9 @@ use native.Mathlib.Omega.{arith}
 use native.Mathlib.Nat.{add-zero}
 use borrow.Author.Tests.{ltb-true, ltb-false, lt-ltb, le-ltb}
 use lib.Dec.{ltb}
-use lib.ListN.{length, set, drop, length-append}
-use lib.Seq.{sets, sets-eq, set_out, length-sets}
+use lib.ListN.{length, set, get_or, take, drop, length-append}
+use lib.Seq.{sets, sets-eq, set_out, length-sets, length-take-le}
+use Rattle.lists.proofs.Slices.{take_next}
 use Rattle.octets.specs.Write.{Wrote, number_octets, length_octets}
 use Rattle.packed.specs.Packed.{packed, ◌bits◌}
 
@@ -28,6 +29,12 @@ module _ {A : Type 0} where
   -- where all fit, they stand in the front, and the rest is kept
   pub sets_front : (l vs : List A) → length vs ≤ length l → sets l 0 vs ≡ vs ++ drop (length vs) l
   sets_front l vs h = let e : 0 + length vs ≡ length vs = omega arith in rw e at (sets-eq vs l 0 (omega arith))
+
+-- one more of a list behind those that were put in
+pub sets_next : (l vs : List ℕ) (s i : ℕ) → i < length vs → set (sets l s (take i vs)) (s + i) (get_or vs i 0) ≡ sets l s (take (i + 1) vs)
+sets_next l vs s i h =
+    let e : length (take i vs) ≡ i = length-take-le i vs (omega arith) in
+    sym (ap (sets l s) (take_next vs i 0 h) ∙ (sets_append l s (take i vs) (get_or vs i 0 ∷ []) ∙ ap (λ (k : ℕ). sets (sets l s (take i vs)) (s + k) (get_or vs i 0 ∷ [])) e))
 
 pub wrote_length : {l vs m : List ℕ} {at r : ℕ} → Wrote l at vs m r → length m ≡ length l
 wrote_length {l} {vs} {m} {at} w = ap length w.octets ∙ length-sets l at vs

@@ -304,13 +304,15 @@ pub fn put_length(room: &mut [u8], at: usize, n: usize) -> usize
     put_octet(room, next, (n % 256) as u8)
 }
 
-// As many octets as there is room for.
+// As many octets as there is room for. One by one: with std's copy_from_slice the archive would ask the process for memmove too.
 pub fn put_octets(room: &mut [u8], at: usize, vs: &[u8]) -> usize
     ensures { Wrote room.old at vs.now room.new result }
 {
     let end = place_behind(at, vs.len(), room.len());
     let start = at.min(end);
-    room[start..end].copy_from_slice(&vs[..end - start]);
+    for i in 0..end - start {
+        room[start + i] = vs[i];
+    }
     end
 }
 

@@ -23,7 +23,7 @@ empty_association = record {
 
 -- what stands in a row that holds none, which is never looked at
 abbrev pub unheld : Association
-unheld = record { mme = record { 0 = 0 }; mce = record { 0 = 0 }; tmgi = empty_association.tmgi; session = Some 0 }
+unheld = empty_association
 
 -- the first count rows; all 256 where the count is more
 abbrev pub held : Table → State

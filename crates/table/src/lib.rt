@@ -47,11 +47,8 @@ pub fn no_association() -> Association
     NO_ASSOCIATION
 }
 
-// What stands in a row that holds none.
-const UNHELD: Association = Association {
-    session: Some(0),
-    ..NO_ASSOCIATION
-};
+// What stands in a row that holds none. Every octet of it is 0, so that a table is cleared many octets at a time.
+const UNHELD: Association = NO_ASSOCIATION;
 
 // The table that holds nothing; a whole reset leaves it.
 pub fn empty() -> Table

@@ -315,6 +315,22 @@ fn played<W: Write>(output: &mut W, f: Front, unit: &mut [u8], m: &[u8]) -> io::
     }
 }
 
+// The entry's octets, taken in and played; false where the input ends before. The space is this function's, so that an entry without octets clears none.
+fn taken<R: Read, W: Write>(
+    input: &mut R,
+    output: &mut W,
+    f: Front,
+    unit: &mut [u8],
+) -> io::Result<bool> {
+    let mut space = large_buffer();
+    let m = &mut space[..usize::from(f.length)];
+    if !filled(input, m)? {
+        return Ok(false);
+    }
+    played(output, f, unit, m)?;
+    Ok(true)
+}
+
 // The next entry; false where the input ends.
 fn turn<R: Read, W: Write>(input: &mut R, output: &mut W, unit: &mut [u8]) -> io::Result<bool> {
     let Some(f) = next_front(input)? else {
@@ -328,14 +344,7 @@ fn turn<R: Read, W: Write>(input: &mut R, output: &mut W, unit: &mut [u8]) -> io
                 unit[at] = (f.second % 256) as u8;
             }
         }
-        _ => {
-            let mut space = large_buffer();
-            let m = &mut space[..usize::from(f.length)];
-            if !filled(input, m)? {
-                return Ok(false);
-            }
-            played(output, f, unit, m)?;
-        }
+        _ => return taken(input, output, f, unit),
     }
     Ok(true)
 }
