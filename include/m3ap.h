@@ -41,7 +41,7 @@ uint32_t m3ap_version(void);
 /*
  * A call needs at most this many octets of stack on x86-64, as built with the kit of docs/CHECKING.md, the C library's memcpy and memset included.
  * sample/stack.c measures it; how much of it is the C library's differs by machine. Seen: 42,216 for m3ap_call, 1,032 for m3ap_read, 2,464 for
- * m3ap_write, 16,664 for m3ap_setup, 768 for m3ap_shown, 11,368 for m3ap_count, 16,600 for m3ap_count_in, 16,616 for m3ap_row, 16,632 for m3ap_marks.
+ * m3ap_write, 8,472 for m3ap_setup, 768 for m3ap_shown, 11,368 for m3ap_count, 8,408 for m3ap_count_in, 8,424 for m3ap_row, 8,440 for m3ap_marks.
  */
 #define M3AP_STACK_OCTETS 49152
 

@@ -29,15 +29,21 @@ fn space_for_two() -> [u8; 131072]
     [0; 131072]
 }
 
+// The label goes out as it is, which is quicker than to format it with the number.
+fn line<W: Write>(output: &mut W, label: &[u8], n: usize) -> io::Result<()> {
+    output.write_all(label)?;
+    writeln!(output, "{n}")
+}
+
 // The lines of each entry; the last number given before is told.
 fn show<W: Write>(output: &mut W, turns: &[Turn], before: usize) -> io::Result<()> {
     let mut message = before;
     for turn in turns {
         message = message.wrapping_add(1);
-        writeln!(output, "message={message}")?;
-        writeln!(output, "answer={}", turn.answer)?;
-        writeln!(output, "reply={}", turn.reply)?;
-        writeln!(output, "held={}", turn.held)?;
+        line(output, b"message=", message)?;
+        line(output, b"answer=", turn.answer)?;
+        line(output, b"reply=", turn.reply)?;
+        line(output, b"held=", turn.held)?;
     }
     Ok(())
 }
@@ -106,8 +112,8 @@ fn read_on<R: Read, W: Write>(
 }
 
 fn finish<W: Write>(output: &mut W, r: Reading) -> io::Result<()> {
-    writeln!(output, "messages={}", r.messages)?;
-    writeln!(output, "cut={}", u8::from(r.left != 0))?;
+    line(output, b"messages=", r.messages)?;
+    line(output, b"cut=", usize::from(r.left != 0))?;
     output.flush()
 }
 

@@ -41,10 +41,6 @@ module _ (s : List ℕ) (n i : ℕ) (h : i < n) (b : 2 + 12 * n ≤ length s) wh
   next_row z e =
       e ∙ rw (le-leb 12 _ row_there, tail_part s (2 + 12 * i), ← drop-drop (12 * i) 2 s) (sym (rows_at n (drop 2 s) i z h))
 
--- the row at its place
-pub row_here : (s : List ℕ) (n i : ℕ) → i < n → row_of (drop (2 + 12 * i) s) ≡ get_or (rows_of n (drop 2 s)) i (row_of (drop (2 + 12 * i) s))
-row_here s n i h = ap row_of (sym (drop-drop (12 * i) 2 s)) ∙ sym (rows_at n (drop 2 s) i _ h)
-
 -- ---- of i of n rows the octets were good
 pub record GoodTo (s : List ℕ) (n i : ℕ) : Type 0 where
   pub rest : rows_good (n - i) (drop (2 + 12 * i) s) ≡ rows_good n (drop 2 s)

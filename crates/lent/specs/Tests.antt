@@ -1,5 +1,6 @@
 -- Scaffolding: no demand speaks of it. What the reader looks at.
 use Rattle.std.specs.Prelude.{Bool, None, Option, Some, true, false, ◌&&◌, ◌||◌, List, [], ◌∷◌, ℕ, zero, suc, ◌<◌, eqb, get_or, drop}
+use Rattle.octets.specs.Field.{value_at}
 use Rattle.identity.specs.declared.Item.{Item}
 use Rattle.identity.specs.declared.MceId.{MceId}
 use Rattle.identity.specs.declared.MmeId.{MmeId}
@@ -34,9 +35,9 @@ low_mme w a = told w a.mme.0
 abbrev pub low_mce : ℕ → Association → ℕ
 low_mce w a = told w a.mce.0
 
--- some row is alike with the identity that there is
-abbrev pub low_held : {I : Type 0} → (I → ℕ) → (Association → ℕ) → ℕ → Option I → List Association → Bool
-low_held number f w (Some x) l = some (λ (a : Association). eqb (f a) (told w (number x))) l
+-- one of all is alike with the identity that there is
+abbrev pub low_held : {I A : Type 0} → (I → ℕ) → (A → ℕ) → ℕ → Option I → List A → Bool
+low_held {I} {A} number f w (Some x) l = some (λ (a : A). eqb (f a) (told w (number x))) l
 low_held number f w None l = false
 
 -- there is an identity, and the set has it
@@ -48,6 +49,15 @@ is_met number w words None = false
 abbrev pub Fits : {I : Type 0} → (I → ℕ) → Option I → Type 0
 Fits number (Some x) = number x < 65536
 Fits number None = Unit {0}
+
+-- the numbers of two octets at a place of n rows
+unfoldable pub numbers_at : ℕ → ℕ → List ℕ → List ℕ
+numbers_at from zero s = []
+numbers_at from (suc n) s = value_at 2 s from ∷ numbers_at from n (drop 12 s)
+
+-- of one series: where they are told apart, whether one is the identity that there is
+unfoldable pub series_held : {I A : Type 0} → (I → ℕ) → (A → ℕ) → ℕ → Option I → List A → Option Bool
+series_held number f w x l = pick (apart (alike f) l) (Some (low_held number f w x l)) None
 
 -- n rows have good octets, and their identities are told apart
 unfoldable pub right_by : ℕ → ℕ → List ℕ → Bool

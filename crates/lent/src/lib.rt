@@ -8,7 +8,8 @@ ghost use Rattle.lists.specs.Lists.{pick, some};
 ghost use Rattle.octets.specs.Field.{value_at};
 ghost use Rattle.table.specs.Table.{table_holding, names, held_by, standing};
 ghost use Rattle.lent.specs.Lent.{session_of, row_in, rows_of, first_rows, read_table, looked_up};
-ghost use Rattle.lent.specs.Tests.{session_good, rows_right, zeros, is_met, held_apart, Fits};
+ghost use Rattle.distinct.specs.Bits.{told};
+ghost use Rattle.lent.specs.Tests.{session_good, rows_good, rows_right, zeros, is_met, numbers_at, series_held, held_apart, Fits};
 
 use distinct::Set;
 use identity::{Identity, Item, MceId, MmeId, Plmn, Service, Tmgi};
@@ -90,25 +91,52 @@ fn is_met<I: Identity, const W: usize>(set: &mut Set<I, W>, x: Option<I>) -> boo
     }
 }
 
-// By a set of each series, of W words: the first n rows have good octets for the Session Identity, and no two are alike by what the words tell apart of an identity.
-// Where it is so, whether one of them is alike with each of the item's identities.
+// The first n rows have good octets for the Session Identity.
+fn sessions_good(s: &[u8], n: usize) -> bool
+    requires { 2 + 12 * n ≤ length s.now }
+    ensures { result ≡ rows_good n (drop 2 s.now) }
+{
+    for i in 0..n {
+        if !session_good(s, 2 + 12 * i) {
+            return false;
+        }
+    }
+    true
+}
+
+// By a set of W words: no two of the identities at a place of the first n rows are alike by what the words tell apart. Where it is so, whether one of them is alike with x.
+fn series_held<I: Identity, const W: usize>(
+    s: &[u8],
+    n: usize,
+    from: usize,
+    x: Option<I>,
+) -> Option<bool>
+    requires { (0 < W) × (W ≤ 1024) × (from ≤ 10) × (2 + 12 * n ≤ length s.now) }
+    ensures is { result ≡ series_held I.number (told W) W x (numbers_at from n (drop 2 s.now)) }
+    ensures fits { IfSome result (λ _. Fits I.number x) }
+{
+    let mut set = Set::<I, W>::empty();
+    for i in 0..n {
+        if set.meet(identity_at(s, 2 + 12 * i + from)) {
+            return None;
+        }
+    }
+    Some(is_met(&mut set, x))
+}
+
+// The first n rows have good octets for the Session Identity, and no two are alike by what W words tell apart of an identity.
+// Where it is so, whether one of them is alike with each of the item's identities. One series after the other, so that one set is there at a time.
 fn held_apart<const W: usize>(s: &[u8], n: usize, item: Item) -> Option<(bool, bool)>
     requires { (0 < W) × (W ≤ 1024) × (2 + 12 * n ≤ length s.now) }
     ensures is { result ≡ held_apart W item n (drop 2 s.now) }
     ensures fits { IfSome result (λ _. Fits (λ m. m.0) item.mme × Fits (λ c. c.0) item.mce) }
 {
-    let mut mmes = Set::<MmeId, W>::empty();
-    let mut mces = Set::<MceId, W>::empty();
-    for i in 0..n {
-        let at = 2 + 12 * i;
-        if mmes.meet(identity_at(s, at)) || mces.meet(identity_at(s, at + 2)) {
-            return None;
-        }
-        if !session_good(s, at) {
-            return None;
-        }
+    let mme = series_held::<MmeId, W>(s, n, 0, item.mme)?;
+    if !sessions_good(s, n) {
+        return None;
     }
-    Some((is_met(&mut mmes, item.mme), is_met(&mut mces, item.mce)))
+    let mce = series_held::<MceId, W>(s, n, 2, item.mce)?;
+    Some((mme, mce))
 }
 
 // One of the first n rows is named.
